@@ -11,7 +11,7 @@ use std::fmt;
 use std::io::{BufWriter, Eprint, Read, Write};
 use std::process::{ExitCode, Termination};
 
-/// How the program ends: with a status, and with what `{}` shows of it on standard error.
+/// The end of the program: its status, and the text that `{}` prints on standard error.
 #[derive(Clone, Copy)]
 pub(crate) struct Outcome {
     /// 0 if all was understood, 1 if not, 2 after an error.
@@ -26,7 +26,7 @@ impl Outcome {
         ensures not_understood { (result.status ≡ 1) ↔ (answer ≡ Ok false) }
         ensures failed { (result.status ≡ 2) ↔ IsErr answer }
 
-        // What goes to standard error: nothing, or the text of the error on a line of its own.
+        // Standard error gets nothing, or the text of the error on a line of its own.
         ensures silent { IsOk answer → ⟦<Outcome as fmt::Display>⟧.output result ≡ Some [] }
         ensures text { IfErr answer (λ error. ⟦<Outcome as fmt::Display>⟧.output result
             ≡ option_map (λ text. text ++ 10 ∷ []) (⟦<CheckError as fmt::Display>⟧.output error)) }
@@ -67,7 +67,7 @@ impl fmt::Display for Outcome {
     }
 }
 
-/// What `main` answers: the text is printed, and the process ends with the status.
+/// The answer of `main`: the text is printed, and the process ends with the status.
 impl Termination for Outcome {
     ghost use Rattle.std.specs.Process.{exit_status};
 
@@ -79,8 +79,8 @@ impl Termination for Outcome {
     }
 }
 
-/// Checks what the reader gives, through a buffer before the writer, and gives the answer of [`check`]. Where there is no
-/// room for the buffer, nothing is read, and that is [`CheckError::Memory`].
+/// Checks what the reader gives, through a buffer before the writer, and gives the answer of [`check`]. If there is no
+/// memory for the buffer, nothing is read, and the answer is [`CheckError::Memory`].
 pub(crate) fn run<R: Read, W: Write + Drop>(
     alloc: Global,
     reader: &mut R,

@@ -11,12 +11,12 @@ use std::alloc::Global;
 use std::process::Abort;
 
 // Checks an input of which all can be read and written.
-fn assert_report(rt: &impl Abort, alloc: Global, input: &[u8], understood: bool, wanted: &[u8]) {
+fn assert_report(rt: &impl Abort, alloc: Global, input: &[u8], understood: bool, expected: &[u8]) {
     let mut reader = input;
     let mut written = Vec::new(alloc);
     let answer = check(alloc, &mut reader, &mut written);
     assert!(rt;
-        answer == Ok(understood) && written.as_slice() == wanted,
+        answer == Ok(understood) && written.as_slice() == expected,
         "{input:?}"
     );
 }

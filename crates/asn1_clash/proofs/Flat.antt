@@ -26,7 +26,7 @@ pub leaves-flat_tree : (ts : List Tag) (e : Bool) → leaves (flat_tree ts e) �
 leaves-flat_tree [] e = refl
 leaves-flat_tree (t ∷ ts) e = leaves-side_by_side (t ∷ ts) e
 
--- and is open as it is said
+-- and is open as its clause states
 pub open-flat_tree : (t : Tag) (ts : List Tag) (e : Bool) → is_open (flat_tree (t ∷ ts) e) ≡ e
 open-flat_tree t ts e = open-side_by_side (t ∷ ts) e
 
@@ -78,7 +78,7 @@ set_clash-flat cs = set_clash-alike (map flat_component cs) cs (looks-flat cs)
 pub canonical-flat : (cs : List Component) → canonical (map flat_component cs) ≡ canonical cs
 canonical-flat cs = canonical-alike (map flat_component cs) cs (looks-flat cs)
 
--- What is found in flat components is what is found in the components, and is the least clash of both.
+-- The search over flat components and the search over the components give one answer, the least clash of both.
 pub record Finds (clash : List Component → Option (ℕ × ℕ)) (IsClash : List Component → ℕ → ℕ → Type 0) (seen : List Component) (found : Option (ℕ × ℕ)) : Type 0 where
   pub report : found ≡ clash seen
   pub least : IsLeast (IsClash seen) found

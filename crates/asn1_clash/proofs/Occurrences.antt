@@ -31,7 +31,7 @@ use Rattle.asn1_fields.proofs.Clashes.{set_clash-is}
 use Rattle.asn1_fields.proofs.SharedTags.{open_or_leaf, tag-from_open_or_leaf, ShareTag-from_test}
 use Rattle.asn1_clash.specs.declared.search.Occurrence.{Occurrence}
 use Rattle.asn1_clash.specs.declared.flat_component.FlatComponent.{FlatComponent}
-use Rattle.asn1_clash.specs.Seen.{component_seen, components_seen}
+use Rattle.asn1_clash.specs.Views.{component_view, components_view}
 use Rattle.asn1_clash.specs.Occurrences.{HasOpen, OccursTwice, lesser_pair, occurrence_cmp, occurrences, occurrences_at, pair_less, pair_of}
 
 -- the order of pairs
@@ -95,7 +95,7 @@ least_before P Q to ahead (Some p) h =
 
 -- the order of occurrences
 pub occurrences_ranked : IsStrictWeakOrder (λ a b. is_lt (occurrence_cmp a b))
-occurrences_ranked = ranks_by (then_total (on_total (λ (a : Occurrence). a.tag) tag_total) (on_total (λ (a : Occurrence). a.place) nat_cmp_total)) (λ a. a)
+occurrences_ranked = ranks_by (then_total (on_total (λ (a : Occurrence). a.tag) tag_total) (on_total (λ (a : Occurrence). a.index) nat_cmp_total)) (λ a. a)
 
 first_not_less : (o p : Ordering) → is_lt (ordering_then o p) ≡ false → is_lt o ≡ false
 first_not_less Less p h = h
@@ -103,17 +103,17 @@ first_not_less Equal p h = refl
 first_not_less Greater p h = refl
 
 tag_not_above : (a b : Occurrence) → is_lt (occurrence_cmp b a) ≡ false → IsAtMost a.tag b.tag
-tag_not_above a b h = IsAtMost-from_not_less b.tag a.tag (first_not_less (tag_cmp b.tag a.tag) (nat_cmp b.place a.place) h)
+tag_not_above a b h = IsAtMost-from_not_less b.tag a.tag (first_not_less (tag_cmp b.tag a.tag) (nat_cmp b.index a.index) h)
 
 nat_not_above : (m n : ℕ) → is_lt (nat_cmp n m) ≡ false → m ≤ n
 nat_not_above m n h = grind (arith, nat_tests, common_steps)
 
-place_not_above : (a b : Occurrence) → is_lt (occurrence_cmp b a) ≡ false → a.tag ≡ b.tag → a.place ≤ b.place
-place_not_above a b h same =
+index_not_above : (a b : Occurrence) → is_lt (occurrence_cmp b a) ≡ false → a.tag ≡ b.tag → a.index ≤ b.index
+index_not_above a b h same =
     let level : tag_cmp b.tag a.tag ≡ Equal = ap (tag_cmp b.tag) same ∙ tied_itself tag_total b.tag in
-    nat_not_above a.place b.place (sym (ap (λ o. is_lt (ordering_then o (nat_cmp b.place a.place))) level) ∙ h)
+    nat_not_above a.index b.index (sym (ap (λ o. is_lt (ordering_then o (nat_cmp b.index a.index))) level) ∙ h)
 
--- among the first n occurrences, neighbours with one tag and these places, which differ
+-- among the first n occurrences, neighbours with one tag and these indices, which differ
 pub record Neighbours (all : List Occurrence) (n i j : ℕ) : Type 0 where
   pub at : ℕ
   pub first : Occurrence
@@ -123,8 +123,8 @@ pub record Neighbours (all : List Occurrence) (n i j : ℕ) : Type 0 where
   pub first_at : get_or all at first ≡ first
   pub second_at : get_or all (at + 1) second ≡ second
   pub same : first.tag ≡ second.tag
-  pub first_place : first.place ≡ i
-  pub second_place : second.place ≡ j
+  pub first_index : first.index ≡ i
+  pub second_index : second.index ≡ j
   pub differ : i ≢ j
 
 pub no_neighbours : (all : List Occurrence) → IsLeast (Neighbours all 1) None
@@ -138,24 +138,24 @@ not_above all up x y a b le lt at_x at_y =
     let here : get_or all y a ≡ b = get_or_default all y a b lt ∙ at_y in
     sym (λ i. is_lt (occurrence_cmp (here i) (at_x i))) ∙ far
 
--- of two places of one tag, the first has a neighbour up to the second
+-- of two indices of one tag, the first has a neighbour up to the second
 neighbour_of : (all : List Occurrence) → IsSorted occurrence_cmp all → (gap x y : ℕ) (t : Tag) (p q : ℕ) → y ≡ x + gap → y < length all → p < q →
-    get_or all x (record { tag = t; place = p }) ≡ record { tag = t; place = p } →
-    get_or all y (record { tag = t; place = q }) ≡ record { tag = t; place = q } →
+    get_or all x (record { tag = t; index = p }) ≡ record { tag = t; index = p } →
+    get_or all y (record { tag = t; index = q }) ≡ record { tag = t; index = q } →
     (k : ℕ) × (l : ℕ) × Neighbours all (length all) k l × IsUpTo (k, l) (p, q)
 neighbour_of all up zero x y t p q is lt less at_x at_y =
     let same : x ≡ y = omega arith in
-    let here : record { tag = t; place = q } ≡ record { tag = t; place = p } =
-    sym at_y ∙ (get_or_default all y _ _ lt ∙ (ap (λ k. get_or all k (record { tag = t; place = p })) (sym same) ∙ at_x)) in
-    absurd (let places : q ≡ p = ap (λ a. a.place) here in omega arith)
+    let here : record { tag = t; index = q } ≡ record { tag = t; index = p } =
+    sym at_y ∙ (get_or_default all y _ _ lt ∙ (ap (λ k. get_or all k (record { tag = t; index = p })) (sym same) ∙ at_x)) in
+    absurd (let indices : q ≡ p = ap (λ a. a.index) here in omega arith)
 neighbour_of all up (suc gap) x y t p q is lt less at_x at_y =
-    by_place (cases_eq b.place p) (λ at_next. neighbour_of all up gap (x + 1) y t p q (omega arith) lt less at_next at_y)
+    by_index (cases_eq b.index p) (λ at_next. neighbour_of all up gap (x + 1) y t p q (omega arith) lt less at_next at_y)
   where
     a : Occurrence
-    a = record { tag = t; place = p }
+    a = record { tag = t; index = p }
 
     c : Occurrence
-    c = record { tag = t; place = q }
+    c = record { tag = t; index = q }
 
     b : Occurrence
     b = get_or all (x + 1) a
@@ -172,13 +172,13 @@ neighbour_of all up (suc gap) x y t p q is lt less at_x at_y =
     same : t ≡ b.tag
     same = IsAtMost-antisym t b.tag (tag_not_above a b lower) (tag_not_above b c upper)
 
-    by_place : (b.place ≡ p) ⊎ (b.place ≡ p → ⊥) → (b ≡ a → (k : ℕ) × (l : ℕ) × Neighbours all (length all) k l × IsUpTo (k, l) (p, q)) →
+    by_index : (b.index ≡ p) ⊎ (b.index ≡ p → ⊥) → (b ≡ a → (k : ℕ) × (l : ℕ) × Neighbours all (length all) k l × IsUpTo (k, l) (p, q)) →
         (k : ℕ) × (l : ℕ) × Neighbours all (length all) k l × IsUpTo (k, l) (p, q)
-    by_place (inl level) again = again (λ i. record { tag = sym same i; place = level i })
-    by_place (inr apart) again =
-        let bound : b.place ≤ q = place_not_above b c upper (sym same) in (
+    by_index (inl level) again = again (λ i. record { tag = sym same i; index = level i })
+    by_index (inr apart) again =
+        let bound : b.index ≤ q = index_not_above b c upper (sym same) in (
           p,
-          b.place,
+          b.index,
           record {
             at = x;
             first = a;
@@ -188,44 +188,44 @@ neighbour_of all up (suc gap) x y t p q is lt less at_x at_y =
             first_at = at_x;
             second_at = b_at;
             same = same;
-            first_place = refl;
-            second_place = refl;
+            first_index = refl;
+            second_index = refl;
             differ = λ e. apart (sym e);
           },
           inr (refl, bound),
         )
 
--- which of two places comes first
-ordered_places : (all : List Occurrence) → IsSorted occurrence_cmp all → (x y : ℕ) (t : Tag) (p q : ℕ) → x < length all → p < q →
-    get_or all x (record { tag = t; place = p }) ≡ record { tag = t; place = p } →
-    get_or all y (record { tag = t; place = q }) ≡ record { tag = t; place = q } → x < y
-ordered_places all up x y t p q lt less at_x at_y = by_order (cases_lt x y)
+-- which of two indices comes first
+ordered_indices : (all : List Occurrence) → IsSorted occurrence_cmp all → (x y : ℕ) (t : Tag) (p q : ℕ) → x < length all → p < q →
+    get_or all x (record { tag = t; index = p }) ≡ record { tag = t; index = p } →
+    get_or all y (record { tag = t; index = q }) ≡ record { tag = t; index = q } → x < y
+ordered_indices all up x y t p q lt less at_x at_y = by_order (cases_lt x y)
   where
     by_order : (x < y) ⊎ (y ≤ x) → x < y
     by_order (inl before) = before
     by_order (inr after) =
-        let a : Occurrence = record { tag = t; place = p } in
-        let c : Occurrence = record { tag = t; place = q } in
-        absurd (let le = place_not_above c a (not_above all up y x c a after lt at_y at_x) refl in omega arith)
+        let a : Occurrence = record { tag = t; index = p } in
+        let c : Occurrence = record { tag = t; index = q } in
+        absurd (let le = index_not_above c a (not_above all up y x c a after lt at_y at_x) refl in omega arith)
 
--- a tag that occurs at two places has neighbours up to these
+-- a tag that occurs at two indices has neighbours up to these
 pub neighbours_ahead : (all : List Occurrence) → IsSorted occurrence_cmp all → (i j : ℕ) → OccursTwice all i j →
     (k : ℕ) × (l : ℕ) × Neighbours all (length all) k l × IsUpTo (k, l) (i, j)
 neighbours_ahead all up i j h =
     let x = h.at_first in
     let y = h.at_second in
-    let before = ordered_places all up x.0 y.0 h.tag i j x.1 h.before x.2 y.2 in
+    let before = ordered_indices all up x.0 y.0 h.tag i j x.1 h.before x.2 y.2 in
     neighbour_of all up (y.0 - x.0) x.0 y.0 h.tag i j (omega arith) y.1 h.before x.2 y.2
 
--- neighbours are such places
+-- neighbours are such indices
 pub neighbours_occur : (all : List Occurrence) → IsSorted occurrence_cmp all → (n i j : ℕ) → Neighbours all n i j → OccursTwice all i j
 neighbours_occur all up n i j h =
-    let le = place_not_above h.first h.second (not_above all up h.at (h.at + 1) h.first h.second (omega arith) h.fits h.first_at h.second_at) h.same in
-    let e = h.first_place in
-    let f = h.second_place in
+    let le = index_not_above h.first h.second (not_above all up h.at (h.at + 1) h.first h.second (omega arith) h.fits h.first_at h.second_at) h.same in
+    let e = h.first_index in
+    let f = h.second_index in
     let differ : i ≢ j = h.differ in
-    let first : record { tag = h.first.tag; place = i } ≡ h.first = λ k. record { tag = h.first.tag; place = sym e k } in
-    let second : record { tag = h.first.tag; place = j } ≡ h.second = λ k. record { tag = h.same k; place = sym f k } in
+    let first : record { tag = h.first.tag; index = i } ≡ h.first = λ k. record { tag = h.first.tag; index = sym e k } in
+    let second : record { tag = h.first.tag; index = j } ≡ h.second = λ k. record { tag = h.same k; index = sym f k } in
     let lt = h.fits in
     record {
       tag = h.first.tag;
@@ -234,7 +234,7 @@ neighbours_occur all up n i j h =
       at_second = (h.at + 1, h.fits, subst (λ o. get_or all (h.at + 1) o ≡ o) (sym second) h.second_at);
     }
 
--- in order, the least neighbours are the least places at which a tag occurs twice
+-- in order, the least neighbours are the least indices at which a tag occurs twice
 pub twice_from_neighbours : (all : List Occurrence) → IsSorted occurrence_cmp all → (r : Option (ℕ × ℕ)) → IsLeast (Neighbours all (length all)) r → IsLeast (OccursTwice all) r
 twice_from_neighbours all up r h =
     least_before (Neighbours all (length all)) (OccursTwice all) (neighbours_occur all up (length all)) (neighbours_ahead all up) r h
@@ -257,8 +257,8 @@ among all n m i j u lt = record {
   first_at = u.first_at;
   second_at = u.second_at;
   same = u.same;
-  first_place = u.first_place;
-  second_place = u.second_place;
+  first_index = u.first_index;
+  second_index = u.second_index;
   differ = u.differ;
 }
 
@@ -277,21 +277,21 @@ last_two all n a b some lt at_a at_b i j u last =
     )
 
 pub neighbours_more : (all : List Occurrence) (n : ℕ) (a b : Occurrence) (r : Option (ℕ × ℕ)) → 1 ≤ n → n < length all →
-    get_or all (n - 1) a ≡ a → get_or all n b ≡ b → a.tag ≡ b.tag → a.place ≢ b.place →
-    IsLeast (Neighbours all n) r → IsLeast (Neighbours all (n + 1)) (lesser_pair r (Some (a.place, b.place)))
+    get_or all (n - 1) a ≡ a → get_or all n b ≡ b → a.tag ≡ b.tag → a.index ≢ b.index →
+    IsLeast (Neighbours all n) r → IsLeast (Neighbours all (n + 1)) (lesser_pair r (Some (a.index, b.index)))
 neighbours_more all n a b r some lt at_a at_b same differ h =
-    least_of_two (Neighbours all n) (IsPair (a.place, b.place)) (Neighbours all (n + 1)) which (fewer all n) right r (Some (a.place, b.place)) h (pair_alone (a.place, b.place))
+    least_of_two (Neighbours all n) (IsPair (a.index, b.index)) (Neighbours all (n + 1)) which (fewer all n) right r (Some (a.index, b.index)) h (pair_alone (a.index, b.index))
   where
-    which : (i j : ℕ) → Neighbours all (n + 1) i j → Neighbours all n i j ⊎ IsPair (a.place, b.place) i j
+    which : (i j : ℕ) → Neighbours all (n + 1) i j → Neighbours all n i j ⊎ IsPair (a.index, b.index) i j
     which i j u = by_order (cases_lt (u.at + 1) n)
       where
-        by_order : (u.at + 1 < n) ⊎ (n ≤ u.at + 1) → Neighbours all n i j ⊎ IsPair (a.place, b.place) i j
+        by_order : (u.at + 1 < n) ⊎ (n ≤ u.at + 1) → Neighbours all n i j ⊎ IsPair (a.index, b.index) i j
         by_order (inl within) = inl (among all (n + 1) n i j u within)
         by_order (inr last) =
             let these = last_two all n a b some lt at_a at_b i j u last in
-            inr (ap (λ o. o.place) these.0 ∙ u.first_place, ap (λ o. o.place) these.1 ∙ u.second_place)
+            inr (ap (λ o. o.index) these.0 ∙ u.first_index, ap (λ o. o.index) these.1 ∙ u.second_index)
 
-    right : (i j : ℕ) → IsPair (a.place, b.place) i j → Neighbours all (n + 1) i j
+    right : (i j : ℕ) → IsPair (a.index, b.index) i j → Neighbours all (n + 1) i j
     right i j e =
         let next : n - 1 + 1 ≡ n = omega arith in
         record {
@@ -303,14 +303,14 @@ neighbours_more all n a b r some lt at_a at_b same differ h =
           first_at = at_a;
           second_at = ap (λ k. get_or all k b) next ∙ at_b;
           same = same;
-          first_place = e.0;
-          second_place = e.1;
+          first_index = e.0;
+          second_index = e.1;
           differ = λ level. differ (e.0 ∙ (level ∙ sym e.1));
         }
 
 -- neighbours that are none
 pub neighbours_no_more : (all : List Occurrence) (n : ℕ) (a b : Occurrence) (r : Option (ℕ × ℕ)) → 1 ≤ n → n < length all →
-    get_or all (n - 1) a ≡ a → get_or all n b ≡ b → (a.tag ≡ b.tag → a.place ≢ b.place → ⊥) →
+    get_or all (n - 1) a ≡ a → get_or all n b ≡ b → (a.tag ≡ b.tag → a.index ≢ b.index → ⊥) →
     IsLeast (Neighbours all n) r → IsLeast (Neighbours all (n + 1)) r
 neighbours_no_more all n a b r some lt at_a at_b none h =
     least_before (Neighbours all n) (Neighbours all (n + 1)) (fewer all n) ahead r h
@@ -324,47 +324,47 @@ neighbours_no_more all n a b r some lt at_a at_b none h =
             let these = last_two all n a b some lt at_a at_b i j u last in
             absurd
             (none (ap (λ o. o.tag) these.0 ∙ (u.same ∙ ap (λ o. o.tag) (sym these.1)))
-            (λ level. u.differ (sym u.first_place ∙ (ap (λ o. o.place) (sym these.0) ∙ (level ∙ (ap (λ o. o.place) these.1 ∙ u.second_place))))))
+            (λ level. u.differ (sym u.first_index ∙ (ap (λ o. o.index) (sym these.0) ∙ (level ∙ (ap (λ o. o.index) these.1 ∙ u.second_index))))))
 
--- what is at a place in the leaves of components
-Contains-map : (n : ℕ) (ts : List Tag) (t : Tag) (k : ℕ) → Contains (occurrences_at n ts) (record { tag = t; place = k }) → (n ≡ k) × Contains ts t
+-- what is at an index in the leaves of components
+Contains-map : (n : ℕ) (ts : List Tag) (t : Tag) (k : ℕ) → Contains (occurrences_at n ts) (record { tag = t; index = k }) → (n ≡ k) × Contains ts t
 Contains-map n [] t k h = absurd (let lt = h.1 in omega arith)
-Contains-map n (u ∷ ts) t k (zero, lt, is) = (ap (λ o. o.place) is, (0, omega arith, ap (λ o. o.tag) is))
+Contains-map n (u ∷ ts) t k (zero, lt, is) = (ap (λ o. o.index) is, (0, omega arith, ap (λ o. o.tag) is))
 Contains-map n (u ∷ ts) t k (suc x, lt, is) =
     let rest = Contains-map n ts t k (x, omega arith, is) in
     (rest.0, (suc rest.1.0, let within = rest.1.1 in omega arith, rest.1.2))
 
-Contains-mapped : (n : ℕ) (ts : List Tag) (t : Tag) → Contains ts t → Contains (occurrences_at n ts) (record { tag = t; place = n })
+Contains-mapped : (n : ℕ) (ts : List Tag) (t : Tag) → Contains ts t → Contains (occurrences_at n ts) (record { tag = t; index = n })
 Contains-mapped n [] t h = absurd (let lt = h.1 in omega arith)
-Contains-mapped n (u ∷ ts) t (zero, lt, is) = (0, omega arith, λ i. record { tag = is i; place = n })
+Contains-mapped n (u ∷ ts) t (zero, lt, is) = (0, omega arith, λ i. record { tag = is i; index = n })
 Contains-mapped n (u ∷ ts) t (suc x, lt, is) =
     let rest = Contains-mapped n ts t (x, omega arith, is) in
     (suc rest.0, let within = rest.1 in omega arith, rest.2)
 
--- an occurrence is a leaf of the component at its place
-from_occurrence : (n : ℕ) (cs : List Component) (t : Tag) (k : ℕ) → Contains (occurrences n cs) (record { tag = t; place = k }) →
+-- an occurrence is a leaf of the component at its index
+from_occurrence : (n : ℕ) (cs : List Component) (t : Tag) (k : ℕ) → Contains (occurrences n cs) (record { tag = t; index = k }) →
     (m : ℕ) × (c : Component) × (k ≡ n + m) × (slice_get cs m ≡ Some c) × Contains (leaves c.tree) t
 from_occurrence n [] t k h = absurd (let lt = h.1 in omega arith)
 from_occurrence n (c ∷ cs) t k h =
-    elim (Contains-append_cases (occurrences_at n (leaves c.tree)) (occurrences (n + 1) cs) (record { tag = t; place = k }) h) [
+    elim (Contains-append_cases (occurrences_at n (leaves c.tree)) (occurrences (n + 1) cs) (record { tag = t; index = k }) h) [
       | inl here ↦ let at = Contains-map n (leaves c.tree) t k here in (0, c, let e = at.0 in omega arith, refl, at.1)
       | inr later ↦ let rest = from_occurrence (n + 1) cs t k later in (suc rest.0, rest.1, let e = rest.2 in omega arith, rest.3, rest.4)
     ]
 
--- and each leaf of a component occurs at its place
+-- and each leaf of a component occurs at its index
 to_occurrence : (n : ℕ) (cs : List Component) (t : Tag) (m : ℕ) (c : Component) → slice_get cs m ≡ Some c → Contains (leaves c.tree) t →
-    Contains (occurrences n cs) (record { tag = t; place = n + m })
+    Contains (occurrences n cs) (record { tag = t; index = n + m })
 to_occurrence n [] t m c at has = cc
 to_occurrence n (d ∷ cs) t zero c at has =
     let same : d ≡ c = same_Some d c at in
-    let place : n ≡ n + 0 = omega arith in
-    Contains-append_left (occurrences_at n (leaves d.tree)) (occurrences (n + 1) cs) (record { tag = t; place = n + 0 })
-    (subst (λ k. Contains (occurrences_at n (leaves d.tree)) (record { tag = t; place = k })) place
+    let index : n ≡ n + 0 = omega arith in
+    Contains-append_left (occurrences_at n (leaves d.tree)) (occurrences (n + 1) cs) (record { tag = t; index = n + 0 })
+    (subst (λ k. Contains (occurrences_at n (leaves d.tree)) (record { tag = t; index = k })) index
     (Contains-mapped n (leaves d.tree) t (subst (λ x. Contains (leaves x.tree) t) (sym same) has)))
 to_occurrence n (d ∷ cs) t (suc m) c at has =
-    let place : n + 1 + m ≡ n + suc m = omega arith in
-    Contains-append_right (occurrences_at n (leaves d.tree)) (occurrences (n + 1) cs) (record { tag = t; place = n + suc m })
-    (subst (λ k. Contains (occurrences (n + 1) cs) (record { tag = t; place = k })) place (to_occurrence (n + 1) cs t m c at has))
+    let index : n + 1 + m ≡ n + suc m = omega arith in
+    Contains-append_right (occurrences_at n (leaves d.tree)) (occurrences (n + 1) cs) (record { tag = t; index = n + suc m })
+    (subst (λ k. Contains (occurrences (n + 1) cs) (record { tag = t; index = k })) index (to_occurrence (n + 1) cs t m c at has))
 
 -- components clash in a SET where a tag occurs twice, or one of them can begin with any tag
 clash_which : (cs : List Component) (all : List Occurrence) → IsPermutation (occurrences 0 cs) all → (i j : ℕ) → IsSetClash cs i j → HasOpen cs i j ⊎ OccursTwice all i j
@@ -374,8 +374,8 @@ clash_which cs all moved i j h =
     any : (is_open h.first.tree || is_open h.second.tree) ≡ true → HasOpen cs i j
     any open_one = record { first = h.first; second = h.second; first_at = h.first_at; second_at = h.second_at; before = h.before; open_one = open_one }
 
-    at : (k : ℕ) (c : Component) → slice_get cs k ≡ Some c → Contains (leaves c.tree) h.shared.tag → Contains all (record { tag = h.shared.tag; place = k })
-    at k c is has = Contains-permutation (occurrences 0 cs) all _ moved (subst (λ n. Contains (occurrences 0 cs) (record { tag = h.shared.tag; place = n })) (omega arith) (to_occurrence 0 cs h.shared.tag k c is has))
+    at : (k : ℕ) (c : Component) → slice_get cs k ≡ Some c → Contains (leaves c.tree) h.shared.tag → Contains all (record { tag = h.shared.tag; index = k })
+    at k c is has = Contains-permutation (occurrences 0 cs) all _ moved (subst (λ n. Contains (occurrences 0 cs) (record { tag = h.shared.tag; index = n })) (omega arith) (to_occurrence 0 cs h.shared.tag k c is has))
 
     by_tags : IsTrue (is_open h.first.tree) ⊎ Contains (leaves h.first.tree) h.shared.tag →
         IsTrue (is_open h.second.tree) ⊎ Contains (leaves h.second.tree) h.shared.tag →
@@ -400,13 +400,13 @@ clash_from_twice cs all moved i j h =
     let back = IsPermutation-sym (occurrences 0 cs) all moved in
     let first = from_occurrence 0 cs h.tag i (Contains-permutation all (occurrences 0 cs) _ back h.at_first) in
     let second = from_occurrence 0 cs h.tag j (Contains-permutation all (occurrences 0 cs) _ back h.at_second) in
-    let first_place : first.0 ≡ i = let e = first.2 in omega arith in
-    let second_place : second.0 ≡ j = let e = second.2 in omega arith in
+    let first_index : first.0 ≡ i = let e = first.2 in omega arith in
+    let second_index : second.0 ≡ j = let e = second.2 in omega arith in
     record {
       first = first.1;
       second = second.1;
-      first_at = subst (λ k. slice_get cs k ≡ Some first.1) first_place first.3;
-      second_at = subst (λ k. slice_get cs k ≡ Some second.1) second_place second.3;
+      first_at = subst (λ k. slice_get cs k ≡ Some first.1) first_index first.3;
+      second_at = subst (λ k. slice_get cs k ≡ Some second.1) second_index second.3;
       before = h.before;
       shared = record {
         tag = h.tag;
@@ -441,10 +441,10 @@ none_open cs none i j h =
 pub first_open : (cs : List Component) (k : ℕ) (d : Component) → position (λ c. is_open c.tree) cs ≡ Some k → max k 1 < length cs → IsLeast (HasOpen cs) (Some (0, max k 1))
 first_open cs k d is fits =
     let found = position-Some (λ c. is_open c.tree) cs k d is in
-    (by_place k found.1 fits, up_to found.2)
+    (by_index k found.1 fits, up_to found.2)
   where
-    by_place : (n : ℕ) → is_open (get_or cs n d).tree ≡ true → max n 1 < length cs → HasOpen cs 0 (max n 1)
-    by_place zero here lt = record {
+    by_index : (n : ℕ) → is_open (get_or cs n d).tree ≡ true → max n 1 < length cs → HasOpen cs 0 (max n 1)
+    by_index zero here lt = record {
       first = get_or cs 0 d;
       second = get_or cs 1 d;
       first_at = slice_get-get_or cs 0 d (omega arith);
@@ -452,7 +452,7 @@ first_open cs k d is fits =
       before = omega arith;
       open_one = or_left (is_open (get_or cs 0 d).tree) (is_open (get_or cs 1 d).tree) here;
     }
-    by_place (suc n) here lt =
+    by_index (suc n) here lt =
         let same : suc n ≡ max (suc n) 1 = omega arith in
         subst (HasOpen cs 0) same
         (record {
@@ -493,41 +493,41 @@ lesser_pair-None (Some p) = refl
 -- a step over neighbours
 pub neighbours_step : (all : List Occurrence) (n : ℕ) (a b : Occurrence) (r : Option (ℕ × ℕ)) → 1 ≤ n → n < length all →
     get_or all (n - 1) a ≡ a → get_or all n b ≡ b → IsLeast (Neighbours all n) r → IsLeast (Neighbours all (n + 1)) (lesser_pair r (pair_of a b))
-neighbours_step all n a b r some lt at_a at_b h = by_tests (tag_eq a.tag b.tag) (a.place == b.place) refl refl
+neighbours_step all n a b r some lt at_a at_b h = by_tests (tag_eq a.tag b.tag) (a.index == b.index) refl refl
   where
-    none : ((a.tag ≡ b.tag) → a.place ≢ b.place → ⊥) → IsLeast (Neighbours all (n + 1)) (lesser_pair r None)
+    none : ((a.tag ≡ b.tag) → a.index ≢ b.index → ⊥) → IsLeast (Neighbours all (n + 1)) (lesser_pair r None)
     none differ = subst (IsLeast (Neighbours all (n + 1))) (sym (lesser_pair-None r)) (neighbours_no_more all n a b r some lt at_a at_b differ h)
 
-    by_tests : (e l : Bool) → tag_eq a.tag b.tag ≡ e → (a.place == b.place) ≡ l →
-        IsLeast (Neighbours all (n + 1)) (lesser_pair r (cond (e && not l) (Some (a.place, b.place)) None))
+    by_tests : (e l : Bool) → tag_eq a.tag b.tag ≡ e → (a.index == b.index) ≡ l →
+        IsLeast (Neighbours all (n + 1)) (lesser_pair r (cond (e && not l) (Some (a.index, b.index)) None))
     by_tests true false same apart =
-        neighbours_more all n a b r some lt at_a at_b (tag_eq-true a.tag b.tag same) (λ level. false≢true (sym apart ∙ eq-eqb a.place b.place level)) h
-    by_tests true true same level = none (λ _ differ. differ (eqb-true a.place b.place level))
+        neighbours_more all n a b r some lt at_a at_b (tag_eq-true a.tag b.tag same) (λ level. false≢true (sym apart ∙ eq-eqb a.index b.index level)) h
+    by_tests true true same level = none (λ _ differ. differ (eqb-true a.index b.index level))
     by_tests false l apart level = none (λ same _. false≢true (sym apart ∙ (ap (λ t. tag_eq t b.tag) same ∙ tag_eq-refl b.tag)))
 
 -- the leaves of fields, one more of a field
 pub occurrences_at-more : (n : ℕ) (ts : List Tag) (i : ℕ) (d : Tag) → i < length ts →
-    occurrences_at n (take (i + 1) ts) ≡ occurrences_at n (take i ts) ++ record { tag = get_or ts i d; place = n } ∷ []
-occurrences_at-more n ts i d lt = ap (occurrences_at n) (take_more ts i d lt) ∙ map-append (λ t. record { tag = t; place = n }) (take i ts) (get_or ts i d ∷ [])
+    occurrences_at n (take (i + 1) ts) ≡ occurrences_at n (take i ts) ++ record { tag = get_or ts i d; index = n } ∷ []
+occurrences_at-more n ts i d lt = ap (occurrences_at n) (take_more ts i d lt) ∙ map-append (λ t. record { tag = t; index = n }) (take i ts) (get_or ts i d ∷ [])
 
 occurrences-append : (n : ℕ) (cs ds : List Component) → occurrences n (cs ++ ds) ≡ occurrences n cs ++ occurrences (n + length cs) ds
 occurrences-append n [] ds = ap (λ m. occurrences m ds) (sym (add-zero n))
 occurrences-append n (c ∷ cs) ds =
-    let place : n + 1 + length cs ≡ n + length (c ∷ cs) = omega arith in
+    let index : n + 1 + length cs ≡ n + length (c ∷ cs) = omega arith in
     ap (λ rest. occurrences_at n (leaves c.tree) ++ rest) (occurrences-append (n + 1) cs ds)
     ∙ (sym (append_assoc (occurrences_at n (leaves c.tree)) (occurrences (n + 1) cs) (occurrences (n + 1 + length cs) ds))
-    ∙ ap (λ m. (occurrences_at n (leaves c.tree) ++ occurrences (n + 1) cs) ++ occurrences m ds) place)
+    ∙ ap (λ m. (occurrences_at n (leaves c.tree) ++ occurrences (n + 1) cs) ++ occurrences m ds) index)
 
 -- and one more field
 pub occurrences-more : (fs : List FlatComponent) (i : ℕ) (d : FlatComponent) → i < length fs →
-    occurrences 0 (components_seen (take (i + 1) fs))
-    ≡ occurrences 0 (components_seen (take i fs)) ++ occurrences_at i (leaves (component_seen (get_or fs i d)).tree)
+    occurrences 0 (components_view (take (i + 1) fs))
+    ≡ occurrences 0 (components_view (take i fs)) ++ occurrences_at i (leaves (component_view (get_or fs i d)).tree)
 occurrences-more fs i d lt =
-    let front = components_seen (take i fs) in
-    let here = component_seen (get_or fs i d) in
+    let front = components_view (take i fs) in
+    let here = component_view (get_or fs i d) in
     let count : 0 + length front ≡ i = simp (length-map, length-take) (omega arith) in
-    ap (λ gs. occurrences 0 (components_seen gs)) (take_more fs i d lt)
-    ∙ (ap (occurrences 0) (map-append component_seen (take i fs) (get_or fs i d ∷ []))
+    ap (λ gs. occurrences 0 (components_view gs)) (take_more fs i d lt)
+    ∙ (ap (occurrences 0) (map-append component_view (take i fs) (get_or fs i d ∷ []))
     ∙ (occurrences-append 0 front (here ∷ [])
     ∙ (ap (λ m. occurrences 0 front ++ occurrences m (here ∷ [])) count
     ∙ ap (λ rest. occurrences 0 front ++ rest) (append-nil (occurrences_at i (leaves here.tree))))))
@@ -543,21 +543,21 @@ one_alone cs k d is few i j h =
 
 -- a leaf is added
 pub leaf_added : (old mid new : List Occurrence) (n : ℕ) (ts : List Tag) (i : ℕ) (d : Tag) → mid ≡ old ++ occurrences_at n (take i ts) →
-    new ≡ mid ++ record { tag = get_or ts i d; place = n } ∷ [] → i < length ts → new ≡ old ++ occurrences_at n (take (i + 1) ts)
+    new ≡ mid ++ record { tag = get_or ts i d; index = n } ∷ [] → i < length ts → new ≡ old ++ occurrences_at n (take (i + 1) ts)
 leaf_added old mid new n ts i d before added lt =
     added
-    ∙ (ap (λ xs. xs ++ record { tag = get_or ts i d; place = n } ∷ []) before
-    ∙ (append_assoc old (occurrences_at n (take i ts)) (record { tag = get_or ts i d; place = n } ∷ [])
+    ∙ (ap (λ xs. xs ++ record { tag = get_or ts i d; index = n } ∷ []) before
+    ∙ (append_assoc old (occurrences_at n (take i ts)) (record { tag = get_or ts i d; index = n } ∷ [])
     ∙ ap (λ xs. old ++ xs) (sym (occurrences_at-more n ts i d lt))))
 
 -- a field is passed
-pub field_passed : (old new : List Occurrence) (fs : List FlatComponent) (i : ℕ) (f : FlatComponent) (ts : List Tag) (k : ℕ) → old ≡ occurrences 0 (components_seen (take i fs)) →
-    new ≡ old ++ occurrences_at i (take k ts) → length ts ≤ k → ts ≡ leaves (component_seen f).tree → f ≡ get_or fs i f → i < length fs →
-    new ≡ occurrences 0 (components_seen (take (i + 1) fs))
+pub field_passed : (old new : List Occurrence) (fs : List FlatComponent) (i : ℕ) (f : FlatComponent) (ts : List Tag) (k : ℕ) → old ≡ occurrences 0 (components_view (take i fs)) →
+    new ≡ old ++ occurrences_at i (take k ts) → length ts ≤ k → ts ≡ leaves (component_view f).tree → f ≡ get_or fs i f → i < length fs →
+    new ≡ occurrences 0 (components_view (take (i + 1) fs))
 field_passed old new fs i f ts k before added past has at lt =
     added
     ∙ (ap (λ xs. xs ++ occurrences_at i (take k ts)) before
-    ∙ (ap (λ us. occurrences 0 (components_seen (take i fs)) ++ occurrences_at i us) (take_all k ts past ∙ (has ∙ ap (λ g. leaves (component_seen g).tree) at))
+    ∙ (ap (λ us. occurrences 0 (components_view (take i fs)) ++ occurrences_at i us) (take_all k ts past ∙ (has ∙ ap (λ g. leaves (component_view g).tree) at))
     ∙ sym (occurrences-more fs i f lt)))
 
 -- one more neighbour is looked at

@@ -12,7 +12,7 @@ use Rattle.asn1_fields.specs.DistinctTags.{sequence_clash, set_clash, share_tag,
 use Rattle.asn1_fields.proofs.Clashes.{set_clash-is}
 use Rattle.asn1_fields.proofs.Searches.{shifted, shifted-shifted}
 use Rattle.asn1_clash.specs.declared.flat_component.FlatComponent.{FlatComponent}
-use Rattle.asn1_clash.specs.Seen.{component_seen, components_seen}
+use Rattle.asn1_clash.specs.Views.{component_view, components_view}
 
 or_assoc : (a b c : Option (ℕ × ℕ)) → option_or a (option_or b c) ≡ option_or (option_or a b) c
 or_assoc None b c = refl
@@ -59,7 +59,7 @@ up_to_required-take (c ∷ cs) = by_test (may_be_absent c.presence) (up_to_requi
 
 -- how many these are
 pub length-run : (fs : List FlatComponent) →
-    length (up_to_required (components_seen fs))
+    length (up_to_required (components_view fs))
     ≡ cond (nat_lt (position_or_len (λ f. not (may_be_absent f.presence)) fs) (length fs)) (position_or_len (λ f. not (may_be_absent f.presence)) fs + 1) (length fs)
 length-run [] = refl
 length-run (f ∷ fs) = by_test (may_be_absent f.presence) (length-run fs)
@@ -68,34 +68,34 @@ length-run (f ∷ fs) = by_test (may_be_absent f.presence) (length-run fs)
     required g = not (may_be_absent g.presence)
 
     by_test : (b : Bool) →
-        length (up_to_required (components_seen fs))
+        length (up_to_required (components_view fs))
         ≡ cond (nat_lt (position_or_len (λ g. not (may_be_absent g.presence)) fs) (length fs)) (position_or_len (λ g. not (may_be_absent g.presence)) fs + 1) (length fs) →
-        length (component_seen f ∷ cond b (up_to_required (components_seen fs)) [])
+        length (component_view f ∷ cond b (up_to_required (components_view fs)) [])
         ≡ cond (nat_lt (cond (not (not b)) (1 + position_or_len (λ g. not (may_be_absent g.presence)) fs) 0) (length (f ∷ fs)))
         (cond (not (not b)) (1 + position_or_len (λ g. not (may_be_absent g.presence)) fs) 0 + 1)
         (length (f ∷ fs))
     by_test true rest = grind (arith, nat_tests)
     by_test false rest = grind (arith, nat_tests)
 
-pub run_found : (fs : List FlatComponent) (k : ℕ) → position (λ f. not (may_be_absent f.presence)) fs ≡ Some k → k + 1 ≡ length (up_to_required (components_seen fs))
+pub run_found : (fs : List FlatComponent) (k : ℕ) → position (λ f. not (may_be_absent f.presence)) fs ≡ Some k → k + 1 ≡ length (up_to_required (components_view fs))
 run_found fs k is =
     let n : ℕ = position_or_len (λ (f : FlatComponent). not (may_be_absent f.presence)) fs in
     let whole = length-run fs in
     by_test (nat_lt (position_or_len (λ (f : FlatComponent). not (may_be_absent f.presence)) fs) (length fs)) refl is
   where
     by_test : (b : Bool) → nat_lt (position_or_len (λ (f : FlatComponent). not (may_be_absent f.presence)) fs) (length fs) ≡ b →
-        cond b (Some (position_or_len (λ (f : FlatComponent). not (may_be_absent f.presence)) fs)) None ≡ Some k → k + 1 ≡ length (up_to_required (components_seen fs))
+        cond b (Some (position_or_len (λ (f : FlatComponent). not (may_be_absent f.presence)) fs)) None ≡ Some k → k + 1 ≡ length (up_to_required (components_view fs))
     by_test false past is = cc
     by_test true within is =
         let same : position_or_len (λ (f : FlatComponent). not (may_be_absent f.presence)) fs ≡ k = cc in
         ap (λ m. m + 1) (sym same)
         ∙ sym (length-run fs ∙ ap (λ b. cond b (position_or_len (λ (f : FlatComponent). not (may_be_absent f.presence)) fs + 1) (length fs)) within)
 
-pub run_is_all : (fs : List FlatComponent) → position (λ f. not (may_be_absent f.presence)) fs ≡ None → length fs ≡ length (up_to_required (components_seen fs))
+pub run_is_all : (fs : List FlatComponent) → position (λ f. not (may_be_absent f.presence)) fs ≡ None → length fs ≡ length (up_to_required (components_view fs))
 run_is_all fs is = by_test (nat_lt (position_or_len (λ (f : FlatComponent). not (may_be_absent f.presence)) fs) (length fs)) refl is
   where
     by_test : (b : Bool) → nat_lt (position_or_len (λ (f : FlatComponent). not (may_be_absent f.presence)) fs) (length fs) ≡ b →
-        cond b (Some (position_or_len (λ (f : FlatComponent). not (may_be_absent f.presence)) fs)) None ≡ None → length fs ≡ length (up_to_required (components_seen fs))
+        cond b (Some (position_or_len (λ (f : FlatComponent). not (may_be_absent f.presence)) fs)) None ≡ None → length fs ≡ length (up_to_required (components_view fs))
     by_test true within is = cc
     by_test false past is = sym (length-run fs ∙ ap (λ b. cond b (position_or_len (λ (f : FlatComponent). not (may_be_absent f.presence)) fs + 1) (length fs)) past)
 
@@ -108,32 +108,32 @@ up_to_required-fits (c ∷ cs) = by_test (may_be_absent c.presence) (up_to_requi
     by_test false rest = omega arith
 
 -- a run is no longer than all
-pub run_fits : (fs : List FlatComponent) → length (up_to_required (components_seen fs)) ≤ length fs
-run_fits fs = let le = up_to_required-fits (components_seen fs) in let same = length-map fs component_seen in omega arith
+pub run_fits : (fs : List FlatComponent) → length (up_to_required (components_view fs)) ≤ length fs
+run_fits fs = let le = up_to_required-fits (components_view fs) in let same = length-map fs component_view in omega arith
 
 -- and has a component where there is one
-pub run_is_some : (fs : List FlatComponent) → 0 < length fs → 0 < length (up_to_required (components_seen fs))
+pub run_is_some : (fs : List FlatComponent) → 0 < length fs → 0 < length (up_to_required (components_view fs))
 run_is_some [] some = absurd (omega arith)
 run_is_some (f ∷ fs) some = omega arith
 
-held-take : (n : ℕ) (fs : List FlatComponent) → n ≡ length (up_to_required (components_seen fs)) → components_seen (take n fs) ≡ up_to_required (components_seen fs)
-held-take n fs is = sym (take-map component_seen n fs) ∙ (ap (λ k. take k (components_seen fs)) is ∙ up_to_required-take (components_seen fs))
+held-take : (n : ℕ) (fs : List FlatComponent) → n ≡ length (up_to_required (components_view fs)) → components_view (take n fs) ≡ up_to_required (components_view fs)
+held-take n fs is = sym (take-map component_view n fs) ∙ (ap (λ k. take k (components_view fs)) is ∙ up_to_required-take (components_view fs))
 
-by_first_run : (fs : List FlatComponent) (n : ℕ) → n ≡ length (up_to_required (components_seen fs)) →
-    sequence_clash (components_seen fs) ≡ option_or (set_clash (components_seen (take n fs))) (shifted n (sequence_clash (components_seen (drop n fs))))
+by_first_run : (fs : List FlatComponent) (n : ℕ) → n ≡ length (up_to_required (components_view fs)) →
+    sequence_clash (components_view fs) ≡ option_or (set_clash (components_view (take n fs))) (shifted n (sequence_clash (components_view (drop n fs))))
 by_first_run fs n is =
-    clash_by_runs (components_seen fs)
-    ∙ ((λ i. option_or (set_clash (up_to_required (components_seen fs))) (shifted (sym is i) (sequence_clash (drop (sym is i) (components_seen fs)))))
-    ∙ λ i. option_or (set_clash (sym (held-take n fs is) i)) (shifted n (sequence_clash (drop-map component_seen n fs i))))
+    clash_by_runs (components_view fs)
+    ∙ ((λ i. option_or (set_clash (up_to_required (components_view fs))) (shifted (sym is i) (sequence_clash (drop (sym is i) (components_view fs)))))
+    ∙ λ i. option_or (set_clash (sym (held-take n fs is) i)) (shifted n (sequence_clash (drop-map component_view n fs i))))
 
 -- a clash in the run is the first
-pub found_in_run : (fs rest : List FlatComponent) (start n i j : ℕ) → sequence_clash (components_seen fs) ≡ shifted start (sequence_clash (components_seen rest)) →
-    n ≡ length (up_to_required (components_seen rest)) → Some (i, j) ≡ set_clash (components_seen (take n rest)) →
-    Some (start + i, start + j) ≡ sequence_clash (components_seen fs)
+pub found_in_run : (fs rest : List FlatComponent) (start n i j : ℕ) → sequence_clash (components_view fs) ≡ shifted start (sequence_clash (components_view rest)) →
+    n ≡ length (up_to_required (components_view rest)) → Some (i, j) ≡ set_clash (components_view (take n rest)) →
+    Some (start + i, start + j) ≡ sequence_clash (components_view fs)
 found_in_run fs rest start n i j whole is found =
     sym
     (whole
-    ∙ (ap (shifted start) (by_first_run rest n is ∙ ap (λ r. option_or r (shifted n (sequence_clash (components_seen (drop n rest))))) (sym found))
+    ∙ (ap (shifted start) (by_first_run rest n is ∙ ap (λ r. option_or r (shifted n (sequence_clash (components_view (drop n rest))))) (sym found))
     ∙ λ k. Some (first k, second k)))
   where
     first : i + start ≡ start + i
@@ -143,27 +143,27 @@ found_in_run fs rest start n i j whole is found =
     second = omega arith
 
 -- and where there is none, the first is further on
-pub none_in_run : (fs rest : List FlatComponent) (start n : ℕ) → sequence_clash (components_seen fs) ≡ shifted start (sequence_clash (components_seen rest)) →
-    n ≡ length (up_to_required (components_seen rest)) → None ≡ set_clash (components_seen (take n rest)) →
-    sequence_clash (components_seen fs) ≡ shifted (start + n) (sequence_clash (components_seen (drop n rest)))
+pub none_in_run : (fs rest : List FlatComponent) (start n : ℕ) → sequence_clash (components_view fs) ≡ shifted start (sequence_clash (components_view rest)) →
+    n ≡ length (up_to_required (components_view rest)) → None ≡ set_clash (components_view (take n rest)) →
+    sequence_clash (components_view fs) ≡ shifted (start + n) (sequence_clash (components_view (drop n rest)))
 none_in_run fs rest start n whole is found =
     whole
-    ∙ (ap (shifted start) (by_first_run rest n is ∙ ap (λ r. option_or r (shifted n (sequence_clash (components_seen (drop n rest))))) (sym found))
-    ∙ shifted-shifted start n (sequence_clash (components_seen (drop n rest))))
+    ∙ (ap (shifted start) (by_first_run rest n is ∙ ap (λ r. option_or r (shifted n (sequence_clash (components_view (drop n rest))))) (sym found))
+    ∙ shifted-shifted start n (sequence_clash (components_view (drop n rest))))
 
--- the places of a clash are places of components
-pub clash_within : (fs : List FlatComponent) (i j : ℕ) → Some (i, j) ≡ set_clash (components_seen fs) → (i < length fs) × (j < length fs)
+-- the indices of a clash are indices of components
+pub clash_within : (fs : List FlatComponent) (i j : ℕ) → Some (i, j) ≡ set_clash (components_view fs) → (i < length fs) × (j < length fs)
 clash_within fs i j found =
-    let is = subst (IsLeast (IsSetClash (components_seen fs))) (sym found) (set_clash-is (components_seen fs)) in
+    let is = subst (IsLeast (IsSetClash (components_view fs))) (sym found) (set_clash-is (components_view fs)) in
     let clash = is.0 in
-    let second = slice_get_within (components_seen fs) j clash.second clash.second_at in
-    let same = length-map fs component_seen in
+    let second = slice_get_within (components_view fs) j clash.second clash.second_at in
+    let same = length-map fs component_view in
     let lt = clash.before in
     (omega arith, omega arith)
 
 -- without components there is no clash
-pub none_left : (fs rest : List FlatComponent) (start : ℕ) → sequence_clash (components_seen fs) ≡ shifted start (sequence_clash (components_seen rest)) → length rest ≡ 0 →
-    None ≡ sequence_clash (components_seen fs)
+pub none_left : (fs rest : List FlatComponent) (start : ℕ) → sequence_clash (components_view fs) ≡ shifted start (sequence_clash (components_view rest)) → length rest ≡ 0 →
+    None ≡ sequence_clash (components_view fs)
 none_left fs [] start whole empty = sym whole
 none_left fs (f ∷ rest) start whole empty = absurd (omega arith)
 

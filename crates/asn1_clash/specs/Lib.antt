@@ -1,3 +1,3 @@
 pub mod Flat
-pub mod Seen
 pub mod Occurrences
+pub mod Views

@@ -1,4 +1,4 @@
--- The leaves of a table's components, each with the place of its component.
+-- The leaves of a table's components, each with the index of its component.
 use Rattle.std.specs.Prelude.{◌≡◌, ◌<◌, ℕ, ◌+◌, Bool, ◌&&◌, ◌||◌, ◌==◌, not, nat_lt, if◌then◌else◌, IsTrue, List, [], ◌∷◌, ◌++◌, map, Contains, Option, None, Some, slice_get}
 use Rattle.std.specs.declared.cmp.Ordering.{Ordering}
 use Rattle.std.specs.Ordering.{nat_cmp, on, then_cmp}
@@ -8,31 +8,31 @@ use Rattle.asn1_tags.specs.declared.tags.Tag.{Tag}
 use Rattle.asn1_fields.specs.Entries.{Component}
 use Rattle.asn1_clash.specs.declared.search.Occurrence.{Occurrence}
 
--- the leaves of the component at a place
+-- the leaves of the component at an index
 abbrev pub occurrences_at : ℕ → List Tag → List Occurrence
-occurrences_at place tags = map (λ tag. record { tag = tag; place = place }) tags
+occurrences_at index tags = map (λ tag. record { tag = tag; index = index }) tags
 
--- the leaves of components, of which the first is at a place
+-- the leaves of components, of which the first is at an index
 abbrev pub occurrences : ℕ → List Component → List Occurrence
-occurrences place [] = []
-occurrences place (component ∷ components) = occurrences_at place (leaves component.tree) ++ occurrences (place + 1) components
+occurrences index [] = []
+occurrences index (component ∷ components) = occurrences_at index (leaves component.tree) ++ occurrences (index + 1) components
 
--- the order by tag, and where the tags are equal, by place
+-- the order by tag, and where the tags are equal, by index
 abbrev pub occurrence_cmp : Occurrence → Occurrence → Ordering
-occurrence_cmp = then_cmp (on (λ a. a.tag) tag_cmp) (on (λ a. a.place) nat_cmp)
+occurrence_cmp = then_cmp (on (λ a. a.tag) tag_cmp) (on (λ a. a.index) nat_cmp)
 
--- the places of two occurrences, where they have one tag and the places differ
+-- the indices of two occurrences, where they have one tag and the indices differ
 abbrev pub pair_of : Occurrence → Occurrence → Option (ℕ × ℕ)
-pair_of a b = if tag_eq a.tag b.tag && not (a.place == b.place) then Some (a.place, b.place) else None
+pair_of a b = if tag_eq a.tag b.tag && not (a.index == b.index) then Some (a.index, b.index) else None
 
--- some tag occurs at both places
+-- some tag occurs at both indices
 pub record OccursTwice (all : List Occurrence) (i j : ℕ) : Type 0 where
   pub tag : Tag
   pub before : i < j
-  pub at_first : Contains all (record { tag = tag; place = i })
-  pub at_second : Contains all (record { tag = tag; place = j })
+  pub at_first : Contains all (record { tag = tag; index = i })
+  pub at_second : Contains all (record { tag = tag; index = j })
 
--- two places, of which one has a component that can begin with any tag
+-- two indices, of which one has a component that can begin with any tag
 pub record HasOpen (components : List Component) (i j : ℕ) : Type 0 where
   pub first : Component
   pub second : Component

@@ -20,12 +20,12 @@ pub struct FlatComponent {
 }
 
 impl FlatComponent {
-    ghost use Rattle.asn1_clash.specs.Seen.{component_seen, components_seen};
+    ghost use Rattle.asn1_clash.specs.Views.{component_view, components_view};
 
-    /// What the rules look at in a line of a field table.
+    /// The flat component of a line of a field table.
     pub fn of_field(alloc: Global, field: &Field<'_>) -> Result<FlatComponent, AllocError>
         ensures flattened { IfOk result (λ component.
-            component_seen component ≡ flat_component (component_of (entry_of field.now))) }
+            component_view component ≡ flat_component (component_of (entry_of field.now))) }
     {
         Ok(FlatComponent {
             presence: field.presence,
@@ -33,9 +33,9 @@ impl FlatComponent {
         })
     }
 
-    /// What the rules look at in a field table.
+    /// The flat components of a field table.
     pub fn of_fields(alloc: Global, fields: &[Field<'_>]) -> Result<Vec<FlatComponent>, AllocError>
-        ensures flattened { IfOk result (λ all. components_seen all.items ≡
+        ensures flattened { IfOk result (λ all. components_view all.items ≡
             map flat_component (components fields.now)) }
     {
         let mut all = Vec::new(alloc);
@@ -47,35 +47,35 @@ impl FlatComponent {
 
     /// Whether the component may be absent.
     pub fn may_be_absent(&self) -> bool
-        ensures { result ≡ may_be_absent (component_seen self.now).presence }
+        ensures { result ≡ may_be_absent (component_view self.now).presence }
     {
         self.presence.is_optional_or_default()
     }
 
     /// Whether the component can begin with any tag.
     pub fn is_open(&self) -> bool
-        ensures { result ≡ is_open (component_seen self.now).tree }
+        ensures { result ≡ is_open (component_view self.now).tree }
     {
         self.tree.is_open()
     }
 
     /// The leaves of the component's tree.
     pub fn tags(&self) -> &[Tag]
-        ensures { result.now ≡ leaves (component_seen self.now).tree }
+        ensures { result.now ≡ leaves (component_view self.now).tree }
     {
         self.tree.tags.as_slice()
     }
 
     /// The smallest leaf, and the greatest tag of all where there is none.
     pub fn smallest_tag(&self) -> Tag
-        ensures { result ≡ smallest_tag (component_seen self.now) }
+        ensures { result ≡ smallest_tag (component_view self.now) }
     {
         self.tree.smallest_tag()
     }
 
     /// Whether this component may come before the other in canonical order: its smallest tag is not above the other's.
     pub fn is_in_order(&self, next: &FlatComponent) -> bool
-        ensures { result ≡ in_order (component_seen self.now) (component_seen next.now) }
+        ensures { result ≡ in_order (component_view self.now) (component_view next.now) }
     {
         self.smallest_tag() <= next.smallest_tag()
     }

@@ -19,7 +19,7 @@ pub struct FlatTree {
 }
 
 impl FlatTree {
-    ghost use Rattle.asn1_clash.specs.Seen.{Adds, tree_seen};
+    ghost use Rattle.asn1_clash.specs.Views.{Adds, tree_view};
 
     /// A tree of no leaves. Takes no memory.
     pub fn new(alloc: Global) -> FlatTree
@@ -37,7 +37,7 @@ impl FlatTree {
         ensures tags { IfOk result (λ seen. seen.tags.items ≡ leaves (shape tree.now)) }
         ensures empty_choice { IfOk result (λ seen. seen.has_empty_choice ≡
             is_open (shape tree.now)) }
-        ensures flattened { IfOk result (λ seen. tree_seen seen ≡ flat (shape tree.now)) }
+        ensures flattened { IfOk result (λ seen. tree_view seen ≡ flat (shape tree.now)) }
     {
         let leaves = Variants::new(alloc, slice::from_ref(tree))?;
         Ok(FlatTree {
@@ -72,7 +72,7 @@ impl FlatTree {
 
     /// Whether the tree represents every tag: a choice of nothing is in it, or it has no leaf.
     pub fn is_open(&self) -> bool
-        ensures { result ≡ is_open (tree_seen self.now) }
+        ensures { result ≡ is_open (tree_view self.now) }
     {
         self.has_empty_choice || self.tags.as_slice().is_empty()
     }

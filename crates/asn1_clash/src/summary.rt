@@ -1,4 +1,4 @@
-//! What there is to say of a tree of tags.
+//! The summary of a tree of tags.
 ghost use Rattle.std.specs.Prelude.{◌≡◌, ◌↔◌, IsTrue, length};
 ghost use Rattle.std.specs.List.Sorted.{IsPermutation};
 ghost use Rattle.std.specs.declared.cmp.Ordering.TheVariants.{Less};

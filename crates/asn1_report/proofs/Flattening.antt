@@ -6,8 +6,8 @@ use Rattle.std.proofs.lemmas.List.{length-map, map-append}
 use Rattle.asn1_fields.specs.Entries.{Component}
 use Rattle.asn1_clash.specs.Flat.{flat_component}
 use Rattle.asn1_clash.proofs.Flat.{canonical-flat, leaves-flat, sequence_clash-flat, set_clash-flat}
-use Rattle.asn1_report.specs.declared.kind.Kind.{Kind}
-use Rattle.asn1_report.specs.declared.kind.Kind.TheVariants.{Sequence, Set}
+use Rattle.asn1_report.specs.declared.table_kind.TableKind.{TableKind}
+use Rattle.asn1_report.specs.declared.table_kind.TableKind.TheVariants.{Sequence, Set}
 use Rattle.asn1_report.specs.Flattened.{flat_state, flat_statement, flat_table}
 use Rattle.asn1_report.specs.Report.{Answer, State, answer_of, answer_to, answer_to_end, component_answer, end_answer, in_next_line, refusal}
 use Rattle.asn1_report.specs.Statements.{Statement, says_nothing, names_tree, names_bounds, begins_table, adds_component, ends_table, statement_of}
@@ -18,7 +18,7 @@ use Rattle.asn1_report.specs.Texts.{named_line, tree_verdict}
 abbrev pub flat_answer : Answer → Answer
 flat_answer answer = record answer { state = flat_state answer.state }
 
-clash-flat : (kind : Kind) (cs : List Component) → clash_of kind (map flat_component cs) ≡ clash_of kind cs
+clash-flat : (kind : TableKind) (cs : List Component) → clash_of kind (map flat_component cs) ≡ clash_of kind cs
 clash-flat Sequence cs = sequence_clash-flat cs
 clash-flat Set cs = set_clash-flat cs
 

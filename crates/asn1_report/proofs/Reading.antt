@@ -1,4 +1,4 @@
--- What was read of an input, and what is written for it.
+-- The bytes that were read of an input, and the text that is written for them.
 use Rattle.std.proofs.Common.{◌≡◌, ◌≤◌, ℕ, Bool, Option, Result, Ok, Err, List, [], ◌++◌, length, take, refl, subst, arith}
 use Rattle.std.specs.Prelude.{IfOk, IfSome, OnOk}
 use Rattle.std.specs.Io.KnownBytes.{Appends, Consumes, Keeps, IsAtEnd}
@@ -96,7 +96,7 @@ pub all_read : {E : Type 0} (result : Result Bool E) (r new_r w new_w : Option (
 all_read (Err e) r new_r w new_w ended = tt
 all_read (Ok understood) r new_r w new_w ended = ended.no_more
 
--- Where a read failed, the text for the lines that had ended is written.
+-- After a failed read the text for the lines that had ended is written.
 pub earlier_written : (r new_r w mid_w new_w : Option (List ℕ)) → ReadSoFar r new_r w mid_w → Keeps mid_w new_w →
     (given : List ℕ) × Consumes r new_r given × Appends w new_w (text_for (whole_lines given))
 earlier_written r new_r w mid_w new_w so_far kept = (

@@ -1,4 +1,4 @@
--- What a checker has taken, byte by byte and line by line.
+-- The bytes and lines that a checker has taken.
 use Rattle.std.proofs.Common.{◌≡◌, ℕ, suc, Bool, true, false, ◌==◌, ◌+◌, ◌-◌, ◌<◌, Option, None, Some, Result, Ok, Err, List, [], ◌∷◌, ◌++◌, length, get_or, take, drop, drop-cons, length-append, length-drop, length-take, refl, sym, ap, subst, ◌∙◌, append_assoc, arith}
 use Rattle.std.specs.Prelude.{OnOk, option_and_then}
 use Rattle.std.specs.Io.KnownBytes.{Appends, Keeps}
@@ -11,7 +11,7 @@ use Rattle.asn1_report.specs.Flattened.{Gives, HasAnswered, flat_state}
 use Rattle.asn1_report.specs.Lines.{lines_of, unended, whole_lines, within_limit}
 use Rattle.asn1_report.specs.Reading.{Ends, HasNoFeed, HasTaken, Takes, TakesSome}
 use Rattle.asn1_report.specs.Report.{State, answer_to, answer_to_end, answers_to, followed_by, start, text_for}
-use Rattle.asn1_report.specs.Seen.{line_seen, state_seen}
+use Rattle.asn1_report.specs.Views.{line_view, state_view}
 use Rattle.asn1_report.specs.declared.checker.Checker.{Checker}
 use Rattle.asn1_report.specs.declared.line.Line.{Line}
 use Rattle.asn1_report.specs.declared.reporter.Reporter.{Reporter}
@@ -27,7 +27,7 @@ answers_to_last given =
 
 -- bytes without a line feed are taken
 pub line_extended : (bytes : List ℕ) (written : Option (List ℕ)) (old : Checker) (line : Line) → HasNoFeed bytes →
-    line_seen line ≡ option_and_then (λ l. within_limit (l ++ bytes)) (line_seen old.line) → Takes bytes written written old (record old { line = line })
+    line_view line ≡ option_and_then (λ l. within_limit (l ++ bytes)) (line_view old.line) → Takes bytes written written old (record old { line = line })
 line_extended bytes written old line none longer = record {
   after = λ given before taken. record {
     line =
@@ -40,8 +40,8 @@ line_extended bytes written old line none longer = record {
 }
 
 -- a line feed is taken, if the line is answered and the text written
-pub line_ended : (old_written new_written : Option (List ℕ)) (old new : Checker) → line_seen new.line ≡ Some [] →
-    ((s : State) → state_seen old.reporter ≡ flat_state s → HasAnswered (answer_to s (line_seen old.line)) new.reporter) →
+pub line_ended : (old_written new_written : Option (List ℕ)) (old new : Checker) → line_view new.line ≡ Some [] →
+    ((s : State) → state_view old.reporter ≡ flat_state s → HasAnswered (answer_to s (line_view old.line)) new.reporter) →
     Appends old_written new_written new.reporter.text.items → Takes (10 ∷ []) old_written new_written old new
 line_ended old_written new_written old new empty answer wrote = record {
   after = λ given before taken.
@@ -61,15 +61,15 @@ line_ended old_written new_written old new empty answer wrote = record {
 
 -- the input has ended, if the last line and the end are answered and the text written
 pub input_ended : (old_written new_written : Option (List ℕ)) (old : Checker) (mid new : Reporter) →
-    ((s : State) → state_seen old.reporter ≡ flat_state s → HasAnswered (answer_to s (line_seen old.line)) mid) →
-    Gives (answer_to_end (state_seen mid)) mid new → Appends old_written new_written new.text.items → Ends old_written new_written old new.all_understood
+    ((s : State) → state_view old.reporter ≡ flat_state s → HasAnswered (answer_to s (line_view old.line)) mid) →
+    Gives (answer_to_end (state_view mid)) mid new → Appends old_written new_written new.text.items → Ends old_written new_written old new.all_understood
 input_ended old_written new_written old mid new answer gives wrote = record {
   after = λ given before taken.
       let whole = answers_to (whole_lines given) in
       let line = within_limit (unended given) in
       let last = subst (λ l. HasAnswered (answer_to whole.state l) mid) taken.line (answer whole.state taken.state) in
       let at_end = answer_to_end (answer_to whole.state line).state in
-      let end : answer_to_end (state_seen mid) ≡ flat_answer at_end = ap answer_to_end last.state ∙ answer_to_end-flat (answer_to whole.state line).state in
+      let end : answer_to_end (state_view mid) ≡ flat_answer at_end = ap answer_to_end last.state ∙ answer_to_end-flat (answer_to whole.state line).state in
       let all = ap (λ answers. followed_by answers answer_to_end) (answers_to_last given) in
       let text : new.text.items ≡ (answer_to whole.state line).text ++ at_end.text = gives.text ∙ (λ i. last.text i ++ (end i).text) in (
         subst (Appends before new_written) (sym (ap (λ answer. answer.text) all ∙ append_assoc whole.text (answer_to whole.state line).text at_end.text))
@@ -111,7 +111,7 @@ at_feed bytes k found =
 pub no_feed_at_all : (bytes : List ℕ) → IsFirstByte (is_byte 10) bytes None → HasNoFeed bytes
 no_feed_at_all bytes none = λ k d lt. ap (λ byte. byte == 10) (get_or_default bytes k d 0 lt) ∙ not_true (get_or bytes k 0 == 10) (none k (omega arith) lt)
 
--- Of the bytes those before the rest are taken.
+-- The bytes before the rest are taken.
 pub record TakenSoFar (bytes rest : List ℕ) (old_written new_written : Option (List ℕ)) (old new : Checker) : Type 0 where
   pub front : List ℕ
   pub parts : bytes ≡ front ++ rest
@@ -131,7 +131,7 @@ nothing_taken bytes written checker = record {
   accepts = record { after = λ given before taken. subst (λ all. HasTaken all before written checker) (sym (append-nil given)) taken };
 }
 
--- what is in a slice from a place on
+-- the rest of a slice from an offset on
 slice_from : (n : ℕ) (bytes : List ℕ) → take (length bytes - n) (drop n bytes) ≡ drop n bytes
 slice_from n bytes = take_all (length bytes - n) (drop n bytes) (let left = length-drop n bytes in omega arith)
 

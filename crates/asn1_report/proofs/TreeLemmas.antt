@@ -1,10 +1,10 @@
--- What several trees add, one after another, and what the definition reads of a text with brackets and of one without.
+-- The leaves that several trees add, one after another, and the definition on texts with brackets and without.
 use Rattle.std.proofs.Common.{◌≡◌, ℕ, zero, suc, ◌-◌, ◌<◌, arith, false, ◌||◌, Option, Some, None, List, ◌++◌, option_map, option_and_then, refl, sym, ap, ◌∙◌, append_assoc}
 use Rattle.std.specs.Option.{option_map_or}
 use Rattle.std.proofs.lemmas.List.{append-nil}
 use Rattle.std.proofs.Math.Bool.{or_assoc, or-false}
 use Rattle.asn1_tags.specs.Trees.{Tree, Trees, leaf, choice, none, more, leaves, leaves_of, is_open, is_any_open, is_nothing}
-use Rattle.asn1_clash.specs.Seen.{Adds}
+use Rattle.asn1_clash.specs.Views.{Adds}
 use Rattle.asn1_clash.specs.declared.flat_tree.FlatTree.{FlatTree}
 use Rattle.asn1_report.specs.Elements.{elements_of}
 use Rattle.asn1_report.specs.Grammar.{tag_of, between_brackets, all_trees, tree_of}

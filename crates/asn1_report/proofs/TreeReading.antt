@@ -1,4 +1,4 @@
--- How a tree is read in its place, and the trees of a choice one after another.
+-- The steps by which a tree is read, and the trees of a choice one after another.
 use Rattle.std.proofs.Common.{◌≡◌, ℕ, suc, ◌+◌, ◌-◌, ◌≤◌, false, List, [], ◌∷◌, ◌++◌, length, get_or, take, drop, Result, Ok, Err, Option, Some, None, refl, sym, ap, ◌∙◌, subst, append_assoc, arith}
 use Rattle.std.specs.Prelude.{All, IfOk, MatchOption}
 use Rattle.std.specs.Fmt.{decimal}
@@ -6,7 +6,7 @@ use Rattle.std.proofs.lemmas.List.{append-nil, take_all}
 use Rattle.std.proofs.lemmas.List.Elements.{All-nil, All-append, All-head}
 use Rattle.asn1_tags.specs.declared.tags.Tag.{Tag}
 use Rattle.asn1_tags.specs.Trees.{Tree, Trees, leaf, choice, none, more, leaves, leaves_of, is_nothing}
-use Rattle.asn1_clash.specs.Seen.{Adds}
+use Rattle.asn1_clash.specs.Views.{Adds}
 use Rattle.asn1_clash.specs.declared.flat_tree.FlatTree.{FlatTree}
 use Rattle.asn1_report.specs.NamesAndNumbers.{begins_with_digit, BeginsWithNumber}
 use Rattle.asn1_report.specs.Spelling.{letter_of, spelling, spelling_of, spelling_after, brackets, brackets_of, BeginsWithTree, BeginsWithTrees, ReadsTree, ReadsChoice}

@@ -5,7 +5,7 @@ use Rattle.std.proofs.lemmas.List.{append-nil}
 use Rattle.std.proofs.lemmas.Bool.{eqb-true, false≢true}
 use Rattle.asn1_tags.specs.Trees.{Tree, leaves, is_open}
 use Rattle.asn1_clash.specs.Flat.{flat, flat_tree}
-use Rattle.asn1_clash.specs.Seen.{Adds, tree_seen}
+use Rattle.asn1_clash.specs.Views.{Adds, tree_view}
 use Rattle.asn1_clash.specs.declared.flat_tree.FlatTree.{FlatTree}
 use Rattle.asn1_report.specs.Grammar.{tree_of}
 use Rattle.asn1_report.specs.Spelling.{spelling, BeginsWithTree, ReadsTree}
@@ -57,10 +57,10 @@ whole_read false depth text (byte ∷ bytes) old new is reads = no_tree_with_mor
 
 -- what an empty flat tree is, once a tree was added to it
 pub tree_added : (found : Option Tree) (old new kept : FlatTree) → old.tags.items ≡ [] → old.has_empty_choice ≡ false → IsSomeAnd found (Adds old new) → kept ≡ new →
-    Some (tree_seen kept) ≡ option_map flat found
+    Some (tree_view kept) ≡ option_map flat found
 tree_added None old new kept no_tags no_choice added same = absurd added
 tree_added (Some tree) old new kept no_tags no_choice added same =
-    ap (λ tree. Some (tree_seen tree)) same
+    ap (λ tree. Some (tree_view tree)) same
     ∙ λ i. Some
     (flat_tree ((added.tags ∙ ap (λ front. front ++ leaves tree) no_tags) i)
     ((added.empty_choice ∙ ap (λ front. front || is_open tree) no_choice) i))

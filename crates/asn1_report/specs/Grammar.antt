@@ -11,8 +11,8 @@ use Rattle.asn1_ranges.specs.declared.bounded.Bounded.{Bounded}
 use Rattle.asn1_ranges.specs.declared.bounded.Bounded.TheVariants as bounded
 use Rattle.asn1_fields.specs.declared.presence.FieldPresence.{FieldPresence}
 use Rattle.asn1_fields.specs.declared.presence.FieldPresence.TheVariants.{Required, Optional, Default}
-use Rattle.asn1_report.specs.declared.kind.Kind.{Kind}
-use Rattle.asn1_report.specs.declared.kind.Kind.TheVariants.{Sequence, Set}
+use Rattle.asn1_report.specs.declared.table_kind.TableKind.{TableKind}
+use Rattle.asn1_report.specs.declared.table_kind.TableKind.TheVariants.{Sequence, Set}
 use Rattle.asn1_report.specs.NamesAndNumbers.{number_of, integer_of}
 use Rattle.asn1_report.specs.Elements.{elements_of}
 use Rattle.asn1_report.specs.Parts.{split_once}
@@ -79,7 +79,7 @@ bounds_of (first ∷ sign ∷ second ∷ []) =
 bounds_of _ = None
 
 -- the kind of table that a word names
-abbrev pub kind_of : List ℕ → Option Kind
+abbrev pub kind_of : List ℕ → Option TableKind
 kind_of word =
     if bytes_eq word (codes "sequence") then Some Sequence
     else (if bytes_eq word (codes "set") then Some Set

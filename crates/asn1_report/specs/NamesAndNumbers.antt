@@ -36,7 +36,7 @@ abbrev pub number_of : List ℕ → Option ℕ
 number_of digits =
     if is_plain_number digits && nat_lt (digits_value 10 digits) (2 ^ 32) then Some (digits_value 10 digits) else None
 
--- What is answered of a text: its number if it spells one; a number above 2^127 may be answered by none.
+-- The answer for a text is its number if it spells one; the answer for a number above 2^127 may be none.
 abbrev pub SpellsNumber : Bool → ℕ → Option ℕ → Type 0
 SpellsNumber spells number result =
     MatchOption result (spells ≡ true → 2 ^ 127 < number) (λ n. (spells ≡ true) × (n ≡ number))

@@ -5,7 +5,7 @@ use Rattle.std.specs.Option.{option_map_or}
 -- a text cut at the first byte of that value: what comes before it, and what comes after it
 unfoldable pub split_once : ℕ → List ℕ → Option (List ℕ × List ℕ)
 split_once separator text =
-    option_map (λ place. (take place text, drop (place + 1) text)) (position (λ byte. byte == separator) text)
+    option_map (λ before. (take before text, drop (before + 1) text)) (position (λ byte. byte == separator) text)
 
 -- the parts of a text: its first word, its second, and what comes after these, with a space between each two
 unfoldable pub parts_of : List ℕ → List (List ℕ)

@@ -4,7 +4,7 @@ use Rattle.std.specs.Io.KnownBytes.{Appends, Consumes, IsAtEnd}
 use Rattle.asn1_report.specs.Flattened.{flat_state}
 use Rattle.asn1_report.specs.Lines.{unended, whole_lines, within_limit}
 use Rattle.asn1_report.specs.Report.{all_understood, answers_to, report, text_for}
-use Rattle.asn1_report.specs.Seen.{line_seen, state_seen}
+use Rattle.asn1_report.specs.Views.{line_view, state_view}
 use Rattle.asn1_report.specs.declared.checker.Checker.{Checker}
 
 -- No byte is a line feed.
@@ -14,8 +14,8 @@ HasNoFeed bytes = All (λ byte. (byte == 10) ≡ false) bytes
 -- A checker has taken these bytes. It keeps the line that has not ended and what the answers to the next lines depend on,
 -- and the text for the lines that have ended is written after what was written before.
 pub record HasTaken (given : List ℕ) (before written : Option (List ℕ)) (checker : Checker) : Type 0 where
-  pub line : line_seen checker.line ≡ within_limit (unended given)
-  pub state : state_seen checker.reporter ≡ flat_state (answers_to (whole_lines given)).state
+  pub line : line_view checker.line ≡ within_limit (unended given)
+  pub state : state_view checker.reporter ≡ flat_state (answers_to (whole_lines given)).state
   pub text : Appends before written (text_for (whole_lines given))
 
 -- A checker takes these bytes after all that it has taken before.
@@ -27,7 +27,7 @@ pub record Takes (bytes : List ℕ) (old_written new_written : Option (List ℕ)
 abbrev pub one_read : ℕ
 one_read = 32 * 1024
 
--- Of these bytes all but the last were taken, of which no more than a number are left: the text for the lines that ended among
+-- These bytes were taken but for the last ones, at most `most` of them: the text for the lines that ended among
 -- those that were taken is written after what was written before.
 pub record HasTakenSome (given : List ℕ) (most : ℕ) (before written : Option (List ℕ)) : Type 0 where
   pub taken : List ℕ
@@ -52,7 +52,7 @@ pub record ReadSoFar (read_old read_new before written : Option (List ℕ)) : Ty
   pub took : Consumes read_old read_new given
   pub text : Appends before written (text_for (whole_lines given))
 
--- Of what was read all was taken but some of what the last read gave.
+-- All bytes that were read were taken, but some of the last read.
 pub record ReadInPart (read_old read_new before written : Option (List ℕ)) : Type 0 where
   pub given : List ℕ
   pub took : Consumes read_old read_new given

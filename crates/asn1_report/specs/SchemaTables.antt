@@ -1,20 +1,20 @@
--- Tables: the components of a SEQUENCE or a SET, line by line, and what is said of them.
+-- Tables: the components of a SEQUENCE or a SET, line by line, and their verdicts.
 use Rattle.std.specs.Prelude.{ℕ, Bool, true, false, ◌++◌, nat_lt, if◌then◌else◌, codes, List, [], ◌∷◌, Option, None, Some, length}
 use Rattle.std.specs.Fmt.{decimal}
 use Rattle.asn1_fields.specs.CanonicalOrder.{canonical}
 use Rattle.asn1_fields.specs.DistinctTags.{sequence_clash, set_clash}
 use Rattle.asn1_fields.specs.Entries.{Component}
-use Rattle.asn1_report.specs.declared.kind.Kind.{Kind}
-use Rattle.asn1_report.specs.declared.kind.Kind.TheVariants.{Sequence, Set}
+use Rattle.asn1_report.specs.declared.table_kind.TableKind.{TableKind}
+use Rattle.asn1_report.specs.declared.table_kind.TableKind.TheVariants.{Sequence, Set}
 use Rattle.asn1_report.specs.Texts.{named_line}
 
 -- the word that begins a table of that kind
-abbrev pub kind_word : Kind → List ℕ
+abbrev pub kind_word : TableKind → List ℕ
 kind_word Sequence = codes "sequence"
 kind_word Set = codes "set"
 
--- the least pair of places whose components share a tag although X.680 forbids it in a table of that kind
-abbrev pub clash_of : Kind → List Component → Option (ℕ × ℕ)
+-- the least pair of indices whose components share a tag although X.680 forbids it in a table of that kind
+abbrev pub clash_of : TableKind → List Component → Option (ℕ × ℕ)
 clash_of Sequence components = sequence_clash components
 clash_of Set components = set_clash components
 
@@ -29,7 +29,7 @@ order_text in_order = if in_order then codes "canonical" else codes "not canonic
 
 -- a table whose `end` has not come yet
 pub record Table : Type 0 where
-  pub kind : Kind
+  pub kind : TableKind
   pub name : List ℕ
   pub components : List Component
   -- whether each of its lines so far was understood
@@ -40,7 +40,7 @@ abbrev pub most_components : ℕ
 most_components = 256
 
 -- a table that begins
-abbrev pub new_table : Kind → List ℕ → Table
+abbrev pub new_table : TableKind → List ℕ → Table
 new_table kind name = record { kind = kind; name = name; components = []; understood = true }
 
 -- a table with one more component
@@ -55,11 +55,11 @@ unchecked table = record table { understood = false }
 abbrev pub has_room : Table → Bool
 has_room table = nat_lt (length table.components) most_components
 
--- a table's line of text: its head line, and what is said of it
+-- a table's line of text: its head line, and the verdict
 abbrev pub table_line : Table → List ℕ → List ℕ
 table_line table said = named_line (kind_word table.kind) table.name said
 
--- what is said of a table of which a line was not understood, or which has no `end`
+-- the verdict on a table with a line that was not understood, or without `end`
 abbrev pub unchecked_text : List ℕ
 unchecked_text = codes "not checked"
 

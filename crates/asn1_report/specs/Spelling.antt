@@ -2,7 +2,7 @@
 use Rattle.std.specs.Prelude.{◌≡◌, ◌≤◌, ◌<◌, ◌^◌, ℕ, ◌+◌, max, Bool, true, not, ◌++◌, List, [], ◌∷◌}
 use Rattle.std.specs.List.{All}
 use Rattle.std.specs.Fmt.{decimal}
-use Rattle.asn1_clash.specs.Seen.{Adds}
+use Rattle.asn1_clash.specs.Views.{Adds}
 use Rattle.asn1_clash.specs.declared.flat_tree.FlatTree.{FlatTree}
 use Rattle.asn1_tags.specs.Trees.{Tree, Trees, leaf, choice, none, more, leaves, leaves_of}
 use Rattle.asn1_tags.specs.declared.classes.Class.{Class}

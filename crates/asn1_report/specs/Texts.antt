@@ -7,7 +7,7 @@ use Rattle.asn1_ranges.specs.declared.bounded.Bounded.{Bounded}
 use Rattle.asn1_tags.specs.Tags.{distinct, smallest, tag_text}
 use Rattle.asn1_tags.specs.declared.tags.Tag.{Tag}
 
--- a line of text: a word, a name or a number, and what is said of it
+-- a line of text: a word, a name or a number, and the verdict
 abbrev pub named_line : List ℕ → List ℕ → List ℕ → List ℕ
 named_line word name said = word ++ codes " " ++ name ++ codes ": " ++ said ++ 10 ∷ []
 

@@ -10,7 +10,7 @@ use memchr::memchr;
 use std::alloc::{AllocError, Global};
 use std::io::Write;
 
-/// What a check keeps of its input: the line that has not ended, and what the answers to the next lines depend on.
+/// The state of a check: the line that has not ended, and the state on which the answers to the next lines depend.
 #[derive(Drop)]
 pub(crate) struct Checker {
     line: Line,
@@ -40,7 +40,7 @@ impl Checker {
         self.line.extend(bytes)
     }
 
-    // Takes a line feed: answers the line that it ends, and writes the text. Where memory runs out, nothing is written.
+    // Takes a line feed: answers the line that it ends, and writes the text. If memory runs out, nothing is written.
     fn end_line<W: Write>(&mut self, writer: &mut W) -> Result<(), CheckError>
         ensures taken { OnOk result
             (Takes (10 ∷ []) (W.contents writer.old) (W.contents writer.new) self.old self.new) }
@@ -53,7 +53,7 @@ impl Checker {
         write_text(self.reporter.text(), writer)
     }
 
-    /// Answers the last line and the end of the input, and says whether all was understood. Where memory runs out, nothing
+    /// Answers the last line and the end of the input, and says whether all was understood. If memory runs out, nothing
     /// is written.
     pub(crate) fn end_input<W: Write>(&mut self, writer: &mut W) -> Result<bool, CheckError>
         ensures ended { IfOk result (Ends (W.contents writer.old) (W.contents writer.new)
@@ -68,8 +68,8 @@ impl Checker {
         Ok(self.reporter.all_understood())
     }
 
-    /// Takes what a read gave: writes the text for each line that ends among the bytes, and hands it on, so that whoever
-    /// waits for the answer to a line sees it.
+    /// Takes the bytes of a read: writes the text for each line that ends among them, and flushes the writer, so that a
+    /// reader who waits for the answer to a line sees it.
     pub(crate) fn take<W: Write>(&mut self, bytes: &[u8], writer: &mut W) -> Result<(), CheckError>
         ensures taken { OnOk result
             (Takes bytes.now (W.contents writer.old) (W.contents writer.new) self.old self.new) }

@@ -10,36 +10,36 @@ use crate::error::CheckError;
 use std::alloc::Global;
 use std::io::{ErrorKind, Read, Write};
 
-// How many bytes a read may give.
+// The greatest number of bytes of a read.
 const BUFFER_LENGTH: usize = 32 * 1024;
 
 /// Reads schema tables line by line, writes the verdicts, and says whether every line was understood and every table had
 /// its `end`.
 ///
-/// Of the input no more is kept than a line, of which no more than 4096 bytes, and the leaves of the table that is open. A
-/// line's text is written by one call, so a writer with a buffer serves best. It is flushed after each read, so that whoever
-/// waits for the answers to the lines that have ended sees them, and before the check ends, unless a write failed.
+/// The check keeps at most 4096 bytes of a line, and the leaves of the table that is open. Each line's text is one call of
+/// the writer, so give it a writer with a buffer. It is flushed after each read, so that a reader who waits for the answers
+/// to the lines that have ended sees them, and before the check ends, unless a write failed.
 ///
 /// An interrupted read is tried again. A read that fails, or 2^64 - 1 reads that meet no end of the input, answer
-/// [`CheckError::Reading`]; then the text for all lines that had ended is written. Where memory runs out it answers
-/// [`CheckError::Memory`]; then the text for the lines before the one for which it ran out is written. The clause `memory` says
-/// so of all that was read but the last 32 KiB at most, since no clause can name the last read; tests show the exact text. A
-/// table that is open then has neither its verdict nor `not checked`. After [`CheckError::Writing`] nothing is known of what is
-/// written.
+/// [`CheckError::Reading`]; then the text for all lines that had ended is written. If memory runs out, the answer is
+/// [`CheckError::Memory`]; then the text for the lines before the one for which it ran out is written. The clause `memory`
+/// covers all bytes that were read but the last 32 KiB at most, since no clause can name the last read; tests show the exact
+/// text. A table that is open then has neither its verdict nor `not checked`. After [`CheckError::Writing`] nothing is known
+/// of the text that was written.
 pub fn check<R: Read, W: Write>(
     alloc: Global,
     reader: &mut R,
     writer: &mut W,
 ) -> Result<bool, CheckError>
-    // What is written is the report of what was read, to the end.
+    // The report on the whole input is written.
     ensures report { OnOk result (IfSome (R.remaining reader.old) (λ input.
         Appends (W.contents writer.old) (W.contents writer.new) (report input))) }
     ensures understood { IfOk result (λ answer.
         IfSome (R.remaining reader.old) (λ input. answer ≡ all_understood input)) }
     ensures read { OnOk result (IsAtEnd (R.remaining reader.new)) }
 
-    // After an error it is the text for the lines that had ended among what was read, or, where memory ran out, among all of it
-    // but the last bytes, no more than one read gives.
+    // After an error it is the text for the lines that had ended among the bytes that were read, or, if memory ran out, among
+    // all of them but the last ones, at most those of one read.
     ensures reading { IsErrOf result CheckError.Reading → (given : List ℕ)
         × Consumes (R.remaining reader.old) (R.remaining reader.new) given
         × Appends (W.contents writer.old) (W.contents writer.new) (text_for (whole_lines given)) }
@@ -56,8 +56,8 @@ pub fn check<R: Read, W: Write>(
     answer
 }
 
-// Reads to the end of the input, writes the text for each line, and says whether all was understood. After each read the
-// text for all lines that have ended is handed on.
+// Reads to the end of the input, writes the text for each line, and says whether all was understood. After each read
+// the writer is flushed.
 //
 // An interrupted read is tried again. After an error some of the input may be read.
 fn read_to_end<R: Read, W: Write>(

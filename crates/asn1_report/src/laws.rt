@@ -1,4 +1,4 @@
-//! What the derived members of the error, and its conversion, say.
+//! The laws of the derived members of the error, and of its conversion.
 ghost use Rattle.std.specs.Prelude.{◌≡◌, ◌↔◌, IsTrue};
 ghost use Rattle.std.specs.declared.alloc.AllocError.{AllocError};
 ghost use Rattle.asn1_report.specs.declared.error.CheckError.{CheckError};
@@ -9,7 +9,7 @@ use std::alloc::AllocError;
 /// Errors of a check are equal if and only if they are the same case. A clone of an error is that error, and no clone
 /// fails. A refused allocation becomes [`CheckError::Memory`].
 ///
-/// This does nothing: its contract is what the derives and the conversion of the error have to mean.
+/// The function does nothing: its contract states the laws of the derives and of the conversion.
 pub fn errors_are_compared_by_case()
     ensures equality { (a b : CheckError) →
         (IsTrue (⟦<CheckError as PartialEq>⟧.eq a b) ↔ (a ≡ b)) }

@@ -8,29 +8,28 @@
 //!
 //! The program is [`check`] on standard input and output, whose contract is the theorem:
 //!
-//! * `report`: what is written is `report` of what was read, the one definition in `specs/Report.antt`;
+//! * `report`: the text that is written is `report` of the bytes that were read, the one definition in `specs/Report.antt`;
 //! * `understood`: the answer is true if and only if each line was understood, and each table had its `end`;
-//! * `reading`, `memory`: what is written after a failed read, and after memory ran out.
+//! * `reading`, `memory`: the text that is written before a failed read, and before memory ran out.
 //!
-//! The definition is a function over the lines, from what an answer depends on to an answer. Its words: `specs/Lines.antt` has
-//! the lines of an input, `specs/Parts.antt` how a line is cut, `specs/Statements.antt` what a line says, `specs/NamesAndNumbers.antt` and
-//! `specs/Grammar.antt` names, numbers, tags, trees and bounds, `specs/SchemaTables.antt` and `specs/Texts.antt` tables and what is
-//! said of them; clashes and the canonical order are words of asn1_fields. The code has the same steps and the same types:
-//! `Parts` is what a line is cut into, `Statement` what it says, and `Reporter` answers it.
+//! The definition is a function over the lines, from a state to an answer with the next state. Its words: `specs/Lines.antt` has
+//! the lines of an input, `specs/Parts.antt` their parts, `specs/Statements.antt` their statements, `specs/NamesAndNumbers.antt` and
+//! `specs/Grammar.antt` names, numbers, tags, trees and bounds, `specs/SchemaTables.antt` and `specs/Texts.antt` tables and
+//! verdicts; clashes and the canonical order are words of asn1_fields. The code has the same steps and the same types: a line is
+//! cut into `Parts`, `StatementParser` parses them to a `Statement`, and `Reporter` answers it.
 //!
 //! Laws of the definition: [`trees_are_read_of_their_texts`] (a text is read as a tree if and only if it is that tree's text, as
-//! `specs/Spelling.antt` writes it, and stays within the limits) and [`verdicts_mean_what_they_say`]. What the derived members of
-//! the error say is the contract of the function in [`laws`].
+//! `specs/Spelling.antt` writes it, and stays within the limits) and [`verdicts_mean_what_they_say`]. The function in [`laws`] states
+//! the laws of the derived members of the error.
 //!
-//! What the program keeps of a tree is its flat form, of `asn1_clash` (`specs/Flattened.antt`). `specs/Reading.antt` says what it
-//! keeps between two reads, `specs/Seen.antt` what the types of this crate mean.
+//! The program keeps the flat form of a tree (`asn1_clash`; `specs/Flattened.antt`). `specs/Reading.antt` has its state between two
+//! reads, `specs/Views.antt` the values that the types of this crate represent.
 #![tactic(auto)]
 
 mod bound;
 mod checker;
 mod error;
 mod input;
-mod kind;
 pub mod laws;
 mod line;
 mod names;
@@ -40,6 +39,7 @@ mod parts;
 mod reporter;
 mod statement;
 mod table;
+mod table_kind;
 mod texts;
 mod tree;
 mod verdict;

@@ -1,4 +1,4 @@
-//! What goes to the writer.
+//! Calls of the writer.
 ghost use Rattle.std.specs.Prelude.{◌≡◌, OnOk, IfErr};
 ghost use Rattle.std.specs.Io.KnownBytes.{Appends, Keeps};
 
@@ -14,7 +14,7 @@ pub(crate) fn write_text<W: Write>(text: &[u8], writer: &mut W) -> Result<(), Ch
     writer.write_all(text).map_err(|_| CheckError::Writing)
 }
 
-/// Hands on what was written.
+/// Flushes the writer.
 pub(crate) fn flush<W: Write>(writer: &mut W) -> Result<(), CheckError>
     ensures kept { Keeps (W.contents writer.old) (W.contents writer.new) }
     ensures failed { IfErr result (λ error. error ≡ CheckError.Writing) }

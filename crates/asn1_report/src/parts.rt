@@ -1,20 +1,20 @@
-//! How a text is cut into parts.
+//! The parts of a text.
 ghost use Rattle.std.specs.Prelude.{◌≡◌, ◌==◌, option_map, position};
 ghost use Rattle.asn1_report.specs.Parts.{parts_of, split_once};
 
-/// What comes before the first byte of that value, and what comes after it, if the text has such a byte.
+/// The bytes before the first byte of this value, and the bytes after it, if the text has such a byte.
 #[tactic(auto, unfolding(crate::specs::Parts::split_once))]
 pub(crate) fn split_once(text: &[u8], separator: u8) -> Option<(&[u8], &[u8])>
     ensures cut { option_map (λ (before, after). (before.now, after.now)) result
         ≡ split_once separator text.now }
 {
-    let place = place_of(text, separator)?;
-    Some((&text[..place], &text[place + 1..]))
+    let position = position_of(text, separator)?;
+    Some((&text[..position], &text[position + 1..]))
 }
 
-// Where the first byte of that value is.
-fn place_of(text: &[u8], separator: u8) -> Option<usize>
-    ensures place { result ≡ position (λ byte. byte == separator) text.now }
+// The position of the first byte of that value.
+fn position_of(text: &[u8], separator: u8) -> Option<usize>
+    ensures found { result ≡ position (λ byte. byte == separator) text.now }
 {
     text.iter().position(|byte| *byte == separator)
 }
@@ -31,12 +31,12 @@ pub(crate) enum Parts<'a> {
 }
 
 impl<'a> Parts<'a> {
-    ghost use Rattle.asn1_report.specs.Seen.{parts_seen};
+    ghost use Rattle.asn1_report.specs.Views.{parts_view};
 
     /// Cuts the text into its parts.
     #[tactic(auto, unfolding(crate::specs::Parts::parts_of))]
     pub(crate) fn of(text: &'a [u8]) -> Parts<'a>
-        ensures cut { parts_seen result ≡ parts_of text.now }
+        ensures cut { parts_view result ≡ parts_of text.now }
     {
         match split_once(text, b' ') {
             None => Parts::One(text),

@@ -1,12 +1,12 @@
 //! The answers to lines.
 ghost use Rattle.std.specs.Prelude.{◌≡◌, OnOk, option_map};
-ghost use Rattle.asn1_clash.specs.Seen.{component_seen, tree_seen};
+ghost use Rattle.asn1_clash.specs.Views.{component_view, tree_view};
 ghost use Rattle.asn1_report.specs.Report.{State, start, refusal, answer_of, answer_to, answer_to_end};
 ghost use Rattle.asn1_report.specs.Statements.{names_tree, names_bounds, begins_table, adds_component, ends_table};
 
-use crate::kind::Kind;
-use crate::statement::{Reader, Statement};
+use crate::statement::{Statement, StatementParser};
 use crate::table::Table;
+use crate::table_kind::TableKind;
 use crate::texts::{write_refusal, write_verdict};
 use crate::verdict::TreeVerdict;
 use asn1_clash::{FlatComponent, FlatTree, TreeSummary};
@@ -17,7 +17,7 @@ use std::alloc::{AllocError, Global};
 #[derive(Drop)]
 pub(crate) struct Reporter {
     alloc: Global,
-    reader: Reader,
+    parser: StatementParser,
     // How many lines there were.
     number: u64,
     // The table that is open.
@@ -30,15 +30,15 @@ pub(crate) struct Reporter {
 
 impl Reporter {
     ghost use Rattle.asn1_report.specs.Flattened.{Gives, HasAnswered, flat_state};
-    ghost use Rattle.asn1_report.specs.Seen.{state_seen, statement_seen};
+    ghost use Rattle.asn1_report.specs.Views.{state_view, statement_view};
 
     /// Before the first line.
     pub(crate) fn new(alloc: Global) -> Reporter
-        ensures state { state_seen result ≡ start }
+        ensures state { state_view result ≡ start }
     {
         Reporter {
             alloc,
-            reader: Reader::new(alloc),
+            parser: StatementParser::new(alloc),
             number: 0,
             table: None,
             all_understood: true,
@@ -62,14 +62,14 @@ impl Reporter {
 
     /// Answers a line, as far as it is looked at.
     pub(crate) fn answer(&mut self, line: Option<&[u8]>) -> Result<(), AllocError>
-        ensures answered { (s : State) → state_seen self.old ≡ flat_state s →
+        ensures answered { (s : State) → state_view self.old ≡ flat_state s →
             OnOk result
             (HasAnswered (answer_to s (option_map (λ bytes. bytes.now) line.entry)) self.new) }
     {
         self.text.clear();
         self.number = self.number.saturating_add(1);
         let in_table = self.table.is_some();
-        match self.reader.read(line, in_table)? {
+        match self.parser.parse(line, in_table)? {
             Some(statement) => self.answer_statement(statement),
             None => self.refuse_line(),
         }
@@ -78,7 +78,7 @@ impl Reporter {
     /// Adds the answer to the end of the input to the last answer.
     pub(crate) fn answer_end(&mut self) -> Result<(), AllocError>
         ensures given { OnOk result
-            (Gives (answer_to_end (state_seen self.old)) self.old self.new) }
+            (Gives (answer_to_end (state_view self.old)) self.old self.new) }
     {
         if let Some(table) = &self.table {
             self.all_understood = false;
@@ -90,7 +90,7 @@ impl Reporter {
     // Adds the answer to what a line says.
     fn answer_statement(&mut self, statement: Statement<'_>) -> Result<(), AllocError>
         ensures given { OnOk result
-            (Gives (answer_of (state_seen self.old) (statement_seen statement.entry))
+            (Gives (answer_of (state_view self.old) (statement_view statement.entry))
             self.old self.new) }
     {
         match statement {
@@ -110,12 +110,12 @@ impl Reporter {
     // Adds the verdict on a tree, whose room the next tree takes.
     fn answer_tree(&mut self, name: &[u8], mut tree: FlatTree) -> Result<(), AllocError>
         ensures given { OnOk result
-            (Gives (answer_of (state_seen self.old) (names_tree name.now (tree_seen tree)))
+            (Gives (answer_of (state_view self.old) (names_tree name.now (tree_view tree)))
             self.old self.new) }
     {
         let verdict = TreeVerdict(TreeSummary::of(&mut tree.tags));
         write_verdict("tree", name, verdict, &mut self.text)?;
-        self.reader.reuse(tree);
+        self.parser.reuse(tree);
         Ok(())
     }
 
@@ -127,7 +127,7 @@ impl Reporter {
         second: Bounded<i128>,
     ) -> Result<(), AllocError>
         ensures given { OnOk result
-            (Gives (answer_of (state_seen self.old) (names_bounds name.now first second))
+            (Gives (answer_of (state_view self.old) (names_bounds name.now first second))
             self.old self.new) }
     {
         match first.intersect(second) {
@@ -137,9 +137,9 @@ impl Reporter {
     }
 
     // Begins a table.
-    fn begin_table(&mut self, kind: Kind, name: &[u8]) -> Result<(), AllocError>
+    fn begin_table(&mut self, kind: TableKind, name: &[u8]) -> Result<(), AllocError>
         ensures given { OnOk result
-            (Gives (answer_of (state_seen self.old) (begins_table kind name.now))
+            (Gives (answer_of (state_view self.old) (begins_table kind name.now))
             self.old self.new) }
     {
         self.table = Some(Table::new(self.alloc, kind, name)?);
@@ -149,7 +149,7 @@ impl Reporter {
     // Adds a component to the table that is open, unless it is one too many.
     fn add_component(&mut self, component: FlatComponent) -> Result<(), AllocError>
         ensures given { OnOk result
-            (Gives (answer_of (state_seen self.old) (adds_component (component_seen component)))
+            (Gives (answer_of (state_view self.old) (adds_component (component_view component)))
             self.old self.new) }
     {
         match &mut self.table {
@@ -161,7 +161,7 @@ impl Reporter {
     // Ends the table that is open, and adds the verdict on it.
     fn end_table(&mut self) -> Result<(), AllocError>
         ensures given { OnOk result
-            (Gives (answer_of (state_seen self.old) ends_table) self.old self.new) }
+            (Gives (answer_of (state_view self.old) ends_table) self.old self.new) }
     {
         match self.table.take() {
             Some(table) => table.write_end(self.alloc, &mut self.text),
@@ -171,7 +171,7 @@ impl Reporter {
 
     // Adds that the line is not understood, which the table that is open keeps in mind.
     fn refuse_line(&mut self) -> Result<(), AllocError>
-        ensures given { OnOk result (Gives (refusal (state_seen self.old)) self.old self.new) }
+        ensures given { OnOk result (Gives (refusal (state_view self.old)) self.old self.new) }
     {
         self.all_understood = false;
         if let Some(table) = &mut self.table {

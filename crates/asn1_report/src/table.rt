@@ -1,9 +1,9 @@
 //! A table whose `end` has not come yet.
 ghost use Rattle.std.specs.Prelude.{◌≡◌, ◌++◌, IfOk, OnOk};
-ghost use Rattle.asn1_clash.specs.Seen.{component_seen, components_seen};
+ghost use Rattle.asn1_clash.specs.Views.{component_view, components_view};
 ghost use Rattle.asn1_report.specs.SchemaTables.{clash_of, has_room, new_table, table_line, table_verdict, unchecked, unchecked_text, with_component};
 
-use crate::kind::Kind;
+use crate::table_kind::TableKind;
 use crate::texts::write_verdict;
 use crate::verdict::TableVerdict;
 use asn1_clash::{FlatComponent, find_sequence_clash, find_set_clash, is_canonical};
@@ -15,18 +15,18 @@ const MOST_COMPONENTS: usize = 256;
 /// A table whose `end` has not come yet.
 #[derive(Drop)]
 pub(crate) struct Table {
-    kind: Kind,
+    kind: TableKind,
     name: Vec<u8>,
     components: Vec<FlatComponent>,
     is_understood: bool,
 }
 
 impl Table {
-    ghost use Rattle.asn1_report.specs.Seen.{table_seen};
+    ghost use Rattle.asn1_report.specs.Views.{table_view};
 
     /// A table that begins.
-    pub(crate) fn new(alloc: Global, kind: Kind, name: &[u8]) -> Result<Table, AllocError>
-        ensures begun { IfOk result (λ table. table_seen table ≡ new_table kind name.now) }
+    pub(crate) fn new(alloc: Global, kind: TableKind, name: &[u8]) -> Result<Table, AllocError>
+        ensures begun { IfOk result (λ table. table_view table ≡ new_table kind name.now) }
     {
         Ok(Table {
             kind,
@@ -38,23 +38,23 @@ impl Table {
 
     /// Whether the table has room for one more component.
     pub(crate) fn has_room(&self) -> bool
-        ensures room { result ≡ has_room (table_seen self.now) }
+        ensures room { result ≡ has_room (table_view self.now) }
     {
         self.components.len() < MOST_COMPONENTS
     }
 
     /// Adds a component after the others.
     pub(crate) fn push(&mut self, component: FlatComponent) -> Result<(), AllocError>
-        ensures added { OnOk result (table_seen self.new
-            ≡ with_component (table_seen self.old) (component_seen component)) }
+        ensures added { OnOk result (table_view self.new
+            ≡ with_component (table_view self.old) (component_view component)) }
     {
         self.components.push(component)?;
         Ok(())
     }
 
-    /// Keeps in mind that a line of the table was not understood.
+    /// Marks the table as one with a line that was not understood.
     pub(crate) fn refuse_line(&mut self)
-        ensures refused { table_seen self.new ≡ unchecked (table_seen self.old) }
+        ensures refused { table_view self.new ≡ unchecked (table_view self.old) }
     {
         self.is_understood = false;
     }
@@ -62,7 +62,7 @@ impl Table {
     /// Writes the text for the table's `end`.
     pub(crate) fn write_end(&self, alloc: Global, text: &mut Vec<u8>) -> Result<(), AllocError>
         ensures verdict { OnOk result
-            (text.new.items ≡ text.old.items ++ table_verdict (table_seen self.now)) }
+            (text.new.items ≡ text.old.items ++ table_verdict (table_view self.now)) }
     {
         if !self.is_understood {
             return self.write_not_checked(text);
@@ -77,19 +77,19 @@ impl Table {
     /// Writes that the table is not checked.
     pub(crate) fn write_not_checked(&self, text: &mut Vec<u8>) -> Result<(), AllocError>
         ensures verdict { OnOk result
-            (text.new.items ≡ text.old.items ++ table_line (table_seen self.now) unchecked_text) }
+            (text.new.items ≡ text.old.items ++ table_line (table_view self.now) unchecked_text) }
     {
         write_verdict(self.kind.word(), &self.name, "not checked", text)
     }
 
-    // The least pair of places whose components share a tag although X.680 forbids it.
+    // The least pair of indices whose components share a tag although X.680 forbids it.
     fn first_clash(&self, alloc: Global) -> Result<Option<(usize, usize)>, AllocError>
         ensures least { IfOk result
-            (λ clash. clash ≡ clash_of self.now.kind (components_seen self.now.components.items)) }
+            (λ clash. clash ≡ clash_of self.now.kind (components_view self.now.components.items)) }
     {
         match self.kind {
-            Kind::Sequence => find_sequence_clash(alloc, &self.components),
-            Kind::Set => find_set_clash(alloc, &self.components),
+            TableKind::Sequence => find_sequence_clash(alloc, &self.components),
+            TableKind::Set => find_set_clash(alloc, &self.components),
         }
     }
 }

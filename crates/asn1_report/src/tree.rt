@@ -3,7 +3,7 @@ ghost use Rattle.std.specs.Prelude.{◌≡◌, ℕ, ◌^◌, ◌<◌, ◌≤◌,
 ghost use Rattle.asn1_tags.specs.Trees.{Tree, Trees, leaf, leaves};
 ghost use Rattle.asn1_tags.specs.declared.tags.Tag.{Tag};
 ghost use Rattle.asn1_report.specs.Grammar.{class_of, deepest, tree_of};
-ghost use Rattle.asn1_clash.specs.Seen.{Adds};
+ghost use Rattle.asn1_clash.specs.Views.{Adds};
 ghost use Rattle.asn1_report.specs.Spelling.{spelling, brackets, BeginsWithTree, BeginsWithTrees, ReadsTree, ReadsChoice};
 
 use crate::number::read_number;
@@ -16,7 +16,7 @@ const DEEPEST: u8 = 16;
 
 /// Whether the text is a tree, up to its end.
 ///
-/// Adds the tree to `flat`. Where the text is no tree, something of it may be added too.
+/// Adds the tree to `flat`. If the text is no tree, leaves of its beginning may be added.
 pub(crate) fn read_whole_tree(text: &[u8], flat: &mut FlatTree) -> Result<bool, AllocError>
     ensures read { IfOk result (λ is_tree. MatchBool is_tree
         (IsSomeAnd (tree_of deepest text.now) (Adds flat.old flat.new))
@@ -28,11 +28,11 @@ pub(crate) fn read_whole_tree(text: &[u8], flat: &mut FlatTree) -> Result<bool, 
     }
 }
 
-// Reads the tree with which the text begins, with at most `depth` brackets open at once, and gives what is left of the
+// Reads the tree with which the text begins, with at most `depth` brackets open at once, and gives the rest of the
 // text after it.
 //
-// Adds the tree to `flat`. Where the text begins with no tree, something of it may be added too. It is inlined, so that
-// a tag among the trees of a choice is read without a call.
+// Adds the tree to `flat`. If the text begins with no tree, leaves of its beginning may be added. The function is inlined,
+// so that a tag among the trees of a choice is read without a call.
 #[cycle(tree)]
 #[inline(always)]
 fn read_tree<'a>(
@@ -86,7 +86,7 @@ fn read_choice<'a>(
     Ok(None)
 }
 
-// Reads the tag with which the text begins, the letter of its class and its number, and gives what is left of the text.
+// Reads the tag with which the text begins, the letter of its class and its number, and gives the rest of the text.
 #[inline(always)]
 fn read_tag(text: &[u8]) -> Option<(Tag, &[u8])>
     ensures read { MatchOption result

@@ -7,11 +7,11 @@ ghost use Rattle.asn1_fields.specs.DistinctTags.{IsLeast, IsSequenceClash, IsSet
 ghost use Rattle.asn1_fields.specs.Entries.{Component};
 ghost use Rattle.asn1_report.specs.SchemaTables.{clash_of};
 
-use crate::kind::Kind;
+use crate::table_kind::TableKind;
 use asn1_clash::TreeSummary;
 use std::fmt;
 
-/// What is said of a tree: whether a tag occurs twice, the smallest tag, and how many leaves there are.
+/// The verdict on a tree: whether a tag occurs twice, the smallest tag, and how many leaves there are.
 #[derive(Clone, Copy)]
 pub(crate) struct TreeVerdict(pub(crate) TreeSummary);
 
@@ -34,24 +34,24 @@ impl fmt::Display for TreeVerdict {
 }
 
 /// Laws of the definition of a verdict. On a tree: its smallest tag is one of the tags and at most each of them, and it
-/// says `unique` if and only if no tag occurs twice. On a table: the clash is the least pair of places whose components
+/// says `unique` if and only if no tag occurs twice. On a table: the clash is the least pair of indices whose components
 /// share a tag although X.680 forbids it, and none if and only if there is no such pair; and it says `canonical` if and
 /// only if no component's smallest tag is above the next one's.
 pub fn verdicts_mean_what_they_say()
     ensures smallest { (tags : List Tag) → IsSmallest tags (smallest tags) }
     ensures unique { (tags : List Tag) → IsTrue (distinct tags) ↔ AllPairs (λ s t. s ≢ t) tags }
     ensures sequence { (components : List Component) →
-        IsLeast (IsSequenceClash components) (clash_of Kind.Sequence components) }
+        IsLeast (IsSequenceClash components) (clash_of TableKind.Sequence components) }
     ensures set { (components : List Component) →
-        IsLeast (IsSetClash components) (clash_of Kind.Set components) }
+        IsLeast (IsSetClash components) (clash_of TableKind.Set components) }
     ensures order { (components : List Component) →
         IsTrue (canonical components) ↔ IsCanonical components }
 {}
 
-/// What is said of a table: its first clash, and whether its components are in canonical order.
+/// The verdict on a table: its first clash, and whether its components are in canonical order.
 #[derive(Clone, Copy)]
 pub(crate) struct TableVerdict {
-    /// The least pair of places whose components share a tag although X.680 forbids it.
+    /// The least pair of indices whose components share a tag although X.680 forbids it.
     pub(crate) clash: Option<(usize, usize)>,
     /// Whether no component's smallest tag is above the next one's.
     pub(crate) is_canonical: bool,

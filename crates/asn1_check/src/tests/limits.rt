@@ -18,11 +18,11 @@ fn assert_line(
     alloc: Global,
     (start, text, count, end): (&str, &str, usize, &str),
     understood: bool,
-    wanted: &str,
+    expected: &str,
 ) {
     let middle = repeated(rt, alloc, text, count);
     let line = format!(in alloc; "{start}{middle}{end}").expect(rt, "memory");
-    assert_report(rt, alloc, line.as_bytes(), understood, wanted.as_bytes());
+    assert_report(rt, alloc, line.as_bytes(), understood, expected.as_bytes());
 }
 
 const NOT_UNDERSTOOD: &str = "line 1: not understood\n";
@@ -63,12 +63,12 @@ fn assert_depth(
     count: usize,
     inside: &str,
     understood: bool,
-    wanted: &str,
+    expected: &str,
 ) {
     let open = repeated(rt, alloc, "(", count);
     let close = repeated(rt, alloc, ")", count);
     let line = format!(in alloc; "tree t {open}{inside}{close}").expect(rt, "memory");
-    assert_report(rt, alloc, line.as_bytes(), understood, wanted.as_bytes());
+    assert_report(rt, alloc, line.as_bytes(), understood, expected.as_bytes());
 }
 
 #[test]
@@ -83,14 +83,20 @@ fn trees_of_16_brackets(rt: HostRuntime) {
 }
 
 // Checks a SET with a component for each of the tags from Universal 0 up.
-fn assert_components(rt: &impl Abort, alloc: Global, count: usize, understood: bool, wanted: &str) {
+fn assert_components(
+    rt: &impl Abort,
+    alloc: Global,
+    count: usize,
+    understood: bool,
+    expected: &str,
+) {
     let mut table = String::from_str(alloc, "set q\n").expect(rt, "memory");
     for i in 0..count {
         let line = format!(in alloc; "a required U{i}\n").expect(rt, "memory");
         table.push_str(line.as_str()).expect(rt, "memory");
     }
     table.push_str("end\n").expect(rt, "memory");
-    assert_report(rt, alloc, table.as_bytes(), understood, wanted.as_bytes());
+    assert_report(rt, alloc, table.as_bytes(), understood, expected.as_bytes());
 }
 
 #[test]

@@ -61,8 +61,8 @@ const UNDERSTOOD: &[(&str, &str)] = &[
 #[test]
 fn verdicts(rt: HostRuntime) {
     let alloc = rt.alloc();
-    for (input, wanted) in UNDERSTOOD {
-        assert_report(&rt, alloc, input.as_bytes(), true, wanted.as_bytes());
+    for (input, expected) in UNDERSTOOD {
+        assert_report(&rt, alloc, input.as_bytes(), true, expected.as_bytes());
     }
 }
 
@@ -127,15 +127,21 @@ fn refused_lines(rt: HostRuntime) {
 #[test]
 fn numbers_count_empty_lines(rt: HostRuntime) {
     let input = b"\n\ntree t U5\n?\n\n\xff\ntree t U6";
-    let wanted =
+    let expected =
         b"tree t: unique, smallest Universal 5, 1 leaves\nline 4: not understood\nline 6: not understood\n\
         tree t: unique, smallest Universal 6, 1 leaves\n";
-    assert_report(&rt, rt.alloc(), input.as_slice(), false, wanted.as_slice());
+    assert_report(
+        &rt,
+        rt.alloc(),
+        input.as_slice(),
+        false,
+        expected.as_slice(),
+    );
 }
 
-fn assert_text(rt: &impl Abort, alloc: Global, error: CheckError, wanted: &str) {
+fn assert_text(rt: &impl Abort, alloc: Global, error: CheckError, expected: &str) {
     let text = error.to_string(alloc).expect(rt, "memory");
-    assert!(rt; text.as_str() == wanted);
+    assert!(rt; text.as_str() == expected);
 }
 
 #[test]

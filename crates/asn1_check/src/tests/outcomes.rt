@@ -49,7 +49,7 @@ impl Read for Broken {
 }
 
 #[test]
-fn a_failed_read_is_told(rt: HostRuntime) {
+fn a_failed_read_has_status_2(rt: HostRuntime) {
     let alloc = rt.alloc();
     let outcome = Outcome::of(run(alloc, &mut Broken, Sink));
     assert_outcome(&rt, alloc, outcome, 2, "check: reading failed\n");
@@ -70,7 +70,7 @@ impl Write for Closed {
 }
 
 #[test]
-fn a_failed_write_is_told(rt: HostRuntime) {
+fn a_failed_write_has_status_2(rt: HostRuntime) {
     let alloc = rt.alloc();
     let mut reader = b"set q\n".as_slice();
     let outcome = Outcome::of(run(alloc, &mut reader, Closed));

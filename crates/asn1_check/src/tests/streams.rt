@@ -10,10 +10,10 @@ const INPUT: &[u8] =
 const REPORT: &[u8] = b"tree a: unique, smallest Universal 1, 1 leaves\nline 3: not understood\n\
     tree b: repeated, smallest Application 0, 9 leaves\nset q: no clash, canonical\nset r: not checked\n";
 
-// Of each line that a line feed ends and that has a text, where it ends in the input, and where its text ends in the report.
-const LINES: [(usize, usize); 5] = [(0, 0), (10, 47), (13, 70), (49, 121), (73, 148)];
+// The lines of the input that have a text: the end of the line in the input, and the end of its text in the report.
+const LINE_ENDS: [(usize, usize); 5] = [(0, 0), (10, 47), (13, 70), (49, 121), (73, 148)];
 
-// A reader that gives a few bytes a call, is interrupted before each, and fails where this many bytes are left.
+// A reader that gives a few bytes a call, is interrupted before each, and fails when this many bytes remain.
 #[derive(Drop)]
 struct Trickle {
     rest: &'static [u8],
@@ -47,7 +47,7 @@ impl Read for Trickle {
     }
 }
 
-// A writer that takes no memory, and fails where too much is written or when it is flushed. It notes how much was written
+// A writer that allocates nothing, and fails if too much is written or if it is flushed. It notes the length of the text
 // at each of the first flushes.
 #[derive(Drop)]
 struct Page {
@@ -99,16 +99,16 @@ impl Write for Page {
     }
 }
 
-// What is on the page is this many first bytes of the report.
+// The page has this many first bytes of the report.
 fn assert_written(rt: &impl Abort, page: &Page, length: usize) {
     assert!(rt; page.length == length && length <= 256 && length <= REPORT.len());
     assert!(rt; &page.bytes[..length] == &REPORT[..length]);
 }
 
-// How much of the report is for lines that end among this many bytes of the input.
+// The length of the report on the lines that end among this many bytes of the input.
 fn ended_by(given: usize) -> usize {
     let mut written = 0;
-    for (line_end, text_end) in LINES {
+    for (line_end, text_end) in LINE_ENDS {
         if line_end <= given {
             written = text_end;
         }
@@ -160,9 +160,9 @@ fn writes_that_fail(rt: HostRuntime) {
     assert_failed_write(&rt, 1000, true);
 }
 
-// After each read, the text for all lines that have ended is handed on.
+// After each read, the text for all lines that have ended is flushed.
 #[test]
-fn answers_are_handed_on_at_once(rt: HostRuntime) {
+fn answers_are_flushed_after_each_read(rt: HostRuntime) {
     let mut page = Page::new(1000, false);
     let answer = check(rt.alloc(), &mut Trickle::new(25, None), &mut page);
     assert!(rt; answer == Ok(false) && page.flushes == 5);
@@ -192,9 +192,9 @@ impl Read for Full {
     }
 }
 
-// Also what a read that filled the buffer ends is handed on before the next read, and after one that fails.
+// The text for a read that filled the buffer is flushed too, before the next read and after one that fails.
 #[test]
-fn full_reads_are_handed_on(rt: HostRuntime) {
+fn full_reads_are_flushed(rt: HostRuntime) {
     let mut page = Page::new(1000, false);
     let answer = check(rt.alloc(), &mut Full { is_read: false }, &mut page);
     assert!(rt; answer == Err(CheckError::Reading) && page.flushes == 2);
@@ -202,7 +202,7 @@ fn full_reads_are_handed_on(rt: HostRuntime) {
     assert!(rt; a == b"line 1: not understood\n".len() && b == a && page.length == a);
 }
 
-// Checks what comes byte by byte, and says whether all of it was read. Where memory ran out, the text is that of the lines that
+// Checks the input byte by byte, and says whether all of it was read. If memory ran out, the text is that of the lines that
 // ended before the last byte that was read.
 fn reads_all(rt: &(impl Abort + AllocGlobal)) -> bool {
     let mut page = Page::new(1000, false);

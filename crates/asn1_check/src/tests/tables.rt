@@ -90,7 +90,13 @@ const TABLES: &[(&str, bool, &str)] = &[
 #[test]
 fn tables(rt: HostRuntime) {
     let alloc = rt.alloc();
-    for (input, understood, wanted) in TABLES {
-        assert_report(&rt, alloc, input.as_bytes(), *understood, wanted.as_bytes());
+    for (input, understood, expected) in TABLES {
+        assert_report(
+            &rt,
+            alloc,
+            input.as_bytes(),
+            *understood,
+            expected.as_bytes(),
+        );
     }
 }

@@ -5,22 +5,22 @@ ghost use Rattle.asn1_report.specs.SchemaTables.{kind_word};
 
 /// Whether a table has the components of a SEQUENCE or of a SET.
 #[derive(Clone, Copy)]
-pub(crate) enum Kind {
+pub(crate) enum TableKind {
     /// The components of a SEQUENCE.
     Sequence,
     /// The components of a SET.
     Set,
 }
 
-impl Kind {
+impl TableKind {
     /// The kind that the word names.
-    pub(crate) fn named(word: &[u8]) -> Option<Kind>
+    pub(crate) fn from_word(word: &[u8]) -> Option<TableKind>
         ensures named { result ≡ kind_of word.now }
     {
         if word == b"sequence".as_slice() {
-            Some(Kind::Sequence)
+            Some(TableKind::Sequence)
         } else if word == b"set".as_slice() {
-            Some(Kind::Set)
+            Some(TableKind::Set)
         } else {
             None
         }
@@ -31,8 +31,8 @@ impl Kind {
         ensures word { result.now ≡ kind_word self }
     {
         match self {
-            Kind::Sequence => "sequence",
-            Kind::Set => "set",
+            TableKind::Sequence => "sequence",
+            TableKind::Set => "set",
         }
     }
 }
