@@ -1,4 +1,4 @@
--- What a borrowed bound leaves in the size that lends it.
+-- The effect of a borrowed bound on the size that lends it.
 use Rattle.std.specs.Prelude.{ℕ}
 use Rattle.std.specs.Borrow.{Lends, MutBor, Fml, usize}
 use Rattle.asn1_ranges.specs.declared.bounded.Bounded.{Bounded}

@@ -1,4 +1,4 @@
--- What kind of constraint one is, and its part.
+-- The kind of a constraint, and its part.
 use Rattle.std.specs.Prelude.{ℕ, Bool, true, is_some, Option, None, Some}
 use Rattle.asn1_bounds.specs.declared.value.Value.{Value}
 use Rattle.asn1_bounds.specs.declared.size.Size.{Size}

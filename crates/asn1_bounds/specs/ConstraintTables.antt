@@ -1,4 +1,4 @@
--- What a constraint table comes to.
+-- The constraint set of a constraint table.
 use Rattle.std.specs.Prelude.{Some}
 use Rattle.std.specs.Option.{option_map}
 use Rattle.asn1_bounds.specs.declared.alphabet.PermittedAlphabet.{PermittedAlphabet}

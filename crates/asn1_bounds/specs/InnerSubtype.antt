@@ -1,4 +1,4 @@
--- What an inner type constraint answers for a value (X.680, 51.8), apart from where the names lie in memory.
+-- The answers of an inner type constraint for a value (X.680, 51.8), apart from where the names lie in memory.
 use Rattle.std.specs.Prelude.{ℕ, List, Result, Ok, Err}
 use Rattle.asn1_bounds.specs.declared.error.InnerSubtypeConstraintError.{InnerSubtypeConstraintError}
 use Rattle.asn1_bounds.specs.declared.error.InnerSubtypeConstraintError.TheVariants as error

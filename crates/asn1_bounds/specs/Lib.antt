@@ -4,7 +4,7 @@ pub mod Admitted
 pub mod BorrowedBounds
 pub mod Sets
 pub mod ConstraintTables
--- of the crate below: what is said of a bound
+-- of the crate below: the words on bounds
 pub use Rattle.asn1_ranges.specs.Compared
 pub use Rattle.asn1_ranges.specs.Count
 pub use Rattle.asn1_ranges.specs.Ends

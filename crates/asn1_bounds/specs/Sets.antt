@@ -85,7 +85,7 @@ abbrev pub is_part_extensible : {T : Type 0} → Option (Extensible T) → Bool
 is_part_extensible None = false
 is_part_extensible (Some part) = is_some part.extensible
 
--- the extension marker stands in the set, or its part on values or on lengths is extensible
+-- the set has the extension marker, or its part on values or on lengths is extensible
 abbrev pub is_per_visibly_extensible : Constraints → Bool
 is_per_visibly_extensible set = set.extensible || is_part_extensible set.value || is_part_extensible set.size
 

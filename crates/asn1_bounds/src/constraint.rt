@@ -12,11 +12,11 @@ use std::alloc::{AllocError, Global};
 /// One constraint of a type.
 #[derive(Debug, Drop, PartialEq)]
 pub enum Constraint<'a> {
-    /// Of the values of an INTEGER.
+    /// A constraint on the values of an INTEGER.
     Value(Extensible<'a, Value>),
-    /// Of the length of a string or a list.
+    /// A constraint on the length of a string or a list.
     Size(Extensible<'a, Size>),
-    /// Of the characters of a string.
+    /// A constraint on the characters of a string.
     PermittedAlphabet(Extensible<'a, PermittedAlphabet>),
     /// The extension marker alone.
     Extensible,

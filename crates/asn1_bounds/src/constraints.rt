@@ -13,15 +13,15 @@ use std::alloc::{AllocError, Global};
 
 /// The constraints of a type: at most one part of each kind, and the extension marker.
 ///
-/// A call that makes a set fails only where the allocator refuses room for a permitted alphabet. Where no argument has
+/// A call that makes a set fails only where the allocator refuses room for a permitted alphabet. If no argument has
 /// one, it takes no memory and succeeds.
 #[derive(Debug, Drop)]
 pub struct Constraints<'a> {
-    // What the values are restricted to; all where there is no part.
+    // The constraint on the values; none if there is no part.
     value: Option<Extensible<'a, Value>>,
-    // What the lengths are restricted to; all where there is no part.
+    // The constraint on the lengths; none if there is no part.
     size: Option<Extensible<'a, Size>>,
-    // What the characters are restricted to; all where there is no part.
+    // The constraint on the characters; none if there is no part.
     permitted_alphabet: Option<Extensible<'a, PermittedAlphabet>>,
     // Whether the extension marker is among the constraints.
     extensible: bool,
@@ -107,7 +107,7 @@ impl<'a> Constraints<'a> {
         }
     }
 
-    /// What both sets leave of values, of lengths and of characters.
+    /// The values, lengths and characters that both sets admit.
     pub fn intersect(&self, alloc: Global, other: &Self) -> Result<Self, AllocError>
         ensures parts { IfOk result (λ set. set ≡ set_intersection self.now other.now) }
         ensures values { IfOk result (λ set. (n : ℤ) → AdmitsValue set n ↔
@@ -146,7 +146,7 @@ impl<'a> Constraints<'a> {
         self.intersect(alloc, &Self::NONE)
     }
 
-    /// What the lengths are restricted to.
+    /// The constraint on the lengths.
     #[inline(always)]
     pub fn size(&self) -> Option<&Extensible<'a, Size>>
         ensures { option_copied result ≡ self.now.size }
@@ -154,7 +154,7 @@ impl<'a> Constraints<'a> {
         self.size.as_ref()
     }
 
-    /// What the values are restricted to.
+    /// The constraint on the values.
     #[inline(always)]
     pub fn value(&self) -> Option<&Extensible<'a, Value>>
         ensures { option_copied result ≡ self.now.value }
@@ -162,7 +162,7 @@ impl<'a> Constraints<'a> {
         self.value.as_ref()
     }
 
-    /// What the characters are restricted to.
+    /// The constraint on the characters.
     #[inline(always)]
     pub fn permitted_alphabet(&self) -> Option<&Extensible<'a, PermittedAlphabet>>
         ensures { option_copied result ≡ self.now.permitted_alphabet }
@@ -196,7 +196,7 @@ fn is_extensible<T>(part: Option<&Extensible<'_, T>>) -> bool
     }
 }
 
-// What two parts on values leave, either of which may be missing.
+// The intersection of two parts on values, either of which may be missing.
 fn intersect_values<'a>(
     a: Option<Extensible<'a, Value>>,
     b: Option<Extensible<'a, Value>>,
@@ -209,7 +209,7 @@ fn intersect_values<'a>(
     }
 }
 
-// What two parts on lengths leave, either of which may be missing.
+// The intersection of two parts on lengths, either of which may be missing.
 fn intersect_sizes<'a>(
     a: Option<Extensible<'a, Size>>,
     b: Option<Extensible<'a, Size>>,
@@ -222,7 +222,7 @@ fn intersect_sizes<'a>(
     }
 }
 
-// What two parts on characters leave, either of which may be missing.
+// The intersection of two parts on characters, either of which may be missing.
 fn intersect_alphabets<'a>(
     alloc: Global,
     a: Option<&Extensible<'a, PermittedAlphabet>>,

@@ -19,7 +19,7 @@ pub enum InnerSubtypeConstraintError {
     /// A component has a value that it may not have.
     #[error("wrong value of {0}")]
     Value(&'static str),
-    /// What a component contains, in the bytes of a codec, could not be read or is not as it must be.
+    /// The contents of a component, in the bytes of a codec, could not be read or break the constraint.
     #[error("wrong content of {0}")]
     Contained(&'static str),
     /// There was no memory to find out.

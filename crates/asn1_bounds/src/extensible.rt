@@ -7,7 +7,7 @@ use crate::size::Size;
 use crate::value::Value;
 use std::alloc::{AllocError, Global};
 
-/// A constraint, and whether it is extensible: then the constraints that later versions added stand beside it.
+/// A constraint, and whether it is extensible: then it also has the constraints that later versions added.
 ///
 /// The default is the default of the constraint, not extensible.
 #[derive(Clone, Copy, Debug, Default, Drop, PartialEq)]
@@ -73,7 +73,7 @@ impl<'a, T> Extensible<'a, T> {
 impl Extensible<'_, Value> {
     ghost use Rattle.asn1_bounds.specs.Sets.{part_intersection, common_values};
 
-    /// What both constraints leave: extensible only where both are, with the additions of this one.
+    /// The intersection of both constraints: extensible only if both are, with the additions of this one.
     pub fn intersect(&self, other: &Self) -> Self
         ensures { result ≡ part_intersection common_values self.now other.now }
     {
@@ -87,7 +87,7 @@ impl Extensible<'_, Value> {
 impl Extensible<'_, Size> {
     ghost use Rattle.asn1_bounds.specs.Sets.{part_intersection, common_sizes};
 
-    /// What both constraints leave: extensible only where both are, with the additions of this one.
+    /// The intersection of both constraints: extensible only if both are, with the additions of this one.
     pub fn intersect(&self, other: &Self) -> Self
         ensures { result ≡ part_intersection common_sizes self.now other.now }
     {
@@ -102,7 +102,7 @@ impl Extensible<'_, PermittedAlphabet> {
     ghost use Rattle.asn1_bounds.specs.Admitted.{common_characters};
     ghost use Rattle.asn1_bounds.specs.Sets.{part_intersection};
 
-    /// What both constraints leave: extensible only where both are, with the additions of this one. Fails only where
+    /// The intersection of both constraints: extensible only if both are, with the additions of this one. Fails only where
     /// the allocator refuses room for the characters.
     pub fn intersect(&self, alloc: Global, other: &Self) -> Result<Self, AllocError>
         ensures { IfOk result (λ both. both ≡

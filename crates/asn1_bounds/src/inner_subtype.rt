@@ -14,7 +14,7 @@ pub trait InnerSubtypeConstraint: Sized {
     ghost use Rattle.asn1_bounds.specs.declared.codec.Codec.{Codec};
     ghost use Rattle.asn1_bounds.specs.declared.error.InnerSubtypeConstraintError.{InnerSubtypeConstraintError};
 
-    // Which answers there may be for a value where contents are decoded with this codec, or are left alone where there
+    // The possible answers for a value if its contents are decoded with this codec, or are left alone if there
     // is none. Each implementation states its own, so that a caller who knows the type knows the answer.
     ghost validation_gives: { Self → Option Codec → Result Self InnerSubtypeConstraintError → Type 0 };
 

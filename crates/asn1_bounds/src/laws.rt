@@ -1,4 +1,4 @@
-//! What the derives of this crate's types answer, and the ghost members that an impl states for itself.
+//! Laws of the derives of this crate's types, and of the ghost members that an impl states for itself.
 ghost use Rattle.std.specs.Prelude.{◌≡◌, ◌↔◌, ◌&&◌, ℕ, pos, IsTrue, Some, None, Result};
 ghost use Rattle.std.specs.Result.{OkIff};
 ghost use Rattle.std.specs.declared.alloc.AllocError.{AllocError};

@@ -15,7 +15,7 @@
 //!   there, or hold certain values; [`InnerSubtypeConstraintError`] names the one at fault. [`Codec`] is the name of the
 //!   rules by which what a component contains is decoded.
 //!
-//! What is promised, by the names of the clauses:
+//! The promises, by the names of the clauses:
 //!
 //! - `Value::intersect` and `Size::intersect` have the common members (`members`), are `commutative` and
 //!   `associative`, and leave the other side with no bound (`left_identity`, `right_identity`).
@@ -23,12 +23,12 @@
 //! - `Constraints::new` admits exactly what each constraint admits (`values`, `lengths`, `characters`), and
 //!   `Constraints::intersect` of two sets is the set of the two lists one after the other (`composes`).
 //! - `ConstraintTable::to_constraints` answers the set that the table represents (`set`).
-//! - What `validate_and_decode_containing` answers, each implementation of `InnerSubtypeConstraint` states
-//!   (`validation_gives`); `validate_components` answers that without a codec.
-//! - What derived comparisons, hashes, copies and defaults answer, and what a conversion gives, is said by the functions
-//!   of the module `laws`, as `values_are_compared_by_bound`, which do nothing.
+//! - Each implementation of `InnerSubtypeConstraint` states the answers of `validate_and_decode_containing`
+//!   (`validation_gives`); `validate_components` answers the same without a codec.
+//! - The functions of the module `laws`, as `values_are_compared_by_bound`, state the answers of derived comparisons,
+//!   hashes, copies and defaults, and of conversions. They do nothing.
 //!
-//! Memory is taken for permitted alphabets alone, and by `InnerSubtypeConstraint` at types that want some. Where no
+//! Only permitted alphabets take memory, and `InnerSubtypeConstraint` at types that want some. If no
 //! argument has an alphabet, `new`, `intersect`, `try_clone` and `to_constraints` succeed (`without_alphabet`). A call
 //! that fails because memory runs out changes no argument, since each borrows them to read.
 //!

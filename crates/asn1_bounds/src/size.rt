@@ -59,7 +59,7 @@ impl Size {
         &mut self.bound
     }
 
-    /// The constraint to the lengths of both. Where they have none in common, its bound is the range from 1 to 0,
+    /// The constraint to the lengths of both. If they have none in common, its bound is the range from 1 to 0,
     /// which has no members.
     pub fn intersect(&self, other: &Self) -> Self
         ensures shape { result.bound ≡ size_intersection self.now.bound other.now.bound }

@@ -12,11 +12,11 @@ use std::alloc::{AllocError, Global};
 /// each kind, and the extension marker. [`ConstraintTable::to_constraints`] makes the set.
 #[derive(Clone, Copy, Debug)]
 pub struct ConstraintTable<'a> {
-    // What the values are restricted to; all where there is no part.
+    // The constraint on the values; none if there is no part.
     value: Option<Extensible<'a, Value>>,
-    // What the lengths are restricted to; all where there is no part.
+    // The constraint on the lengths; none if there is no part.
     size: Option<Extensible<'a, Size>>,
-    // What the characters are restricted to; all where there is no part.
+    // The constraint on the characters; none if there is no part.
     permitted_alphabet: Option<AlphabetTable<'a>>,
     // Whether the extension marker is among the constraints.
     extensible: bool,

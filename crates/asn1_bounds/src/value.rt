@@ -47,7 +47,7 @@ impl Value {
         &self.bound
     }
 
-    /// The constraint to the values of both. Where they have none in common, its bound is the range from 1 to -1,
+    /// The constraint to the values of both. If they have none in common, its bound is the range from 1 to -1,
     /// which has no members.
     pub fn intersect(&self, other: &Self) -> Self
         ensures shape { result.bound ≡ value_intersection self.now.bound other.now.bound }

@@ -121,7 +121,7 @@ each_apart (c ∷ cs) v rest distinct can ends = (
 pub sequence_apart : {V : Type 0} (cs : List (ComponentType V)) → CanBeInSequence cs → (v : V) (rest : List Record) → EndsApart cs rest → EachApart cs v rest
 sequence_apart cs sequence v rest ends = each_apart cs v rest (distinct_by_test cs sequence.1) sequence.0 ends
 
--- What does not begin with a tag of a group does not begin with one of its last components.
+-- Records that do not begin with a tag of a group do not begin with one of its last components.
 when_const : (b : Bool) (P : Type 0) → P → When b P
 when_const true P h = h
 when_const false P h = tt

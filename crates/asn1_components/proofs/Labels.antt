@@ -1,4 +1,4 @@
--- What follows from the laws of an enumeration.
+-- Consequences of the laws of an enumeration.
 use Rattle.std.proofs.Common.{◌≡◌, ◌≢◌, ◌⊎◌, ◌↔◌, IsTrue, is_some, inl, inr, ℕ, Bool, true, Option, Some, None, IfSome, List, AllPairs, Contains, get_or, unwrap_or, refl, sym, ap, ◌∙◌}
 use Rattle.std.specs.Bool.{Decides}
 use Rattle.std.specs.Cmp.{IsEquivalence}

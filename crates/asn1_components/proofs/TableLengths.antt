@@ -41,7 +41,7 @@ length-table components =
       length-entries (length components.root) (added components),
     )
 
--- What records have of a table is its lines.
+-- The table in records has the lines of the table.
 pub lines_of_table : {V : Type 0} (components : Components V) → lines components ≡ split_at_marker (map line_of (table components)) (extension_index components)
 lines_of_table components = by_extension components.extension
   where

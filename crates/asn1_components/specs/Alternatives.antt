@@ -1,4 +1,4 @@
--- The alternatives of a CHOICE, each said once, and what follows from them: the trees, the names, and what each value is.
+-- The alternatives of a CHOICE, each stated once; the trees, the names and the meaning of each value follow from them.
 use Rattle.std.specs.Prelude.{◌≡◌, ◌↔◌, ◌⊎◌, ℕ, pos, ◌-ℤ◌, ⊤, Bool, false, List, [], ◌∷◌, ◌++◌, length, map, Option, None, Some, IsTrue, refl, unwrap_or}
 use Rattle.std.specs.Option.{option_map}
 use Rattle.std.proofs.Common.{inl, inr}
@@ -90,7 +90,7 @@ CanBeChosen a = a.type.IsWellTagged × (is_open a.type.tree ≡ false)
 abbrev pub HaveDistinctTags : List Alternative → Type 0
 HaveDistinctTags alts = IsTrue (distinct (leaves_of (trees_of alts)))
 
--- What a type says of one value: what it is to a codec, whether it meets its type's invariant, and whether it is valid, when
+-- The meaning of one value of a type: its records, whether it meets its type's invariant, and whether it is valid, when
 -- its records are well formed.
 pub record ValueMeaning : Type 1 where
   pub records : List Record
@@ -106,11 +106,11 @@ value_meaning type w = record {
   well_formed = λ accepts. type.well_formed accepts w;
 }
 
--- what nothing says
+-- the meaning without any records, for tables that do not depend on values
 abbrev pub no_meaning : ValueMeaning
 no_meaning = record { records = []; IsOfType = ⊤; IsValid = λ _. ⊤; well_formed = λ _ _. tt }
 
--- Two that say the same of a value.
+-- Two meanings with the same records, invariant and validity.
 pub record MeansTheSame (one other : ValueMeaning) : Type 0 where
   pub records : one.records ≡ other.records
   pub of_type : one.IsOfType ↔ other.IsOfType
@@ -124,7 +124,7 @@ abbrev pub OneOf : List Alternative → Type 0
 OneOf [] = ⊥
 OneOf (a ∷ alts) = a.Value ⊎ OneOf alts
 
--- what the chosen alternative says of its value
+-- the meaning of a value by its chosen alternative
 abbrev pub chosen_meaning : (alts : List Alternative) → OneOf alts → ValueMeaning
 chosen_meaning [] x = absurd x
 chosen_meaning (a ∷ alts) (inl w) = value_meaning a.type w

@@ -1,4 +1,4 @@
--- What a CHOICE means, by its alternatives.
+-- The meaning of a CHOICE, by its alternatives.
 use Rattle.std.specs.Prelude.{◌≡◌, ◌↔◌, ℕ, ⊤, Bool, true, List, Some, refl}
 use Rattle.std.proofs.Common.{ap, sym, subst}
 use Rattle.asn1_tags.specs.declared.tags.Tag.{Tag}
@@ -30,7 +30,7 @@ choice_by name table alternatives CanChoose means is_among = choice_type (Some n
     (record { table = table; alternatives = alternatives; among = is_among })
 
 module _ {V : Type 0} (name : List ℕ) (alts : Alternatives) (pick : V → OneOf (all_of alts)) where
-  -- A CHOICE of these alternatives, by what is said of each value, which is what the chosen one says.
+  -- A CHOICE of these alternatives, by the meaning of each value, which agrees with that of the chosen one.
   abbrev pub choice_by_meanings : (means : V → ValueMeaning) →
       ((v : V) → MeansTheSame (means v) (chosen_meaning (all_of alts) (pick v))) → Meaning V
   choice_by_meanings means agree = choice_by name (table_of alts) (trees_of (all_of alts))
@@ -41,7 +41,7 @@ module _ {V : Type 0} (name : List ℕ) (alts : Alternatives) (pick : V → OneO
   abbrev pub choice_of : Meaning V
   choice_of = choice_by_meanings (λ v. chosen_meaning (all_of alts) (pick v)) (λ _. means_itself)
 
--- What a CHOICE that holds itself is to its own alternatives, where nothing is asked of it. There it has to be under a tag:
+-- The meaning of a CHOICE that holds itself to its own alternatives, without any premise. There it has to be under a tag:
 -- without one it may begin with every tag, and so is no alternative.
 abbrev pub inside_itself : {V : Type 0} → List ℕ → Table Line → (V → ValueMeaning) → Meaning V
 inside_itself name table means = choice_by name table none ⊤ means (λ _ _. tt)
@@ -90,7 +90,7 @@ pub record AgreesWithChoice {V : Type 0} (alts : Alternatives) (pick : V → One
   pub of_type : (v : V) → m.IsOfType v ↔ (chosen_meaning (all_of alts) (pick v)).IsOfType
   pub valid : (accepts : List ℕ → Bool) (v : V) → m.IsValid accepts v ↔ (chosen_meaning (all_of alts) (pick v)).IsValid accepts
 
--- so for a CHOICE that holds itself
+-- the law holds of a CHOICE that holds itself
 pub itself_agrees : {V : Type 0} {name : List ℕ} {alts : Alternatives} {pick : V → OneOf (all_of alts)} {means : V → ValueMeaning} →
     (agree : (v : V) → MeansTheSame (means v) (chosen_meaning (all_of alts) (pick v))) →
     AgreesWithChoice alts pick (choice_by_meanings name alts pick means agree)
@@ -107,6 +107,6 @@ itself_agrees {name = name} {alts = alts} agree = record {
   valid = λ accepts v. (agree v).valid accepts;
 }
 
--- and for every other
+-- and of every other
 pub choice_agrees : {V : Type 0} {name : List ℕ} {alts : Alternatives} {pick : V → OneOf (all_of alts)} → AgreesWithChoice alts pick (choice_of name alts pick)
 choice_agrees = itself_agrees (λ _. means_itself)

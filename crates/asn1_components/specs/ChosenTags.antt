@@ -18,7 +18,7 @@ chosen_tag alts x = first_tag (chosen_meaning alts x).records
 abbrev pub LacksTag : Tag → Alternative → Type 0
 LacksTag t a = ¬ Has (tree_tags a.type.tree) t
 
--- what is chosen is one record, which begins with one of the alternative's tags
+-- the chosen alternative is one record, which begins with one of its tags
 pub chosen_is_one : (alts : List Alternative) → Each CanBeChosen alts → (x : OneOf alts) → IsOneRecord (tree_tags (chosen alts x).type.tree) (chosen_meaning alts x).records
 chosen_is_one [] can x = absurd x
 chosen_is_one (a ∷ alts) can (inl w) = a.type.one_record can.0.0 w
@@ -37,7 +37,7 @@ chosen_is_leaf (a ∷ alts) can (inl w) =
 chosen_is_leaf (a ∷ alts) can (inr x) =
     Contains-append_right (leaves a.type.tree) (leaves_of (trees_of alts)) (chosen_tag alts x) (chosen_is_leaf alts can.1 x)
 
--- so it is one of the CHOICE's
+-- and one of the CHOICE's
 pub chosen_is_among : (alts : List Alternative) → Each CanBeChosen alts → (x : OneOf alts) → Has (tree_tags (choice (trees_of alts))) (chosen_tag alts x)
 chosen_is_among alts can x = has_leaf (choice (trees_of alts)) (chosen_tag alts x) (chosen_is_leaf alts can x)
 
@@ -68,7 +68,7 @@ pub record TagIdentifiesAlternative (alts : List Alternative) (x : OneOf alts) :
   pub its_own : Has (tree_tags (chosen alts x).type.tree) (chosen_tag alts x)
   pub no_other : Each (LacksTag (chosen_tag alts x)) (others alts x)
 
--- so it is where the alternatives have distinct tags and can be chosen
+-- this holds if the alternatives have distinct tags and can be chosen
 pub tag_identifies : (alts : List Alternative) → HaveDistinctTags alts → Each CanBeChosen alts → (x : OneOf alts) → TagIdentifiesAlternative alts x
 tag_identifies alts apart can x = record {
   one_record = chosen_is_one alts can x;
@@ -89,7 +89,7 @@ selects_chosen [] x u t tells has = absurd x
 selects_chosen (a ∷ alts) (inl w) u t tells has = tells.0 has
 selects_chosen (a ∷ alts) (inr x) u t tells has = selects_chosen alts x u t tells.1 has
 
--- a tag tells of itself
+-- a tag selects the same alternative as itself
 pub selects_itself : (alts : List Alternative) (t : Tag) → SelectsSameAlternative t t alts
 selects_itself [] t = tt
 selects_itself (a ∷ alts) t = (λ has. has, selects_itself alts t)

@@ -1,4 +1,4 @@
--- What follows from a list of components.
+-- Definitions that follow from a list of components.
 use Rattle.std.specs.Prelude.{◌≡◌, ℕ, ◌+◌, ⊤, Bool, true, false, ◌&&◌, IsTrue, List, [], ◌∷◌, ◌++◌, Option, None, Some, IfSome, refl, if◌then◌else◌}
 use Rattle.std.proofs.Common.{inl, inr, ap, sym, ◌∙◌, subst}
 use Rattle.std.specs.Option.{option_map}
@@ -21,7 +21,7 @@ abbrev pub all_records : {V : Type 0} → List (ComponentType V) → V → List 
 all_records [] v = []
 all_records (c ∷ cs) v = c.records v ++ all_records cs v
 
--- what the rules on tags look at
+-- the components as the rules on tags see them
 abbrev pub tagged_components : {V : Type 0} → List (ComponentType V) → List Component
 tagged_components [] = []
 tagged_components (c ∷ cs) = record { presence = c.presence; tree = c.tree } ∷ tagged_components cs
@@ -106,7 +106,7 @@ CanBeInSequence cs = EachIsWellTagged cs × AreDistinctInSequence cs
 abbrev pub AreDistinctInSet : {V : Type 0} → List (ComponentType V) → Type 0
 AreDistinctInSet cs = (set_clash (tagged_components cs) ≡ None) × EachTreeIsDistinct cs
 
--- What is written of components that are not all absent begins with a tag of one of them.
+-- The records of components that are not all absent begin with a tag of one of them.
 first_or_later : {V : Type 0} (c : ComponentType V) (cs : List (ComponentType V)) (v : V) → presence_marks_alone (all_records (c ∷ cs) v) ≡ false →
     Fits c.presence c.tree (c.records v) →
     (presence_marks_alone (all_records cs v) ≡ false → LiesIn (first_tags (all_records cs v)) (tree_tags (choice (trees_of cs)))) →

@@ -28,16 +28,16 @@ pub record ComponentType (V : Type 0) : Type 1 where
   -- the tag under which it is written, and the tags with which it can begin
   pub tag : Tag
   pub tree : Tree
-  -- what is written of it
+  -- its records
   pub records : V → List Record
   -- its type is well tagged under this tag
   pub IsWellTagged : Type 0
   -- whether it meets its type's invariant, and whether it is valid
   pub IsOfType : V → Type 0
   pub IsValid : (List ℕ → Bool) → V → Type 0
-  -- what is written of it begins with one of its tags, or it is absent
+  -- its records begin with one of its tags, or it is absent
   pub fits : IsWellTagged → (v : V) → Fits presence tree (records v)
-  -- and what is written of it in a valid value is well formed
+  -- and its records in a valid value are well formed
   pub well_formed : (accepts : List ℕ → Bool) (v : V) → IsValid accepts v → AreWellFormed accepts (records v)
 
 -- one that is always there
@@ -104,8 +104,8 @@ pub well_formed_default : {W : Type 0} (side : Side) (type : TaggedType W) (acce
 well_formed_default side type accepts w true valid = (tt, tt)
 well_formed_default side type accepts w false valid = (tt, type.well_formed accepts w (valid refl))
 
--- one with a DEFAULT, on this side: whether the value's is that. A default is not written, so nothing is told of it
--- and nothing is asked.
+-- one with a DEFAULT, on this side: whether the value equals it. A default is not written, so it has no records
+-- and no premise.
 abbrev pub default_in : {V W : Type 0} → Side → List ℕ → (V → W) → (V → Bool) → TaggedType W →
     ComponentType V
 default_in side name get is_default type = record {

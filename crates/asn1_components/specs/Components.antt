@@ -37,7 +37,7 @@ sequence root = record { kind = is_sequence; root = root; extension = no_marker 
 abbrev pub set : {V : Type 0} → List (ComponentType V) → Components V
 set root = record { kind = is_set; root = root; extension = no_marker }
 
--- with one
+-- with an extension marker
 abbrev pub extensible_sequence : {V : Type 0} → List (ComponentType V) → List (ComponentType V) → Components V
 extensible_sequence root additions = record { kind = is_sequence; root = root; extension = marker additions }
 
@@ -64,7 +64,7 @@ abbrev pub AreDistinctIn : {V : Type 0} → Kind → List (ComponentType V) → 
 AreDistinctIn is_sequence cs = AreDistinctInSequence cs
 AreDistinctIn is_set cs = AreDistinctInSet cs
 
--- what a value's record is, apart from what is inside
+-- the head of a value's record
 abbrev pub head_of_kind : Kind → Tag → Table Line → Name → Head
 head_of_kind is_sequence t table n = sequence_head t table n
 head_of_kind is_set t table n = set_head t table n
@@ -79,7 +79,7 @@ abbrev pub tag_of : Kind → Tag
 tag_of is_sequence = universal 16
 tag_of is_set = universal 17
 
--- there is one
+-- there is an extension marker
 abbrev pub has_marker : {V : Type 0} → Extension V → Bool
 has_marker no_marker = false
 has_marker (marker additions) = true
@@ -146,7 +146,7 @@ module _ {V : Type 0} (components : Components V) where
   AreWellTagged = EachIsWellTagged all_components × AreOnTheirSides ×
       AreDistinctIn components.kind all_components
 
-  -- what a value has inside
+  -- the contents of a value
   abbrev pub inside : Inside V
   inside = record {
     records = component_records;
@@ -186,7 +186,7 @@ pub record AgreesWithComponents {V : Type 0} (components : Components V) (m : Me
   pub of_type : (v : V) → m.IsOfType v ↔ EachIsOfType (all_components components) v
   pub valid : (accepts : List ℕ → Bool) (v : V) → m.IsValid accepts v ↔ EachIsValid (all_components components) accepts v
 
--- so it is for each type that is made of them
+-- each type that is made of the components keeps the law
 pub constructed_agrees : {V : Type 0} {tag : Tag} {name : List ℕ} {components : Components V} →
     AgreesWithComponents components (constructed_type_under components tag name)
 constructed_agrees = record {
@@ -205,8 +205,8 @@ holding_type name kind table inside =
     scope_type (λ t c n. head_of_kind kind t table n) (λ t c n. head_has_tag kind t table n) (tag_of kind)
     unconstrained (Some name) inside
 
--- A type that holds itself. Its components speak of it, so what is inside its values is said first, by recursion over
--- these. This is what it means to its own components, where nothing is asked of it.
+-- A type that holds itself. Its components speak of it, so the contents of its values are defined first, by recursion over
+-- these. This is its meaning to its own components, without any premise.
 abbrev pub inside_itself : {V : Type 0} → List ℕ → Kind → Table Line → Inside V → Meaning V
 inside_itself name kind table inside =
     holding_type name kind table (record inside { IsWellTagged = ⊤ })

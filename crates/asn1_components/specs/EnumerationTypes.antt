@@ -1,4 +1,4 @@
--- What an ENUMERATED type means to every codec (X.680, clause 20).
+-- The meaning of an ENUMERATED type to every codec (X.680, clause 20).
 use Rattle.std.specs.Prelude.{◌≡◌, ◌↔◌, ℕ, Bool, true, List, [], ◌∷◌, Some, refl}
 use Rattle.asn1_tags.specs.declared.tags.Tag.{Tag}
 use Rattle.asn1_tags.specs.Trees.{leaf}
@@ -29,7 +29,7 @@ pub record AgreesWithEnumeration {V : Type 0} (eq : V → V → Bool) (enumerati
   pub of_type : (v : V) → m.IsOfType v
   pub valid : (accepts : List ℕ → Bool) (v : V) → m.IsValid accepts v
 
--- so it is for each `enumeration_type`
+-- each `enumeration_type` keeps the law
 pub enumeration_agrees : {V : Type 0} {name : List ℕ} {enumeration : Enumeration V} {eq : V → V → Bool} →
     AgreesWithEnumeration eq enumeration (enumeration_type name enumeration eq)
 enumeration_agrees = record {

@@ -34,7 +34,7 @@ added e = unwrap_or e.additions []
 abbrev pub items : {V : Type 0} → Enumeration V → List (Item V)
 items e = e.root ++ added e
 
--- what some items say, in order
+-- the values, numbers and names of some items, in order
 abbrev pub values : {V : Type 0} → List (Item V) → List V
 values is = map (λ i. i.value) is
 
@@ -44,7 +44,7 @@ numbers is = map (λ i. (i.value, i.number)) is
 abbrev pub names : {V : Type 0} → List (Item V) → List (List ℕ)
 names is = map (λ i. i.name) is
 
--- Of the values of a type with the equality `eq`.
+-- Enumerations over the values of a type with the equality `eq`.
 module _ {V : Type 0} (eq : V → V → Bool) where
   -- Two items differ in value, in number and in name.
   pub record Differ (i j : Item V) : Type 0 where
@@ -52,7 +52,7 @@ module _ {V : Type 0} (eq : V → V → Bool) where
     pub number : i.number ≢ j.number
     pub name : i.name ≢ j.name
 
-  -- What a list of items has to be: any two items differ, and the number of items fits in a word of 64 bits.
+  -- The law of a list of items: any two items differ, and the number of items fits in a word of 64 bits.
   pub record IsEnumeration (e : Enumeration V) : Type 0 where
     pub distinct : AllPairs Differ (items e)
     pub fits : length (items e) < 2 ^ 64

@@ -1,4 +1,4 @@
--- What follows a component that may be absent.
+-- The records that follow a component that may be absent.
 use Rattle.std.specs.Prelude.{⊤, Bool, true, false, ◌&&◌, List, [], ◌∷◌, ◌++◌}
 use Rattle.asn1_tags.specs.Trees.{Tree}
 use Rattle.asn1_model.specs.Records.{Record}
@@ -10,7 +10,7 @@ use Rattle.asn1_components.specs.ComponentTypes.{ComponentType}
 abbrev pub BeginsApart : Tree → List Record → Type 0
 BeginsApart tree rs = ShareNone (tree_tags tree) (first_tags rs)
 
--- asked only where the answer is yes
+-- the premise holds if the answer is yes
 abbrev pub When : Bool → Type 0 → Type 0
 When true P = P
 When false P = ⊤
@@ -25,12 +25,12 @@ abbrev pub all_may_be_absent : {V : Type 0} → List (ComponentType V) → Bool
 all_may_be_absent [] = true
 all_may_be_absent (c ∷ cs) = may_be_absent c.presence && all_may_be_absent cs
 
--- What follows the components does not begin with a tag of one of those after the last that is always there.
+-- The records after the components do not begin with a tag of one of those after the last that is always there.
 abbrev pub EndsApart : {V : Type 0} → List (ComponentType V) → List Record → Type 0
 EndsApart [] rest = ⊤
 EndsApart (c ∷ cs) rest = When (may_be_absent c.presence && all_may_be_absent cs) (BeginsApart c.tree rest) × EndsApart cs rest
 
--- What follows a component that may be absent, whether it is there or not, does not begin with one of its tags.
+-- The records after a component that may be absent, whether it is there or not, do not begin with one of its tags.
 abbrev pub EachApart : {V : Type 0} → List (ComponentType V) → V → List Record → Type 0
 EachApart [] v rest = ⊤
 EachApart (c ∷ cs) v rest = When (may_be_absent c.presence) (BeginsApart c.tree (records_then cs v rest)) × EachApart cs v rest

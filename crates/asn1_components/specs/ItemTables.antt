@@ -1,4 +1,4 @@
--- The tables of an ENUMERATED type in code, and what the iterators over them have left.
+-- The tables of an ENUMERATED type in code, and the items that the iterators over them have left.
 use Rattle.std.specs.Prelude.{◌++◌, ℕ, ℤ, List, map}
 use Rattle.std.specs.Slice.Iter.{iter_rest}
 use Rattle.asn1_components.specs.Enumerations.{Item, item, values, numbers, names}
@@ -15,7 +15,7 @@ line_item l = item l.value l.number l.name.now
 abbrev pub table_items : {V : Type 0} → List (EnumerationItem V) → List (Item V)
 table_items lines = map line_item lines
 
--- what an iterator has left: over values, over values with their numbers, and over names
+-- the items left in an iterator: over values, over values with their numbers, and over names
 abbrev pub variants_left : {V : Type 0} → VariantIter V → List V
 variants_left it = values (table_items (iter_rest it.left))
 

@@ -1,4 +1,4 @@
--- What tells the items of an ENUMERATED type apart, without its values (X.680, clause 20).
+-- The numbers and names of the items of an ENUMERATED type, without its values (X.680, clause 20).
 use Rattle.std.specs.Prelude.{◌≢◌, ◌++◌, ℤ, List, [], Contains, map, unwrap_or}
 use Rattle.std.specs.Option.{option_map}
 use Rattle.asn1_model.specs.RecordTables.{Label, Table}

@@ -8,17 +8,17 @@ use Rattle.asn1_model.specs.Tags.{Has, first_tag, tree_tags}
 use Rattle.asn1_components.specs.Alternatives.{Alternatives, OneOf, MeansTheSame, ValueMeaning, all_of, chosen_meaning, no_meaning, trees_of}
 use Rattle.asn1_components.specs.ChoiceTypes.{choice_by, choice_by_meanings, inside_itself, table_with_itself}
 
--- the trees of its alternatives, which rest on nothing that it says of values
+-- the trees of its alternatives, which do not depend on the meaning of values
 abbrev pub trees_with_itself : {V : Type 0} → List ℕ → (Meaning V → Alternatives) → Trees
 trees_with_itself name alternatives_with =
     trees_of (all_of (alternatives_with (inside_itself name no_table (λ _. no_meaning))))
 
--- What is said of a value, which begins with a tag of one of these trees.
+-- The meaning of a value that begins with a tag of one of these trees.
 pub record MeaningWithin (trees : Trees) : Type 1 where
   pub meaning : ValueMeaning
   pub within : Has (tree_tags (choice trees)) (first_tag meaning.records)
 
--- What the CHOICE is to its own alternatives, by what its author says of each value.
+-- The meaning of the CHOICE to its own alternatives, by its author's meaning of each value.
 abbrev pub untagged_inside_itself : {V : Type 0} → List ℕ → Table Line → (trees : Trees) →
     (V → MeaningWithin trees) → Meaning V
 untagged_inside_itself name table trees means =

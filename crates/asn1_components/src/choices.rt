@@ -68,7 +68,7 @@ pub trait ChoiceType: AsnType + Choice {
     ghost agrees: { AgreesWithChoice Self.alternatives Self.pick Self.meaning };
 }
 
-/// Of a value of a well tagged CHOICE, the chosen alternative is one record, which begins with one of the alternative's own
+/// The chosen alternative of a value of a well tagged CHOICE is one record, which begins with one of the alternative's own
 /// tags, and no other alternative has that tag (X.680, 29.3). So a decoder knows the alternative by the next tag.
 pub fn the_chosen_tag_identifies_the_alternative<T: ChoiceType>()
     ensures { (t : Tag) (v : T) → T.meaning.HasDistinctTags t →

@@ -6,8 +6,8 @@ ghost use Rattle.asn1_components.specs.ItemTables.{table_items};
 
 use crate::items::EnumerationItem;
 
-/// The items of an ENUMERATED type (X.680, clause 20), each a value with its number and its name. What the type means quotes
-/// them, so they are apart from [`crate::Enumerated`], which stands on the meaning.
+/// The items of an ENUMERATED type (X.680, clause 20), each a value with its number and its name. The meaning of the type quotes
+/// them, so they are apart from [`crate::Enumerated`], which builds on the meaning.
 pub trait EnumeratedItems: Sized + Copy + Eq + 'static {
     // the items of the root, and those after the extension marker
     ghost enumeration: { Enumeration Self };

@@ -1,4 +1,4 @@
-//! What a codec may know of an ENUMERATED type.
+//! The table of an ENUMERATED type for codecs.
 ghost use Rattle.std.specs.Prelude.{◌≡◌, ◌++◌, AllPairs, length, position, slice_get};
 ghost use Rattle.std.specs.Option.{option_map};
 ghost use Rattle.std.specs.List.{find};

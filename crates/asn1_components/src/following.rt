@@ -1,4 +1,4 @@
-//! What follows a component.
+//! The records that follow a component.
 ghost use Rattle.std.specs.Prelude.{◌≡◌, List, []};
 ghost use Rattle.asn1_model.specs.Records.{Record};
 ghost use Rattle.asn1_tags.specs.Trees.{choice};
@@ -11,7 +11,7 @@ use crate::field_table::FieldTable;
 /// The law of component lists, on which a reader rests that tells by the next tag whether a component is there.
 ///
 /// In a SEQUENCE and in a group, what follows a component that may be absent, whether it is there or not, begins with none
-/// of its tags. Where a run of such components goes on past the end, this rests on what follows (`past_the_end`): nothing
+/// of its tags. If a run of such components goes on past the end, this depends on the records after it (`past_the_end`): nothing
 /// does in a SEQUENCE (`sequence`), and what follows a group has to begin with none of the group's tags (`group`). In a
 /// SET no two components share a tag (`set`).
 pub fn components_are_identified_by_tags<T: FieldTable>(_value: &T)

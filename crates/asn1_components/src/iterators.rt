@@ -1,4 +1,4 @@
-//! What the tables of an ENUMERATED type say, item by item.
+//! Iterators over the tables of an ENUMERATED type.
 ghost use Rattle.std.specs.Prelude.{◌≡◌, ◌++◌};
 ghost use Rattle.std.specs.Iterator.{YieldsFirst, YieldsFirstBy, item_count};
 ghost use Rattle.asn1_components.specs.Enumerations.{values, numbers, names};

@@ -1,4 +1,4 @@
-//! The lists of which constructed types are made: components, alternatives and items (X.680, 20, 25, 27 and 29).
+//! The lists that make up constructed types: components, alternatives and items (X.680, 20, 25, 27 and 29).
 //!
 //! A type states its list once: the components of a SEQUENCE, a SET or a group, the alternatives of a CHOICE, or the items of
 //! an ENUMERATED. The meaning of its values, the lines of its table, the tags with which it can begin and whether these tags are
@@ -36,8 +36,8 @@
 //!   `tables_are_in_order` says that a SET's table is canonical, and that no index occurs twice.
 //! - The table is in records too (`lines`), with the lines after the extension marker apart (`extension_index`). A clause of
 //!   `tables_are_in_order` (`as_in_records`) says that `FieldTable` answers these lines.
-//! - A type that holds itself defines its values by recursion. To its own components it is `inside_itself`, where nothing is
-//!   asked of it, and to all others `holding_itself`.
+//! - A type that holds itself defines its values by recursion. To its own components it is `inside_itself`, without any
+//!   premise, and to all others `holding_itself`.
 //!
 //! # Alternatives
 //!
@@ -51,7 +51,7 @@
 //! - `specs/ChosenTags.antt` says that the tag of the chosen alternative tells it from the others (`TagIdentifiesAlternative`): the
 //!   alternative is one record, which begins with one of its own tags, and no other alternative has that tag (X.680, 29.3).
 //! - A CHOICE that holds itself defines its values by recursion (`ValueMeaning`). To its own alternatives it is
-//!   `inside_itself`, where nothing is asked of it, and to all others `choice_holding_itself`, whose law is `itself_agrees`. The
+//!   `inside_itself`, without any premise, and to all others `choice_holding_itself`, whose law is `itself_agrees`. The
 //!   crate `asn1_recursive` has such types. One that holds itself without a tag, as a component of a SEQUENCE or a SET, is to its
 //!   own alternatives `untagged_inside_itself` (`specs/UntaggedItself.antt`), which begins with the tags of its alternatives.
 //!

@@ -11,8 +11,8 @@ use crate::field_table::FieldTable;
 ///
 /// The entries of all components are numbered in the order of the definition (`numbered`). The table has these and no others
 /// (`rearranged`), as many as there are components (`counted`), so no index is in it twice (`indices_differ`). In the table
-/// of a SEQUENCE, and of a group, each entry's index is its index (`definition_order`; X.680, 25). In that of a SET the root
-/// is in canonical order (`canonical`; X.680, 8.6). What records have of the table is its lines, with those of the additions
+/// of a SEQUENCE, and of a group, each entry's index is its position in the table (`definition_order`; X.680, 25). In that of a SET the root
+/// is in canonical order (`canonical`; X.680, 8.6). Records carry the lines of the table, with those of the additions
 /// after the extension marker (`as_in_records`).
 pub fn tables_are_in_order<T: FieldTable>()
     ensures numbered { (index : ℕ) (entry : Entry) →

@@ -1,4 +1,4 @@
--- What the rules on tags look at in a component. Two tables that look alike clash alike, and are in order alike.
+-- The parts of a component that the rules on tags depend on. Two tables that look alike clash alike, and are in order alike.
 use Rattle.std.proofs.Common.{◌≡◌, ℕ, ◌+◌, Bool, true, false, ◌&&◌, ◌||◌, cond, Option, None, List, [], ◌∷◌, map, refl, sym, ap, ◌∙◌}
 use Rattle.std.specs.List.{position}
 use Rattle.std.specs.Option.{option_map, option_or}

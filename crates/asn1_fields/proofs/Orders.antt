@@ -80,6 +80,6 @@ module _ {X : Type 0} (seen : X → Component) where
 abbrev pub fields_in_order : Field → Field → Bool
 fields_in_order f g = in_order (component_of (entry_of f)) (component_of (entry_of g))
 
--- and so for fields
+-- the same for fields
 pub canonical-is : (fs : List Field) (answer : Bool) → IsAllAdjacentAnswer (λ f g b. b ≡ fields_in_order f g) fs answer → answer ≡ canonical (components fs)
 canonical-is fs answer h = canonical-seen (λ f. component_of (entry_of f)) fs answer h ∙ ap canonical (sym (map-map component_of entry_of fs))

@@ -1,4 +1,4 @@
--- Of the rearrangements of a table whose smallest tags differ, at most one is canonical.
+-- At most one rearrangement of a table whose smallest tags differ is canonical.
 use Rattle.std.proofs.Common.{◌≡◌, ◌≢◌, ◌⊎◌, inl, inr, ℕ, suc, ◌+◌, ◌<◌, ◌≤◌, Bool, true, false, cond, List, [], ◌∷◌, All, AllPairs, Contains, add-one, get_or, map, refl, sym, ap, ◌∙◌, subst, arith}
 use Rattle.std.specs.List.{slice_get, sum_by}
 use Rattle.std.proofs.lemmas.Bool.{cases_lt}

@@ -1,4 +1,4 @@
--- Which components of a SEQUENCE or a SET must have distinct tags, and which of them share one (X.680, 25.6, 25.6.1 and 27.3).
+-- The components of a SEQUENCE or a SET that must have distinct tags, and those that share one (X.680, 25.6, 25.6.1 and 27.3).
 use Rattle.std.specs.Prelude.{◌≡◌, ◌⊎◌, ◌<◌, ◌≤◌, ℕ, ◌+◌, Bool, ◌||◌, if◌then◌else◌, IsTrue, List, [], ◌∷◌, Option, None, Some, MatchOption, IfSome, option_map, position, slice_get}
 use Rattle.std.specs.Option.{option_or}
 use Rattle.asn1_tags.specs.Trees.{Tree, is_open, leaves}

@@ -31,7 +31,7 @@ pub record Entry : Type 0 where
 abbrev pub entry : ℕ → Tag → Tree → FieldPresence → List ℕ → Entry
 entry index tag tree presence name = record { index = index; tag = tag; tree = tree; presence = presence; name = name }
 
--- what a field says
+-- the entry of a field
 abbrev pub entry_of : Field → Entry
 entry_of f = record { index = f.index; tag = f.tag; tree = shape f.tag_tree; presence = f.presence; name = f.name.now }
 
@@ -43,15 +43,15 @@ tagged_entry index type tag presence name = entry index tag (type.tree tag) pres
 abbrev pub typed_entry : {V : Type 0} → ℕ → Meaning V → FieldPresence → List ℕ → Entry
 typed_entry index type presence name = tagged_entry index type type.tag presence name
 
--- what the rules on tags look at in an entry
+-- the component of an entry, as the rules on tags see it
 abbrev pub component_of : Entry → Component
 component_of e = record { presence = e.presence; tree = e.tree }
 
--- what records have of an entry
+-- the line of an entry in records
 abbrev pub line_of : Entry → Line
 line_of e = record { name = e.name; tree = e.tree; may_be_absent = may_be_absent e.presence }
 
--- what several fields say
+-- the entries of several fields
 abbrev pub entries : List Field → List Entry
 entries fs = map entry_of fs
 

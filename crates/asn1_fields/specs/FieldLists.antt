@@ -1,4 +1,4 @@
--- The fields of a table as a list, and what its iterators have left.
+-- The fields of a table as a list, and the fields that its iterators have left.
 use Rattle.std.specs.Prelude.{ℕ, List, filter, map}
 use Rattle.std.specs.Slice.Iter.{iter_rest}
 use Rattle.asn1_fields.specs.Entries.{may_be_absent}
@@ -20,11 +20,11 @@ optional_fields fs = filter (λ f. may_be_absent f.presence) fs
 abbrev pub names_of : List Field → List (List ℕ)
 names_of fs = map (λ f. f.name.now) fs
 
--- what an iterator over all fields has left
+-- the fields left in an iterator over all fields
 abbrev pub fields_left : FieldIter → List Field
 fields_left it = iter_rest it.left
 
--- what one over the fields that may be absent has left
+-- the fields left in an iterator over those that may be absent
 abbrev pub optional_left : OptionalFieldIter → List Field
 optional_left it = optional_fields (iter_rest it.left)
 

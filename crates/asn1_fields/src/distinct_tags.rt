@@ -38,7 +38,7 @@ pub fn first_set_clash(fields: &[Field<'_>]) -> Option<(usize, usize)>
     None
 }
 
-// Of the fields that follow this one, those that must have other tags in a SEQUENCE.
+// The fields after this one that must have other tags in a SEQUENCE.
 fn sequence_rivals<'a>(field: &Field<'_>, following: &'a [Field<'a>]) -> &'a [Field<'a>]
     ensures { components result.now ≡
         rivals (component_of (entry_of field.now)) (components following.now) }

@@ -15,14 +15,14 @@
 //! | [`first_sequence_clash`], [`first_set_clash`] | the rules on distinct tags | `distinct_tags.rt` | `DistinctTags` |
 //! | [`is_canonical`] | the canonical order | `canonical_order.rt` | `CanonicalOrder` |
 //!
-//! What the contracts promise, in the words that `specs/` defines:
+//! The contracts promise, in the words that `specs/` defines:
 //!
 //! - A field is seen as its `Entry`, the same apart from where its tree and its name lie in memory, and the rules on
 //!   tags look at its `Component`, a presence and a tree.
 //! - `first_sequence_clash` and `first_set_clash` answer the least pair of indices that breaks X.680's rule, and `None`
-//!   if and only if there is none (`least`). `specs/DistinctTags.antt` says what the rules are: that two trees share a
-//!   tag (`ShareTag`), and which two indices must not (`IsSequenceClash`, `IsSetClash`); which tags a tree has is said
-//!   by `asn1_model` (`tree_tags`). It also has the answers as functions of the components (`report`).
+//!   if and only if there is none (`least`). `specs/DistinctTags.antt` defines the rules: whether two trees share a
+//!   tag (`ShareTag`), and which two indices must not (`IsSequenceClash`, `IsSetClash`); `asn1_model` defines the
+//!   tags of a tree (`tree_tags`). The file also has the answers as functions of the components (`report`).
 //! - `is_canonical` is true if and only if no field's smallest tag is above the next one's (`ordered`, and `report` as
 //!   a function). Of all rearrangements of a table whose smallest tags differ, at most one is canonical
 //!   (`at_most_one_rearrangement_is_canonical`).

@@ -26,7 +26,7 @@ impl FieldPresence {
     }
 }
 
-/// A component is marked DEFAULT unless something else is said.
+/// The default presence is DEFAULT.
 impl Default for FieldPresence {
     ghost use Rattle.asn1_fields.specs.declared.presence.FieldPresence.TheVariants as presences;
 

@@ -1,4 +1,4 @@
-//! What the types of whole numbers have in common (X.680, 19: the values of INTEGER are all whole numbers).
+//! The interface that all types of whole numbers share (X.680, 19: the values of INTEGER are all whole numbers).
 ghost use Rattle.std.specs.Prelude.{◌≡◌, ◌↔◌, ℤ, pos, ◌<ℤ◌, FitsSigned, IsTrue, IsOk, IsSome, IfSome, IfOk};
 ghost use Rattle.std.specs.Int.{w128};
 ghost use Rattle.std.specs.Option.{SomeIff};

@@ -13,7 +13,7 @@
 //!
 //! The module [`laws`] says by contracts what derives, aliases and definitions give.
 //!
-//! What the contracts promise, and the words that they use:
+//! The contracts promise, in these words:
 //!
 //! - A number goes into an `Integer` and comes back: `Integer::from_sign_magnitude` gives the number of
 //!   the sign and the bytes, `signed` and `magnitude` of `specs/Numbers.antt`, and `sign_magnitude` gives

@@ -1,4 +1,4 @@
--- What records that are the same up to order have in common.
+-- Facts that records have in common if they are the same up to order.
 use Rattle.std.specs.Prelude.{◌≡◌, ◌≤◌, ℕ, suc, max, List, [], ◌∷◌, All, IsPermutation, refl}
 use Rattle.std.proofs.Common.{ap, sym, zero-le, ◌∙◌}
 use Rattle.std.proofs.Math.Nat.{le_antisymm, le_refl, le_trans, le-max_left, le-max_right, max-le}

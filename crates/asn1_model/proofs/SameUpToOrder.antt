@@ -183,7 +183,7 @@ same_group_records table rs ss all = by_marks (presence_marks_alone rs) (presenc
     by_marks false false e =
         next (equal (presence_mark (group_start table))) (SameAll-append rs ss (presence_mark group_end ∷ []) (presence_mark group_end ∷ []) all (SameAll-refl (held (presence_mark group_end ∷ []))))
 
--- What holds no other records is the same as itself alone.
+-- A record that holds no others is the same as itself alone.
 pub same_as_scalar : {q : Record} {t : Tag} {c : ConstraintSet} {n : Name} {x : Content} → SameRecord q (scalar t c n x) → q ≡ scalar t c n x
 same_as_scalar (equal r) = refl
 
@@ -193,7 +193,7 @@ same_as_raw (equal r) = refl
 pub same_as_mark : {q : Record} {m : PresenceMark} → SameRecord q (presence_mark m) → q ≡ presence_mark m
 same_as_mark (equal r) = refl
 
--- What is the same as a record that holds others: it has the same head, and holds lists that are the same after a
+-- A record that is the same as one that holds others: it has the same head, and holds lists that are the same after a
 -- rearrangement, or element by element where the order means something.
 pub record HoldsTheSame (q : Record) (h : Head) (ss : List Record) : Type 0 where
   pub inner : List Record
@@ -225,7 +225,7 @@ same_as_holding q h ss (in_any_order _ {rs = rs} {qs = qs} unordered all moved) 
   unmoved = λ ordered. absurd (false≢true (sym ordered ∙ unordered));
 }
 
--- What is the same as a list: its first record, and the others; and nothing, where nothing is left.
+-- A list that is the same as a list: the first records are the same, and so are the others.
 pub record BeginsTheSame (qs : List Record) (r : Record) (rs : List Record) : Type 0 where
   pub first : Record
   pub others : List Record

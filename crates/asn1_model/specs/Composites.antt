@@ -1,4 +1,4 @@
--- The records of what is put together of parts, by the records of the parts.
+-- The records of composite types, by the records of their parts.
 use Rattle.std.specs.Prelude.{ℕ, Bool, List, [], ◌∷◌, ◌++◌, Option, None, Some, codes, if◌then◌else◌}
 use Rattle.std.specs.List.{flat_map}
 use Rattle.asn1_tags.specs.declared.tags.Tag.{Tag}
@@ -31,7 +31,7 @@ elements_records own t c n elements =
 abbrev pub text_records : Tag → ConstraintSet → Name → List ℕ → List Record
 text_records t c n bytes = scalar t c (name_or n (Some (codes "UTF8String"))) (units utf8 bytes) ∷ []
 
--- What follows an explicit tag (X.680, 31.2.7).
+-- The records after an explicit tag (X.680, 31.2.7).
 abbrev pub explicit_tag_records : Tag → Name → List Record → List Record
 explicit_tag_records t n rs = holding (explicit_tag t n) rs ∷ []
 

@@ -26,7 +26,7 @@ pub record ConstraintSet : Type 0 where
 abbrev pub part : {T : Type 0} → Extensible T → Part T
 part e = record { root = e.constraint; additions = option_copied e.extensible }
 
--- what a constraint set is, apart from where its lists lie in memory
+-- a constraint set, apart from where its lists lie in memory
 abbrev pub constraint_set : Constraints → ConstraintSet
 constraint_set set = record {
   value = option_map part set.value;

@@ -122,7 +122,7 @@ option_type m = record {
       (λ v. m.records v t c n) (λ v. m.well_formed accepts v t c n) o;
 }
 
--- What a type of values that hold others says of what is inside: the records of a value's; whether its types are well tagged,
+-- The contents of the values of a type that hold others: their records; whether their types are well tagged,
 -- with distinct tags; whether a value's are of their types; and whether they are valid, when their records are well formed.
 pub record Inside (V : Type 0) : Type 1 where
   pub records : V → List Record
@@ -210,7 +210,7 @@ enumerated_type tag constraints name labels number_of =
 abbrev pub choice_tree : Tree → Tag → Tree
 choice_tree alternatives t = if tag_eq t CHOICE then alternatives else leaf t
 
--- What a CHOICE says of its alternatives: their table and their trees. The chosen tag is the first of what is inside a value,
+-- The alternatives of a CHOICE: their table and their trees. The chosen tag is the first tag of the contents of a value,
 -- and one of theirs.
 pub record Chosen {V : Type 0} (inside : Inside V) : Type 0 where
   pub table : Table Line
@@ -218,7 +218,7 @@ pub record Chosen {V : Type 0} (inside : Inside V) : Type 0 where
   pub among : inside.IsWellTagged → (v : V) →
       Has (tree_tags (choice alternatives)) (first_tag (inside.records v))
 
--- A CHOICE (X.680, 29), by its name and constraints, the chosen alternative, and what is said of all. Untagged it begins
+-- A CHOICE (X.680, 29), by its name and constraints, the chosen alternative, and the table of all. Untagged it begins
 -- with the tag of the chosen one. It is well tagged where no tag is twice among its alternatives (29.3) and their types
 -- are well tagged.
 abbrev pub choice_type : {V : Type 0} → Name → ConstraintSet → (inside : Inside V) → Chosen inside → Meaning V

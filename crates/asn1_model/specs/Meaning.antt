@@ -1,4 +1,4 @@
--- What a type means to every codec.
+-- The meaning of a type to every codec.
 use Rattle.std.specs.Prelude.{◌≡◌, ℕ, Bool, List}
 use Rattle.asn1_tags.specs.declared.tags.Tag.{Tag}
 use Rattle.asn1_tags.specs.Trees.{Tree}
@@ -19,7 +19,7 @@ pub record Meaning (V : Type 0) : Type 1 where
   pub is_choice : Bool
   -- the value is there, as each is that is no option
   pub is_present : V → Bool
-  -- what a value is under a tag, constraints and a name
+  -- the records of a value under a tag, constraints and a name
   pub records : V → Tag → ConstraintSet → Name → List Record
   -- each value is a single record: so for every type but an option, which may be absent, a type without any content, and
   -- what holds one of these and means the same
@@ -48,7 +48,7 @@ module _ {V : Type 0} (m : Meaning V) where
   abbrev pub tags : Tag → Tags
   tags t = tree_tags (m.tree t)
 
-  -- what a value is under the type's own tag, constraints and name
+  -- the records of a value under the type's own tag, constraints and name
   abbrev pub own_records : V → List Record
   own_records v = m.records v m.tag m.constraints m.name
 

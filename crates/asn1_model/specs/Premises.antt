@@ -5,7 +5,7 @@ use Rattle.asn1_model.specs.Meaning.{Meaning, IsWellTaggedUnder}
 use Rattle.asn1_model.specs.Tags.{IsATag}
 
 module _ {V : Type 0} (m : Meaning V) where
-  -- nothing is asked of a value: each is valid, whatever a codec accepts as an open type
+  -- each value is valid, whatever a codec accepts as an open type
   abbrev pub EachIsValid : Type 0
   EachIsValid = (accepts : List ℕ → Bool) (v : V) → m.IsValid accepts v
 
@@ -13,7 +13,7 @@ module _ {V : Type 0} (m : Meaning V) where
   abbrev pub HasOneTag : Type 0
   HasOneTag = (t : Tag) → IsWellTaggedUnder m t ↔ IsATag t
 
-  -- a type that holds no others: nothing is asked of a value, and the type has one tag, whichever it is given
+  -- a type that holds no others: each value is valid, and the type has one tag, whichever it is given
   abbrev pub IsPlain : Type 0
   IsPlain = EachIsValid × HasOneTag
 

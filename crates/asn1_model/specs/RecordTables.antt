@@ -1,4 +1,4 @@
--- What the table of a type says of its components, alternatives or items, as codecs need it beside
+-- The table of the components, alternatives or items of a type, as codecs need it beside
 -- a value.
 use Rattle.std.specs.Prelude.{ℕ, ℤ, Bool, List, [], Option, None}
 use Rattle.asn1_tags.specs.Trees.{Tree}

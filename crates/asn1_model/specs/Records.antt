@@ -1,4 +1,4 @@
--- What a value means to a codec: a list of records and presence marks.
+-- The meaning of a value to a codec: a list of records and presence marks.
 use Rattle.std.specs.Prelude.{◌≡◌, ℕ, suc, max, ℤ, Bool, true, false, ◌&&◌, List, [], ◌∷◌, Option, None, Some, refl}
 use Rattle.std.proofs.Common.{ap}
 use Rattle.asn1_tags.specs.declared.tags.Tag.{Tag}
@@ -27,7 +27,7 @@ pub data StringKind : Type 0 where
   teletex : StringKind
   bmp : StringKind
 
--- What is in a record that holds no others (X.680, 18 to 24, 32 and 41). Each kind of type has contents of its own:
+-- The content of a record that holds no others (X.680, 18 to 24, 32 and 41). Each kind of type has contents of its own:
 -- an INTEGER and an ENUMERATED of one number differ, and so do two strings of the same units and different kinds. The number
 -- of an ENUMERATED value is beside the labels of its type.
 pub data Content : Type 0 where
@@ -39,7 +39,7 @@ pub data Content : Type 0 where
   bits : List Bool → Content
   units : StringKind → List ℕ → Content
 
--- What a record is that holds others, apart from these (X.680, 25 to 31): the components of a SEQUENCE or a SET in the
+-- The head of a record that holds others (X.680, 25 to 31): the components of a SEQUENCE or a SET in the
 -- order of their definition, the elements of a SEQUENCE OF or a SET OF, what follows an explicit tag, or the
 -- chosen alternative of a CHOICE, whose tag is that of the alternative. Components and alternatives are beside the table of
 -- their type.
@@ -51,7 +51,7 @@ pub data Head : Type 0 where
   explicit_tag : Tag → Name → Head
   alternative : Tag → ConstraintSet → Table Line → Name → Head
 
--- Where a component is in its definition: in the root, or among the additions (X.680, 25.1).
+-- The side of a component in its definition: the root, or the additions (X.680, 25.1).
 pub data Side : Type 0 where
   in_root : Side
   in_additions : Side

@@ -15,7 +15,7 @@ pub record TaggedType (W : Type 0) : Type 1 where
   pub tag : Tag
   -- the tags with which it can begin
   pub tree : Tree
-  -- what a value is
+  -- the records of a value
   pub records : W → List Record
   -- the type is well tagged
   pub IsWellTagged : Type 0

@@ -1,4 +1,4 @@
--- Which tags a list of records can begin with.
+-- The tags with which a list of records can begin.
 use Rattle.std.specs.Prelude.{◌≡◌, ℕ, ⊤, false, List, [], ◌∷◌, Contains, if◌then◌else◌}
 use Rattle.asn1_tags.specs.declared.tags.Tag.{Tag}
 use Rattle.asn1_tags.specs.declared.classes.Class.TheVariants.{Universal, Application, Context, Private}
@@ -39,7 +39,7 @@ pub data Tags : Type 0 where
 abbrev pub only : Tag → Tags
 only t = among (t ∷ [])
 
--- The tags of a tree are its leaves. Where a choice of nothing is in it, they are every tag: an open type can begin
+-- The tags of a tree are its leaves. If it contains a choice of nothing, they are every tag: an open type can begin
 -- with any (X.680, 25.6.2).
 abbrev pub tree_tags : Tree → Tags
 tree_tags tree = if is_open tree then every else among (leaves tree)

@@ -1,4 +1,4 @@
--- What the table of a type says, apart from where its lists lie in memory.
+-- The entries of the table of a type, apart from where its lists lie in memory.
 use Rattle.std.specs.Prelude.{Bool, true, false}
 use Rattle.asn1_tags.specs.declared.tags.Tag.{Tag}
 use Rattle.asn1_tags.specs.Trees.{Tree, leaf, choice, none, shapes}

@@ -1,4 +1,4 @@
--- What the records of every valid value are.
+-- Well-formed records, as every valid value has.
 use Rattle.std.specs.Prelude.{◌≡◌, ℕ, ⊤, Bool, true, false, IsTrue, List, [], ◌∷◌, ◌++◌, All, Option, None, Some, IfSome, if◌then◌else◌}
 use Rattle.std.proofs.Common.{ap}
 use Rattle.std.specs.List.{flat_map}

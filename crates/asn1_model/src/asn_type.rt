@@ -18,10 +18,10 @@ use std::alloc::{AllocError, Global};
 /// the meaning it proves the law of types (`one_record`): a value of a type whose values are single records, and whose
 /// tags are distinct, is one record, and begins with one of the type's tags. Each word for a kind of type has the proof.
 pub trait AsnType {
-    // What the type means to every codec.
+    // The meaning of the type to every codec.
     ghost meaning: { Meaning Self };
 
-    /// What a schema says of the type.
+    /// The facts that a schema states of the type.
     fn table() -> TypeTable
         ensures tag { result.tag ≡ meaning.tag }
         ensures tree { (tag : Tag) → tree_under result.tree tag ≡ meaning.tree tag }

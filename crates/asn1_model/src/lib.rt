@@ -1,4 +1,4 @@
-//! What a type of ASN.1 means to every codec: the tables that a schema has of it, and the records of its values.
+//! The meaning of ASN.1 types to every codec: the tables that a schema has of a type, and the records of its values.
 //!
 //! A codec never sees a type. It sees records: a content under a tag, a scope with others inside, the bytes of an open
 //! type, and presence marks that say whether a component is there. So a type is written once, by saying which records its values
@@ -16,7 +16,7 @@
 //! `Integer`, `ConstrainedInteger`, every kind of string, `&str`, `ObjectIdentifier`, `Option`, references, `Box`, `Cow`,
 //! `Vec`, arrays, `&[T]` and `PhantomData`.
 //!
-//! What the contracts promise, and the words that they use:
+//! The contracts promise, in these words:
 //!
 //! - Each function of `AsnType` answers what `meaning` says: `tag`, `tag_tree_under`, `identifier`, `constraints`,
 //!   `is_choice`, `is_present` and `tag_tree`. So the tables of a type and its records cannot disagree.

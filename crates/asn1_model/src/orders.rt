@@ -1,4 +1,4 @@
-//! What the order inside sets means.
+//! The order inside sets.
 ghost use Rattle.std.specs.Prelude.{◌≡◌};
 ghost use Rattle.asn1_model.specs.Orders.{SameRecord, SameAll};
 ghost use Rattle.asn1_model.specs.Records.{Record, Records, height, is_presence_mark};

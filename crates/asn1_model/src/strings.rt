@@ -13,7 +13,7 @@ use asn1_values::kind::{
     Bits, Bmp, General, Graphic, Ia5, Numeric, Octets, Printable, Teletex, Visible,
 };
 
-/// What a kind of string is in a schema, as the kind's marker says it.
+/// A kind of string in a schema, by its marker.
 pub trait StringType<U> {
     // The tag that X.680 gives the kind (8.4, table 1).
     ghost own_tag: { Tag };
@@ -21,10 +21,10 @@ pub trait StringType<U> {
     // Its name.
     ghost own_name: { List ℕ };
 
-    // What the units are to a codec.
+    // The content of the units for a codec.
     ghost content: { List U → Content };
 
-    /// What a schema says of the kind.
+    /// The facts that a schema states of the kind.
     fn table() -> TypeTable
         ensures tag { result.tag ≡ own_tag }
         ensures tree { result.tree ≡ Leaf }

@@ -1,4 +1,4 @@
-//! What a schema says of a type.
+//! The facts that a schema states of a type.
 ghost use Rattle.std.specs.Prelude.{◌≡◌};
 ghost use Rattle.asn1_model.specs.ConstraintSets.{table_constraints, unconstrained};
 ghost use Rattle.asn1_model.specs.Tags.{CHOICE};
@@ -41,7 +41,7 @@ impl TreeForm {
     }
 }
 
-/// What a schema says of a type: rasn's `TAG`, `TAG_TREE`, `IDENTIFIER`, `IS_CHOICE` and `CONSTRAINTS` in one.
+/// The facts that a schema states of a type: rasn's `TAG`, `TAG_TREE`, `IDENTIFIER`, `IS_CHOICE` and `CONSTRAINTS` in one.
 #[derive(Clone, Copy, Debug)]
 pub struct TypeTable {
     /// The type's own tag.

@@ -1,4 +1,4 @@
-//! What the records of every valid value are.
+//! The records of valid values are well formed.
 ghost use Rattle.std.specs.Prelude.{ℕ, Bool, List};
 ghost use Rattle.asn1_tags.specs.declared.tags.Tag.{Tag};
 ghost use Rattle.asn1_model.specs.ConstraintSets.{ConstraintSet};

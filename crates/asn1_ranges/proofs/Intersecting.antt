@@ -1,4 +1,4 @@
--- What the intersection of two bounds has for members.
+-- The members of the intersection of two bounds.
 use Rattle.std.proofs.Common.{◌≡◌, ◌↔◌, ℤ, pos, ◌≤ℤ◌, Bool, true, false, cond, ◌||◌, Option, Some, None, refl, ap, arith, rules}
 use Rattle.std.specs.Prelude.{IsSomeAnd, IfSome, IfNone, int_lt}
 use Rattle.std.proofs.lemmas.Int.{ints}

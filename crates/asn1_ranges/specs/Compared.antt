@@ -1,4 +1,4 @@
--- How bounds are compared and hashed, and what is asked of comparisons and copies that are derived.
+-- The comparison and the hash of bounds, and the promises of derived comparisons and copies.
 use Rattle.std.specs.Prelude.{◌≡◌, ◌↔◌, ℕ, pos, Bool, true, false, ◌&&◌, IsTrue, List, ◌++◌, Option}
 use Rattle.std.specs.Hash as fed
 use Rattle.std.specs.Option.{option_eq, option_cmp}
@@ -35,7 +35,7 @@ module _ {T : Type 0} where
   bound_cmp cmp (Range start end) (Range other_start other_end) = ordering_then (option_cmp cmp start other_start) (option_cmp cmp end other_end)
   bound_cmp cmp (Range start end) b = Greater
 
-  -- what a bound feeds a hasher: the index of its kind, and then its values
+  -- the input of a hasher for a bound: the index of its kind, and then its values
   abbrev pub bound_hash : (T → List (List ℕ)) → Bounded T → List (List ℕ)
   bound_hash hash None = fed.isize (pos 0)
   bound_hash hash (Single a) = fed.isize (pos 1) ++ hash a

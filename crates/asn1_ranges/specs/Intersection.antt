@@ -29,7 +29,7 @@ module _ {T : Type 0} (number : T → ℤ) where
   abbrev pub common : Bounded T → Bounded T → Option (Bounded T)
   common a b = bound_between (is_single a || is_single b) (greater_start (start_of a) (start_of b)) (lesser_end (end_of a) (end_of b))
 
-  -- no bound leaves the other side as it is
+  -- no bound keeps the other side unchanged
   abbrev pub intersection : Bounded T → Bounded T → Option (Bounded T)
   intersection bounded.None b = Some b
   intersection a bounded.None = Some a

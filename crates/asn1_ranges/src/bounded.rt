@@ -159,7 +159,7 @@ impl<T: WholeNumber> Bounded<T> {
         Some(start.count_to(*end))
     }
 
-    /// What a codec writes of a member: its offset (`Left`) from the start of a range that has one, and else the
+    /// The number that a codec writes for a member: its offset (`Left`) from the start of a range that has one, and else the
     /// value itself (`Right`).
     pub fn effective_value(&self, value: T) -> Either<T, T>
         requires above { ForSome (range_start self.now)

@@ -1,4 +1,4 @@
-//! What two bounds have in common.
+//! The intersection of two bounds.
 ghost use Rattle.std.specs.Prelude.{◌≡◌, IfSome, IfNone};
 ghost use Rattle.std.specs.Option.{option_copied};
 ghost use Rattle.asn1_ranges.specs.Ends.{is_single};
@@ -11,14 +11,14 @@ use crate::number::WholeNumber;
 impl<T: WholeNumber> Bounded<T> {
     /// The bound whose members are those of both, or `None` where they have none in common.
     ///
-    /// No bound leaves the other side as it is, also where that is inverted. An inverted range with anything else is
+    /// No bound keeps the other side unchanged, also if that is inverted. An inverted range with anything else is
     /// `None`.
     pub fn intersect(&self, other: Self) -> Option<Self>
         ensures shape { result ≡ intersection T.number self.now other }
         ensures members { IfSome result (HasCommonMembers T.number self.now other) }
         ensures disjoint { IfNone result (AreDisjoint T.number self.now other) }
 
-        // Where neither side is inverted, `None` comes only if nothing is in common.
+        // If neither side is inverted, `None` comes only if nothing is in common.
         ensures inhabited { IsOrdered T.number self.now → IsOrdered T.number other →
             IfSome result (HasMember T.number) }
 
@@ -34,7 +34,7 @@ impl<T: WholeNumber> Bounded<T> {
     }
 }
 
-// What two bounds leave that both restrict.
+// The intersection of two bounds that both restrict.
 fn common<T: WholeNumber>(a: &Bounded<T>, b: &Bounded<T>) -> Option<Bounded<T>>
     ensures { result ≡ common T.number a.now b.now }
 {

@@ -17,7 +17,7 @@
 //! The module [`kind`] has the markers that tell the kinds of string apart, with their alphabets, and [`laws`] says by
 //! contracts what derives, aliases and definitions give.
 //!
-//! What the contracts promise, and the words that they use:
+//! The contracts promise, in these words:
 //!
 //! - `AlphabetString::new`, and `TryFrom` of a vector, succeed if and only if the alphabet has all units (`allowed`), and
 //!   then give the string of these units (`units`); else the error names the first unit that the alphabet lacks

@@ -1,4 +1,4 @@
--- What walks over trees use of their leaves.
+-- Facts about the leaves of trees, for the walks over them.
 use mathlib.Core.Former.{Count}
 use Rattle.std.proofs.Common.{◌≡◌, ℕ, Bool, true, false, ◌||◌, ◌&&◌, not, List, [], ◌∷◌, ◌++◌, ◌+◌, ◌-◌, ◌<◌, ◌≤◌, ◌==◌, Contains, length, get_or, take, drop, length-append, append_assoc, refl, sym, ap, ◌∙◌, arith}
 use Rattle.std.specs.Borrow.{Bor}

@@ -146,7 +146,7 @@ digits_within n = upto n n (omega arith)
 get_or_any : {X : Type 0} (xs : List X) (i : ℕ) (d e : X) → i < length xs → get_or xs i d ≡ get_or xs i e
 get_or_any xs i d e lt = get_or_from_slice_get xs i (get_or xs i e) d (slice_get-get_or xs i e lt)
 
--- What a search for the tag has found when the entries from start to end are left, after this many comparisons.
+-- The state of a search for the tag when the entries from start to end are left, after this many comparisons.
 pub record Searched (t : Tag) (table : List Entry) (start end : ℕ) (found : Option ℕ) (count : ℕ) : Type 0 where
   pub ordered : start ≤ end
   pub within : end ≤ length table

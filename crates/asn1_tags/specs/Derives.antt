@@ -1,4 +1,4 @@
--- What derived members have to say of a type.
+-- The promises of derived members.
 use Rattle.std.specs.Prelude.{◌≡◌, ◌↔◌, Bool, IsTrue}
 
 -- two values are equal if and only if they are the same

@@ -13,7 +13,7 @@ mutual
     none : Trees
     more : Tree → Trees → Trees
 
--- what a tree is, apart from where it lies in memory
+-- the shape of a tree: the tree, apart from where it lies in memory
 unfoldable mutual
   pub shape : TagTree → Tree
   shape (Leaf t) = leaf t
@@ -23,7 +23,7 @@ unfoldable mutual
   row_shapes end_of-TagTree = none
   row_shapes (more_of-TagTree t rest) = more (shape t) (row_shapes rest)
 
--- what several trees are
+-- the shapes of several trees
 abbrev pub shapes : List TagTree → Trees
 shapes [] = none
 shapes (t ∷ ts) = more (shape t) (shapes ts)

@@ -1,4 +1,4 @@
--- What the walks over trees answer on their way.
+-- The answers of the walks over trees.
 use Rattle.std.specs.Prelude.{◌≡◌, ◌<◌, ◌||◌, ℕ, Bool, true, false, ◌+◌, length, slice_index_or, Result, MatchResult, Option, Some, None, MatchOption, List, [], All, Contains}
 use Rattle.std.specs.List.{list_any, position_or_len}
 use Rattle.asn1_tags.specs.Tags.{IsAtMost, has, lesser, tag_eq}

@@ -127,7 +127,7 @@ impl Variants {
 
     /// The first index of the tag in the list, and how often two tags were compared to find it.
     ///
-    /// Where there is a table, each comparison halves the entries that are left, and else the list is
+    /// With a table, each comparison halves the entries that are left; without one, the list is
     /// searched from the left.
     #[tactic(auto, using(crate::proofs::Searching::searches))]
     pub fn find_counted(&self, tag: &Tag) -> (Option<usize>, usize)

@@ -1,4 +1,4 @@
-//! What the derived members of this crate's types say.
+//! The promises of the derived members of this crate's types.
 ghost use Rattle.std.specs.Prelude.{◌≡◌, ◌↔◌, ◌++◌, ℕ, IsTrue, Some, codes, pos};
 ghost use Rattle.std.specs.Fmt.{decimal};
 ghost use Rattle.std.specs.Hash as fed;
@@ -22,7 +22,7 @@ use std::hash::Hash;
 ///
 /// This does nothing: its contract is what the derives of this crate have to mean. Classes go by
 /// their numbers, tags by class and then number, and names by their bytes, with no name before
-/// all names. What is hashed of a tag is its class and then its number. A clone is its source.
+/// all names. A tag feeds a hasher its class and then its number. A clone is its source.
 pub fn derives_take_every_part()
     ensures class_eq { ComparesAll ⟦<Class as PartialEq>⟧.eq }
     ensures class_cmp { (a b : Class) → ⟦<Class as Ord>⟧.cmp a b ≡
@@ -73,7 +73,7 @@ pub fn classes_and_tags_are_printed_by_name()
         Some (codes "Private " ++ decimal number) }
 {}
 
-/// What `tag!` gives for each of its four forms, in the order of the classes.
+/// The tags of the four forms of `tag!`, in the order of the classes.
 pub fn tags_by_class_and_number(number: u32) -> (Tag, Tag, Tag, Tag)
     ensures universal { result.0 ≡ record { class = Class.Universal; value = number } }
     ensures application { result.1 ≡ record { class = Class.Application; value = number } }

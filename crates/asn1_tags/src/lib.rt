@@ -13,7 +13,7 @@
 //! | [`VariantsError`] | why there is no list with a table |
 //! | [`Identifier`] | the name of a type, with a constant for each type of X.680, or no name |
 //!
-//! What the contracts promise, and the words that they use:
+//! The contracts promise, in these words:
 //!
 //! - `Tag::const_cmp` and `Ord` are the canonical order, `tag_cmp` (clauses `canonical` and `as_ord`);
 //!   `Tag::const_eq` is true exactly for the same tag. `specs/Tags.antt` defines the order, what the
@@ -43,9 +43,8 @@
 //!   and clone of these types are, in the words of `specs/Derives.antt`. `laws::classes_and_tags_are_printed_by_name` says their
 //!   texts, byte for byte.
 //!
-//! Of the calls of this crate `new`, `from_static`, `from_slice`, `with_table` and `try_clone` of
-//! `Variants` take memory. `with_table` also fails where its table does not fit, and each of the others
-//! only where the allocator refused.
+//! The calls `new`, `from_static`, `from_slice`, `with_table` and `try_clone` of `Variants` take memory.
+//! `with_table` also fails if its table does not fit, and each of the others only if memory runs out.
 //!
 //! For proofs in other crates, `proofs/` has the leaves of trees that follow one another
 //! (`Leaves`), the laws of the order of tags (`Smallest`), the tests of lists of tags (`Distinct`),

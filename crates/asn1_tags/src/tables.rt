@@ -7,7 +7,7 @@ ghost use Rattle.asn1_tags.specs.TagTables.{EntryFits, FailsFirstAt, TableFits, 
 use crate::tags::Tag;
 use std::cmp::Ordering;
 
-/// Where the table fails first to fit the tags, and `None` where it fits.
+/// The index where the table first fails to fit the tags; `None` if it fits.
 pub(crate) fn first_mismatch(tags: &[Tag], table: &[(Tag, usize)]) -> Option<usize>
     ensures { MatchOption result (TableFits tags.now table.now) (FailsFirstAt tags.now table.now) }
 {

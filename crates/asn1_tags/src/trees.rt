@@ -111,7 +111,7 @@ impl TagTree<'_> {
         requires { length (leaves_of (shapes nodes.now)) < 2 ^ 64 }
         ensures leaf { result ≡ slice_get (leaves_of (shapes nodes.now)) index }
 
-        // Where each tag occurs once, the index of the leaf is the index that was asked for.
+        // If each tag occurs once, the index of the leaf is the index that was asked for.
         ensures back { let tags = leaves_of (shapes nodes.now) in AllPairs (λ s t. s ≢ t) tags →
             IfSome result (λ tag. position_of tag tags ≡ Some index) }
     {

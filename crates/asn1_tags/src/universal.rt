@@ -185,6 +185,6 @@ impl Tag {
         value: 31,
     };
 
-    /// What takes the place of a tag at an untagged CHOICE, which has none of its own: equal to `EOC`.
+    /// The marker tag of an untagged CHOICE, which has no tag of its own: equal to `EOC`.
     pub const CHOICE: Tag = Tag::EOC;
 }

@@ -1,4 +1,4 @@
--- What a string of whatever kind is in a record.
+-- The content of a string of any kind in a record.
 use Rattle.std.specs.Prelude.{◌≡◌, ⊤}
 use Rattle.asn1_model.specs.Records as model
 use Rattle.asn1_types.specs.declared.any_string.OctetKind.{OctetKind}

@@ -255,7 +255,7 @@ same_counts-equiv {eq = eq} laws =
     (same_counts-partial (partial_equiv_from_equiv laws))
     (λ xs. counted eq xs xs refl (found_by eq xs xs xs (λ z. le_refl (count_of eq z xs)) ((lists_equiv laws).refl xs)) (λ _. refl))
 
--- What a function makes of the elements of two lists has as many of each as they have, by the equality along the function.
+-- Mapping two lists by a function keeps how often each element occurs, by the equality along the function.
 module _ {S T : Type 0} (h : S → T) (eq : T → T → Bool) where
   count_of-map : (x : S) (xs : List S) → count_of eq (h x) (map h xs) ≡ count_of (λ y z. eq (h y) (h z)) x xs
   count_of-map x [] = refl

@@ -6,7 +6,7 @@ use asn1_model::{AsnType, TypeTable};
 
 /// A SEQUENCE OF this many elements (X.680, 26). It means what the array means.
 ///
-/// An array can be written as it is; what is both written and read is this. Arrays are equal if their elements are, go
+/// A plain array can only be written; this one can be read too. Arrays are equal if their elements are, go
 /// lexicographically, and feed a hasher as slices do.
 #[derive(Drop)]
 #[derive_where(Clone, Copy, Debug, PartialEq, Eq, PartialOrd, Ord, Hash; T)]
@@ -43,7 +43,7 @@ impl<T, const N: usize> From<[T; N]> for Array<T, N> {
 impl<T: Drop, const N: usize> TryFrom<Vec<T>> for Array<T, N> {
     type Error = Vec<T>;
 
-    // A list of another length is answered as it is.
+    // A list of another length comes back unchanged.
     ghost try_from_gives = { λ list made.
         MatchResult made (λ array. (array.elements ≡ list.items) × (vec_len list ≡ N))
         (λ same. (same ≡ list) × (vec_len list ≢ N)) };

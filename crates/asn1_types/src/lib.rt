@@ -22,7 +22,7 @@
 //! | [`Choice`], [`ChoiceType`] | CHOICE types: of `asn1_components` | |
 //! | [`Enumerated`], [`EnumeratedItems`], [`EnumerationItem`] | ENUMERATED types: of `asn1_components` | |
 //!
-//! What the contracts promise, and the words that they use:
+//! The contracts promise, in these words:
 //!
 //! - Two sets are equal exactly if some rearrangement of the second is element by element equal to the first, by the
 //!   elements' own equality: `equal_sets_have_the_same_elements` and `SetOf::eq_slice` say so in `SameElements` of

@@ -103,7 +103,7 @@ impl<T> SetOf<T> {
         ensures rest { iter_rest result ≡ self.now }
         ensures bound { length self.now < 2 ^ 64 }
 
-        // What the iterator of a slice yields, from either end.
+        // The elements that the iterator of a slice yields, from either end.
         ensures runs { IterYieldsInOrder T }
         ensures runs_back { IterYieldsInReverse T }
     {

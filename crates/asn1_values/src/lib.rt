@@ -16,10 +16,10 @@ pub use asn1_integers as integers;
 pub use asn1_integers::{
     Between, ConstrainedInteger, Integer, IntegerType, LimitedInteger, Limits, OutOfRangeError,
 };
+pub use asn1_strings as strings;
 pub use asn1_strings::{
     Alphabet, AlphabetError, AlphabetString, ArcError, AsciiAlphabet, BitStr, BitString, BmpString,
     GeneralString, GraphicString, Ia5String, NumericString, ObjectIdentifier,
     ObjectIdentifierError, OctetString, PrintableString, StringError, StringUnit, TeletexString,
     UnitString, Utf8String, VisibleString, kind,
 };
-pub use asn1_strings as strings;

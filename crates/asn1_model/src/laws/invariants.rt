@@ -1,5 +1,5 @@
-//! Which values meet the invariants of their types. A theorem on bytes of another's asks this of the values that the bytes
-//! stand for.
+//! Laws on the invariants of types. The theorem for bytes from elsewhere asks these invariants of the values that the bytes
+//! encode.
 ghost use Rattle.std.specs.Prelude.{◌≡◌, ◌↔◌, ℤ, Bool, List, All, IfSome, IsTrue, Option, length};
 ghost use Rattle.std.specs.Cow.{cow_value};
 ghost use Rattle.std.specs.Str.{IsUtf8};

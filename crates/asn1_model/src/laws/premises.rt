@@ -20,7 +20,7 @@ use std::borrow::Cow;
 use std::marker::PhantomData;
 
 /// A law of the types that hold no others: each value is valid, and the type is well tagged under each tag but the CHOICE marker
-/// tag. Of a number with limits it is asked that it is within them, and a type without any content has no tag.
+/// tag. A number with limits is valid if it is within them, and a type without any content has no tag.
 pub fn types_that_hold_no_others_are_plain<
     'a,
     L: Limits,
@@ -58,7 +58,7 @@ pub fn types_that_hold_no_others_are_plain<
     ensures phantom { EachIsValid ⟦<PhantomData<T> as AsnType>⟧.meaning }
 {}
 
-/// A law of validity: of a value that holds others, what is asked is what is asked of these.
+/// A law of validity: a value that holds others is valid if and only if these are.
 pub fn holders_are_valid_as_their_contents<'a, T: AsnType + 'a, const N: usize>(
     _vec: &Vec<T>,
     _slice: &'a [T],

@@ -122,7 +122,7 @@ impl<A: Alphabet<u8>> AlphabetString<u8, A> {
 impl<U: Drop, A: Alphabet<U>> TryFrom<Vec<U>> for AlphabetString<U, A> {
     type Error = AlphabetError;
 
-    // What `new` answers.
+    // The answer of `new`.
     ghost try_from_gives = { λ units made. (IsOk made ↔ AllPass A.allows units.items) × IfOk made (λ s. s ≡ units.items) × IfErr made (λ e. position (λ u. not (A.allows u)) units.items ≡ Some e.0) };
 
     fn try_from(units: Vec<U>) -> Result<Self, AlphabetError> {

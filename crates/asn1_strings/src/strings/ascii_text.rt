@@ -19,7 +19,7 @@ impl<A: AsciiAlphabet> AlphabetString<u8, A> {
     /// The string of these characters.
     ///
     /// The error names the first character that the alphabet lacks, by its index; all before it are of ASCII, so its index
-    /// counts bytes and characters alike. Where the alphabet has all, it is [`StringError::Memory`], and the allocator has
+    /// counts bytes and characters alike. If the alphabet has all, it is [`StringError::Memory`], and the allocator has
     /// refused room for them.
     pub fn try_from_str(alloc: Global, text: &str) -> Result<Self, StringError>
         ensures allowed { OnOk result (AllPass A.allows text.now) }

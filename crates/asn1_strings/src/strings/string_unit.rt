@@ -1,4 +1,4 @@
-//! What strings are made of.
+//! The units of strings.
 ghost use Rattle.std.specs.Prelude.{◌<◌, ◌^◌, ⊤, All};
 
 /// A unit of a string: a bit, an octet, or a number of 16 or 32 bits.

@@ -1,4 +1,4 @@
-//! What each type of this crate says of itself, and the records of its values, for all values.
+//! Laws of the own facts of each type of this crate, and of the records of its values.
 ghost use Rattle.std.specs.Hash as fed;
 ghost use Rattle.std.specs.List.{flat_map};
 ghost use Rattle.std.specs.Prelude.{◌≡◌, ℕ, List, [], ◌∷◌, None, Some, codes, false, length};
@@ -26,7 +26,7 @@ use asn1_model::AsnType;
 use std::hash::Hash;
 
 /// A law of records. An open type is its bytes, under whatever tag; a SET OF is a record of those of its elements; a value under
-/// an implicit tag is the value under it; one under an explicit tag is a record of the value as it is; and an INSTANCE OF is a
+/// an implicit tag is the value under it; one under an explicit tag is a record that holds the value's; and an INSTANCE OF is a
 /// SEQUENCE of the name of a type, and of a value after the tag Context 0. Of arrays `arrays_are_their_elements` says it.
 pub fn types_have_the_records_of_their_contents<T: AsnType, V: AsnType>()
     ensures any_own { HasOwn ⟦<Any as AsnType>⟧.meaning CHOICE unconstrained None }

@@ -1,4 +1,4 @@
-//! What a SET OF is in a schema, and what it means.
+//! A SET OF in a schema, and its meaning.
 ghost use Rattle.asn1_types.specs.Kinds.{set_of_type};
 
 use super::SetOf;
