@@ -15,9 +15,9 @@ added_labels_are {V = V} e = by e.additions
 pub all_labels_are : {V : Type 0} (e : Enumeration V) → all_labels (labels_of e) ≡ map label_of (items e)
 all_labels_are e = ap (λ ls. map label_of e.root ++ ls) (added_labels_are e) ∙ sym (map-append label_of e.root (added e))
 
-each_two : {X Y : Type 0} (R : X → X → Type 0) (S : Y → Y → Type 0) (f : X → Y) → ((x y : X) → R x y → S (f x) (f y)) → (xs : List X) → AllPairs R xs → AllPairs S (map f xs)
-each_two R S f keeps [] pairs i j d lt within = absurd (omega arith)
-each_two R S f keeps (x ∷ xs) pairs i j d lt within =
+AllPairs-map : {X Y : Type 0} (R : X → X → Type 0) (S : Y → Y → Type 0) (f : X → Y) → ((x y : X) → R x y → S (f x) (f y)) → (xs : List X) → AllPairs R xs → AllPairs S (map f xs)
+AllPairs-map R S f keeps [] pairs i j d lt within = absurd (omega arith)
+AllPairs-map R S f keeps (x ∷ xs) pairs i j d lt within =
     let inside : j < length (x ∷ xs) = omega (arith, length-map (x ∷ xs) f) in
     subst₂ S (sym (get_or-map f (x ∷ xs) i x d (omega arith))) (sym (get_or-map f (x ∷ xs) j x d inside))
     (keeps (get_or (x ∷ xs) i x) (get_or (x ∷ xs) j x) (pairs i j x lt inside))
@@ -25,4 +25,4 @@ each_two R S f keeps (x ∷ xs) pairs i j d lt within =
 pub labels_differ : {V : Type 0} (eq : V → V → Bool) (e : Enumeration V) → IsEnumeration eq e → AllPairs LabelsDiffer (all_labels (labels_of e))
 labels_differ eq e lawful =
     subst (AllPairs LabelsDiffer) (sym (all_labels_are e))
-    (each_two (Differ eq) LabelsDiffer label_of (λ i j differ. record { number = differ.number; name = differ.name }) (items e) lawful.distinct)
+    (AllPairs-map (Differ eq) LabelsDiffer label_of (λ i j differ. record { number = differ.number; name = differ.name }) (items e) lawful.distinct)

@@ -17,12 +17,12 @@ use std::marker::Model;
 /// Contracts see it as its number.
 #[derive(Debug, Drop)]
 pub struct Integer {
-    form: Form,
+    representation: Representation,
 }
 
-/// How a number is kept. Each has one form: narrow where it fits, else wide, without leading zeros.
+/// The representation of a number, which is unique: narrow if it fits, else wide and without leading zeros.
 #[derive(Debug, Drop)]
-enum Form {
+enum Representation {
     Narrow(i128),
     Wide { negative: bool, bytes: Vec<u8> },
 }
@@ -32,11 +32,11 @@ impl Model for Integer {
 
     ghost Value = { ℤ };
 
-    ghost use Rattle.asn1_integers.specs.Integer.{number, IsOneForm};
+    ghost use Rattle.asn1_integers.specs.Integer.{number, IsUniqueRepresentation};
 
-    ghost view = { λ i. number i.form };
+    ghost view = { λ i. number i.representation };
 
-    ghost invariant = { λ i. IsOneForm i.form };
+    ghost invariant = { λ i. IsUniqueRepresentation i.representation };
 }
 
 impl Integer {
@@ -46,7 +46,7 @@ impl Integer {
         ensures { result ≡ number }
     {
         Integer {
-            form: Form::Narrow(number),
+            representation: Representation::Narrow(number),
         }
     }
 
@@ -64,7 +64,7 @@ impl Integer {
         match magnitude::to_i128(negative, bytes) {
             Some(number) => Ok(Self::from_i128(number)),
             None => Ok(Integer {
-                form: Form::Wide {
+                representation: Representation::Wide {
                     negative,
                     bytes: Vec::from_slice(alloc, magnitude::without_leading_zeros(bytes))?,
                 },
@@ -87,12 +87,12 @@ impl Integer {
         ensures number { IfOk result (λ bytes. magnitude bytes.items ≡ unsigned_abs self.now) }
         ensures normal { IfOk result (λ bytes. IsMagnitude bytes.items) }
     {
-        match &self.form {
-            Form::Narrow(number) => {
+        match &self.representation {
+            Representation::Narrow(number) => {
                 let bytes = magnitude::from_u128(number.unsigned_abs());
                 Vec::from_slice(alloc, magnitude::without_leading_zeros(&bytes))
             }
-            Form::Wide { bytes, .. } => Vec::from_slice(alloc, bytes),
+            Representation::Wide { bytes, .. } => Vec::from_slice(alloc, bytes),
         }
     }
 
@@ -101,9 +101,9 @@ impl Integer {
     pub fn to_i128(&self) -> Option<i128>
         ensures { SomeIff result (FitsSigned w128 self.now) self.now }
     {
-        match self.form {
-            Form::Narrow(number) => Some(number),
-            Form::Wide { .. } => None,
+        match self.representation {
+            Representation::Narrow(number) => Some(number),
+            Representation::Wide { .. } => None,
         }
     }
 
@@ -118,10 +118,10 @@ impl Integer {
     pub(crate) fn to_u128(&self) -> Option<u128>
         ensures { SomeIff result (FitsUnsigned w128 self.now) (unsigned_abs self.now) }
     {
-        match &self.form {
-            Form::Narrow(number) => u128::try_from(*number).ok(),
-            Form::Wide { negative: true, .. } => None,
-            Form::Wide { bytes, .. } => magnitude::to_u128(bytes),
+        match &self.representation {
+            Representation::Narrow(number) => u128::try_from(*number).ok(),
+            Representation::Wide { negative: true, .. } => None,
+            Representation::Wide { bytes, .. } => magnitude::to_u128(bytes),
         }
     }
 
@@ -133,9 +133,11 @@ impl Integer {
         ensures number { IfOk result (λ copy. copy ≡ self.now) }
         ensures succeeds { FitsSigned w128 self.now → IsOk result }
     {
-        match &self.form {
-            Form::Narrow(number) => Ok(Self::from_i128(*number)),
-            Form::Wide { negative, bytes } => Self::from_sign_magnitude(alloc, *negative, bytes),
+        match &self.representation {
+            Representation::Narrow(number) => Ok(Self::from_i128(*number)),
+            Representation::Wide { negative, bytes } => Self::from_sign_magnitude(
+                alloc, *negative, bytes,
+            ),
         }
     }
 
@@ -143,9 +145,9 @@ impl Integer {
     pub fn is_negative(&self) -> bool
         ensures { IsTrue result ↔ (self.now <ℤ pos 0) }
     {
-        match self.form {
-            Form::Narrow(number) => number.is_negative(),
-            Form::Wide { negative, .. } => negative,
+        match self.representation {
+            Representation::Narrow(number) => number.is_negative(),
+            Representation::Wide { negative, .. } => negative,
         }
     }
 }

@@ -10,7 +10,7 @@ use crate::trees::TagTree;
 
 // The index of the first leaf of the tree that is the tag, or how many leaves there are.
 #[cycle(find)]
-fn first_in(tree: &TagTree<'_>, tag: &Tag) -> Result<usize, usize>
+fn first_index_in(tree: &TagTree<'_>, tag: &Tag) -> Result<usize, usize>
     ensures { length (leaves (shape tree.now)) < 2 ^ 64 →
         IsFirstIndexOf tag.now (leaves (shape tree.now)) result }
 {
@@ -28,7 +28,7 @@ pub(crate) fn first_index(nodes: &[TagTree<'_>], tag: &Tag) -> Result<usize, usi
 {
     let mut passed: usize = 0;
     for node in nodes {
-        match first_in(node, tag) {
+        match first_index_in(node, tag) {
             Ok(index) => return Ok(passed.saturating_add(index)),
             Err(count) => passed = passed.saturating_add(count),
         }

@@ -65,7 +65,7 @@ fn any_begins_with(nodes: &[TagTree<'_>], tag: &Tag) -> bool
 // How many leaves the tree has, if the number fits.
 #[cycle(count)]
 #[inline(always)]
-fn leaf_number(tree: &TagTree<'_>) -> Option<usize>
+fn leaf_count_of(tree: &TagTree<'_>) -> Option<usize>
     ensures { let number = length (leaves (shape tree.now)) in
         SomeIff result (number < 2 ^ 64) number }
 {
@@ -83,7 +83,7 @@ pub(crate) fn leaf_count(nodes: &[TagTree<'_>]) -> Option<usize>
 {
     let mut count: usize = 0;
     for node in nodes {
-        count = count.checked_add(leaf_number(node)?)?;
+        count = count.checked_add(leaf_count_of(node)?)?;
     }
     Some(count)
 }

@@ -9,7 +9,7 @@ ghost use Rattle.std.specs.Int.Digits.{digits_of};
 ghost use Rattle.std.specs.Ordering.{as_partial_cmp, int_cmp, int_eq};
 ghost use Rattle.asn1_integers.specs.Numbers.{signed};
 
-use crate::integer::{Form, Integer};
+use crate::integer::{Integer, Representation};
 use crate::magnitude;
 use std::cmp::Ordering;
 use std::hash::{Hash, Hasher};
@@ -48,14 +48,14 @@ impl Ord for Integer {
     ghost matches_eq = { Prim.search (comparing, rules) };
 
     fn cmp(&self, other: &Self) -> Ordering {
-        match &self.form {
-            Form::Narrow(number) => match &other.form {
-                Form::Narrow(other) => number.cmp(other),
-                Form::Wide { negative, .. } => zero_to(*negative),
+        match &self.representation {
+            Representation::Narrow(number) => match &other.representation {
+                Representation::Narrow(other) => number.cmp(other),
+                Representation::Wide { negative, .. } => zero_to(*negative),
             },
-            Form::Wide { negative, bytes } => match &other.form {
-                Form::Narrow(_) => zero_to(*negative).reverse(),
-                Form::Wide {
+            Representation::Wide { negative, bytes } => match &other.representation {
+                Representation::Narrow(_) => zero_to(*negative).reverse(),
+                Representation::Wide {
                     negative: other_negative,
                     bytes: other_bytes,
                 } => match (*negative, *other_negative) {
@@ -87,12 +87,12 @@ impl Hash for Integer {
 
     fn hash<H: Hasher>(&self, state: &mut H) {
         self.is_negative().hash(state);
-        match &self.form {
-            Form::Narrow(number) => {
+        match &self.representation {
+            Representation::Narrow(number) => {
                 let bytes = magnitude::from_u128(number.unsigned_abs());
                 magnitude::without_leading_zeros(&bytes).hash(state);
             }
-            Form::Wide { bytes, .. } => bytes.hash(state),
+            Representation::Wide { bytes, .. } => bytes.hash(state),
         }
     }
 }

@@ -4,7 +4,7 @@ ghost use Rattle.std.specs.Fmt.{styled_signed_decimal, WritesOnOk};
 ghost use Rattle.std.specs.List.{flat_map};
 ghost use Rattle.asn1_integers.specs.Text.{byte_text, integer_text, is_narrow};
 
-use crate::integer::{Form, Integer};
+use crate::integer::{Integer, Representation};
 use std::fmt;
 
 /// In decimal what an `i128` holds, else in hexadecimal, as `0x` or `-0x` and two digits for each byte of the magnitude
@@ -16,9 +16,9 @@ impl fmt::Display for Integer {
     ghost styled_output = { λ z options. if is_narrow z then Some (styled_signed_decimal options z) else None };
 
     fn fmt<W: fmt::Write>(&self, f: &mut fmt::Formatter<W>) -> fmt::Result {
-        match &self.form {
-            Form::Narrow(number) => fmt::Display::fmt(number, f),
-            Form::Wide { negative, bytes } => {
+        match &self.representation {
+            Representation::Narrow(number) => fmt::Display::fmt(number, f),
+            Representation::Wide { negative, bytes } => {
                 let sign = if *negative { "-" } else { "" };
                 write!(f, "{sign}0x")?;
                 write_bytes(bytes, f)
