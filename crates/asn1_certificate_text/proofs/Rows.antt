@@ -1,9 +1,9 @@
--- The rows of a table, by what is read of each.
+-- The rows of a table, by a function of each.
 use Rattle.std.proofs.Common.{◌≡◌, ◌≢◌, ◌<◌, ◌≤◌, All, Contains, List, ap, get_or, length, map, subst, take, ℕ, ◌∙◌, arith}
 use Rattle.std.proofs.lemmas.List.{get_or-map, length-map, take_all}
 use Rattle.std.proofs.lemmas.List.Elements.{All-map}
 
--- what is read of a row is among what is read of all
+-- the image of a row is among the images of all
 pub Contains-row : {X Y : Type 0} (f : X → Y) (rows : List X) (i : ℕ) (d : X) (y : Y) → i < length rows → f (get_or rows i d) ≡ y → Contains (map f rows) y
 Contains-row f rows i d y lt is = (i, omega (arith, length-map rows f), get_or-map f rows i d y lt ∙ is)
 

@@ -8,7 +8,7 @@ use Rattle.asn1_values.specs.Numbers.{IsShortest, magnitude}
 use Rattle.asn1_certificate_text.specs.Bits.{IsBitLength}
 use lib.Count.{count_leading_zeros}
 
--- a first digit counts for what its place is worth
+-- the weight of a first digit
 first_worth : (n : ℕ) (ds : List ℕ) → n * 256 ^ length ds ≤ number_from_digits_after 256 n ds
 first_worth n [] = omega arith
 first_worth n (d ∷ ds) = rw pow-suc (omega (arith, first_worth (n * 256 + d) ds))

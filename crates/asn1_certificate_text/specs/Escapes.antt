@@ -7,12 +7,12 @@ use Rattle.asn1_values.specs.Text.{byte_text}
 
 -- one of the characters that change the direction in which others are written, or end a line or a paragraph (Unicode's property
 -- Bidi_Control, and its categories Zl and Zp)
-abbrev pub turns_or_ends_lines : ℕ → Bool
-turns_or_ends_lines c = c == 0x61C || is_in_range 0x200E 0x200F c || is_in_range 0x2028 0x202E c || is_in_range 0x2066 0x2069 c
+abbrev pub turns_or_ends_line : ℕ → Bool
+turns_or_ends_line c = c == 0x61C || is_in_range 0x200E 0x200F c || is_in_range 0x2028 0x202E c || is_in_range 0x2066 0x2069 c
 
 -- one of the controls of Unicode, which are those of ASCII and of Latin-1, or one of these
-abbrev pub is_shown_by_octets : ℕ → Bool
-is_shown_by_octets c = is_control c || turns_or_ends_lines c
+abbrev pub is_written_as_octets : ℕ → Bool
+is_written_as_octets c = is_control c || turns_or_ends_line c
 
 -- one of  " # + , ; < > \
 abbrev pub is_special : ℕ → Bool
@@ -26,25 +26,25 @@ octet_escaped octet = codes "\\" ++ byte_text octet
 abbrev pub control_text : ℕ → List ℕ
 control_text c = flat_map octet_escaped (encode_utf8 c)
 
--- a character as it is shown outside names: such characters by their octets, and a backslash twice
-abbrev pub shown : ℕ → List ℕ
-shown c =
-    if is_shown_by_octets c then control_text c
+-- a character outside names: such characters as their octets, and a backslash twice
+abbrev pub visible : ℕ → List ℕ
+visible c =
+    if is_written_as_octets c then control_text c
     else (if c == 92 then codes "\\\\" else encode_utf8 c)
 
 -- whether a character is special, or a space at an end
-abbrev pub says_something_else : Bool → ℕ → Bool
-says_something_else at_end c = is_special c || (at_end && c == 32)
+abbrev pub needs_backslash : Bool → ℕ → Bool
+needs_backslash at_end c = is_special c || (at_end && c == 32)
 
 -- a character, which is the first or the last of its value or not
 abbrev pub escaped : Bool → ℕ → List ℕ
 escaped at_end c =
-    if is_shown_by_octets c then control_text c
-    else (if says_something_else at_end c then codes "\\" ++ encode_utf8 c else encode_utf8 c)
+    if is_written_as_octets c then control_text c
+    else (if needs_backslash at_end c then codes "\\" ++ encode_utf8 c else encode_utf8 c)
 
--- whether it is the place of the first or the last of this many characters
+-- whether this is the index of the first or the last of this many characters
 abbrev pub is_end : ℕ → ℕ → Bool
-is_end place count = place == 0 || place + 1 == count
+is_end index count = index == 0 || index + 1 == count
 
 -- a value from its first character on, up to this many
 abbrev pub escaped_first : List ℕ → ℕ → List ℕ

@@ -24,7 +24,7 @@ spaced_octets octets = codes " " ++ octets_text octets
 abbrev pub names_text : List ShownGeneralName → List ℕ
 names_text names = flat_map (λ name. codes "\n    " ++ general_name_text name) names
 
--- whether it is an authority, in words
+-- an authority or not, in words
 abbrev pub authority_word : Bool → List ℕ
 authority_word is_authority = if is_authority then codes " an authority" else codes " no authority"
 
@@ -47,7 +47,7 @@ abbrev pub serial_number_text : Option OctetNumber → List ℕ
 serial_number_text (Some number) = codes "\n    serial number " ++ octet_number_text number
 serial_number_text None = []
 
--- which key of an authority it is, by what is said of it
+-- the key of an authority, by the parts that the certificate has
 abbrev pub authority_key_text : AuthorityKey → List ℕ
 authority_key_text k = identifier_text k.identifier ++ (serial_number_text k.serial_number ++ names_text k.issuer.items)
 

@@ -25,7 +25,7 @@ size_text (Kept bits) = codes "kept in " ++ (decimal bits ++ codes " bits")
 abbrev pub key_text : ShownKey → List ℕ
 key_text k = object_text k.algorithm ++ (codes ", " ++ size_text k.size)
 
--- what is said inside, where that is not the same
+-- the algorithm inside the signed part, if it is another
 abbrev pub inside_text : Option Object → List ℕ
 inside_text (Some inside) = codes ", but inside " ++ object_text inside
 inside_text None = []

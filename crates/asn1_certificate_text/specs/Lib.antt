@@ -7,6 +7,7 @@ pub mod Keys
 pub mod Lines
 pub mod MomentTexts
 pub mod Moments
+pub mod Names
 pub mod Numbers
 pub mod Objects
 pub mod Octets
@@ -14,5 +15,4 @@ pub mod Pem
 pub mod PemRefusals
 pub mod Registry
 pub mod Reports
-pub mod ShownNames
 pub mod Times

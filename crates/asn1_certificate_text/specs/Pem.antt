@@ -5,7 +5,7 @@ use Rattle.base64.specs.Engines.{standard}
 use Rattle.base64.specs.GeneralPurpose.{decode_of}
 use Rattle.memchr.specs.Find.{FindsNeedle}
 
--- the line before a certificate, which is looked for by its text, wherever in a line that is
+-- the line before a certificate, found by its text anywhere in a line
 abbrev pub begin_line : List ℕ
 begin_line = codes "-----BEGIN CERTIFICATE-----"
 
@@ -21,18 +21,18 @@ is_symbol byte = not (is_ascii_whitespace byte)
 abbrev pub HasNoBegin : List ℕ → Type 0
 HasNoBegin text = FindsNeedle text begin_line 0 None
 
--- there is such a line, and this is where the first begins
+-- there is such a line, and the first begins at this position
 pub record HasBegin (text : List ℕ) : Type 0 where
-  pub place : ℕ
-  pub found : FindsNeedle text begin_line 0 (Some place)
+  pub position : ℕ
+  pub found : FindsNeedle text begin_line 0 (Some position)
 
 -- the first line before a certificate ends at `start`
 pub record BeginsAt (text : List ℕ) (start : ℕ) : Type 0 where
-  pub place : ℕ
-  pub found : FindsNeedle text begin_line 0 (Some place)
-  pub behind : start ≡ place + length begin_line
+  pub position : ℕ
+  pub found : FindsNeedle text begin_line 0 (Some position)
+  pub after : start ≡ position + length begin_line
 
--- The body begins where the first line before a certificate ends, and is as long as it takes to the next line after one.
+-- The body begins at the end of the first line before a certificate, and ends at the next line after one.
 pub record EnclosesAt (text : List ℕ) (start : ℕ) (body : List ℕ) : Type 0 where
   pub begins : BeginsAt text start
   pub ends : FindsNeedle (drop start text) end_line 0 (Some (length body))
@@ -43,7 +43,7 @@ pub record Encloses (text body : List ℕ) : Type 0 where
   pub start : ℕ
   pub at_start : EnclosesAt text start body
 
--- the octets are those that the base64 between these two lines says
+-- the octets are those that the base64 between these two lines encodes
 pub record HoldsCertificate (text octets : List ℕ) : Type 0 where
   pub body : List ℕ
   pub encloses : Encloses text body

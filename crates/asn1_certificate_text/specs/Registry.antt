@@ -1,4 +1,4 @@
--- Which objects and curves have names here, and what is said of each.
+-- The objects and curves with names, and the rows of each.
 use Rattle.std.specs.Prelude.{Contains, List, ℕ, map}
 use Rattle.asn1_certificate_text.specs.declared.registry.table.TheConstants.{CURVES, OBJECTS}
 

@@ -1,4 +1,4 @@
--- What is shown of a certificate.
+-- The text of the report of a certificate.
 use Rattle.std.specs.Prelude.{ℕ, List, ◌++◌, codes}
 use Rattle.std.specs.List.{flat_map}
 use Rattle.asn1_certificate_text.specs.declared.extension.ShownExtension.{ShownExtension}
@@ -6,7 +6,7 @@ use Rattle.asn1_certificate_text.specs.declared.report.Report.{Report}
 use Rattle.asn1_certificate_text.specs.Extensions.{extension_text}
 use Rattle.asn1_certificate_text.specs.Keys.{key_text, signature_text}
 use Rattle.asn1_certificate_text.specs.Lines.{labelled}
-use Rattle.asn1_certificate_text.specs.ShownNames.{name_text}
+use Rattle.asn1_certificate_text.specs.Names.{name_text}
 use Rattle.asn1_certificate_text.specs.Numbers.{octet_number_text, version_text}
 use Rattle.asn1_certificate_text.specs.Times.{time_text}
 

@@ -11,7 +11,7 @@ use std::fmt::Write;
 use std::net::{Ipv4Addr, Ipv6Addr};
 
 /// Appends the IP address of these octets: four are one of IPv4, sixteen one of IPv6 (RFC 5280, 4.2.1.6). Any other number
-/// of octets is no address, and they are appended in hexadecimal.
+/// of octets is no address, and is appended in hexadecimal.
 pub fn push_address(text: &mut String, octets: &[u8]) -> Result<(), AllocError>
     ensures { OnOk result (string_bytes text.new ≡
         string_bytes text.old ++ address_text octets.now) }

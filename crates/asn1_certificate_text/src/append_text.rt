@@ -1,4 +1,4 @@
-//! What has a text.
+//! Anything with a text.
 ghost use Rattle.std.specs.Prelude.{◌≡◌, ◌++◌, List, OnOk, ℕ};
 ghost use Rattle.std.specs.List.{flat_map, join_by};
 ghost use Rattle.std.specs.String.{string_bytes};
@@ -6,7 +6,7 @@ ghost use Rattle.asn1_certificate_text.specs.Lines.{labelled};
 
 use std::alloc::AllocError;
 
-/// What has a text.
+/// Anything with a text.
 pub trait AppendText {
     // The text.
     ghost text_of: { Self → List ℕ };

@@ -1,4 +1,4 @@
-//! Bits: the size of a number, and what a key may be used for.
+//! Bits: the size of a number, and the usages of a key.
 ghost use Rattle.std.specs.Prelude.{◌≡◌, ◌-◌, ◌<◌, ◌++◌, OnOk};
 ghost use Rattle.std.specs.Int.{leading_zeros, w8};
 ghost use Rattle.std.specs.String.{string_bytes};
@@ -7,7 +7,7 @@ ghost use Rattle.asn1_certificate_text.specs.Bits.{IsBitLength, is_set, text_if_
 
 use std::alloc::AllocError;
 
-/// How many bits a number has, whose octets these are, the most significant first and without leading zeros.
+/// The number of bits of a number with these octets, the most significant first and without leading zeros.
 pub fn bit_length(octets: &[u8]) -> u128
     ensures { IsShortest octets.now → IsBitLength (magnitude octets.now) result }
 {
@@ -17,17 +17,17 @@ pub fn bit_length(octets: &[u8]) -> u128
     }
 }
 
-/// How many bits of an octet are used by its number.
+/// The number of bits of an octet without its leading zeros.
 fn used_bits(octet: u8) -> u128
     ensures { result ≡ 8 - leading_zeros w8 octet }
 {
     u128::from(8 - octet.leading_zeros())
 }
 
-/// How many usages of a key have names.
+/// The number of usages with names.
 const USAGES: usize = 9;
 
-/// Appends the names of what a key may be used for (RFC 5280, 4.2.1.3), with a comma between each two. A bit after the ninth
+/// Appends the names of the usages of a key (RFC 5280, 4.2.1.3), with a comma between each two. A bit after the ninth
 /// has no name.
 pub fn push_usages(text: &mut String, bits: &[bool]) -> Result<(), AllocError>
     ensures { OnOk result (string_bytes text.new ≡ string_bytes text.old ++ usages_text bits.now) }
@@ -66,7 +66,7 @@ fn push_if_set(
     }
 }
 
-/// Appends the name of a usage, which is the first one or a later one.
+/// Appends the name of a usage, after a comma if it is a later one.
 fn push_usage(text: &mut String, is_later: bool, number: usize) -> Result<(), AllocError>
     requires { number < 9 }
     ensures { OnOk result (string_bytes text.new ≡

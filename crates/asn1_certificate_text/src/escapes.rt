@@ -2,13 +2,13 @@
 ghost use Rattle.std.specs.Prelude.{◌≡◌, ◌<◌, ◌++◌, OnOk};
 ghost use Rattle.std.specs.List.{flat_map};
 ghost use Rattle.std.specs.String.{string_bytes};
-ghost use Rattle.asn1_certificate_text.specs.Escapes.{turns_or_ends_lines, control_text, escaped, escaped_text, is_shown_by_octets, is_end, is_special, octet_escaped, says_something_else, shown};
+ghost use Rattle.asn1_certificate_text.specs.Escapes.{turns_or_ends_line, control_text, escaped, escaped_text, is_written_as_octets, is_end, is_special, octet_escaped, needs_backslash, visible};
 
 use crate::octets::push_octet;
 use std::alloc::AllocError;
 
-/// Appends a value's characters, with a backslash where a character would say something else, and control characters as their
-/// octets: so the value ends where the text of a name says it does, and no control of ASCII or of Latin-1 reaches a terminal, nor a
+/// Appends a value's characters, with a backslash before each that has a meaning in the text of a name, and control characters as
+/// their octets. So no value runs into the text after it, and no control of ASCII or of Latin-1 reaches a terminal, nor a
 /// character that changes the direction of others or ends a line.
 pub fn push_escaped(text: &mut String, characters: &[char]) -> Result<(), AllocError>
     ensures { OnOk result (string_bytes text.new ≡
@@ -20,22 +20,23 @@ pub fn push_escaped(text: &mut String, characters: &[char]) -> Result<(), AllocE
     Ok(())
 }
 
-/// Appends characters as they are, but those that are shown by their octets so, and a backslash with another before it.
-pub fn push_shown(text: &mut String, characters: &[char]) -> Result<(), AllocError>
+/// Appends characters, with controls and characters that change the direction of others or end a line as their octets, and a
+/// backslash twice.
+pub fn push_visible(text: &mut String, characters: &[char]) -> Result<(), AllocError>
     ensures { OnOk result (string_bytes text.new ≡
-        string_bytes text.old ++ flat_map shown characters.now) }
+        string_bytes text.old ++ flat_map visible characters.now) }
 {
     for character in characters {
-        push_shown_character(text, *character)?;
+        push_visible_character(text, *character)?;
     }
     Ok(())
 }
 
-/// Appends a character as it is shown.
-fn push_shown_character(text: &mut String, character: char) -> Result<(), AllocError>
-    ensures { OnOk result (string_bytes text.new ≡ string_bytes text.old ++ shown character) }
+/// Appends a character outside names.
+fn push_visible_character(text: &mut String, character: char) -> Result<(), AllocError>
+    ensures { OnOk result (string_bytes text.new ≡ string_bytes text.old ++ visible character) }
 {
-    if is_shown_by_octets(character) {
+    if is_written_as_octets(character) {
         return push_control(text, character);
     }
     if character == '\\' {
@@ -44,12 +45,12 @@ fn push_shown_character(text: &mut String, character: char) -> Result<(), AllocE
     text.push(character)
 }
 
-/// Whether it is the place of the first or the last of this many characters.
-fn is_end(place: usize, count: usize) -> bool
-    requires { place < count }
-    ensures { result ≡ is_end place count }
+/// Whether this is the index of the first or the last of this many characters.
+fn is_end(index: usize, count: usize) -> bool
+    requires { index < count }
+    ensures { result ≡ is_end index count }
 {
-    place == 0 || place + 1 == count
+    index == 0 || index + 1 == count
 }
 
 /// Appends a character, which is the first or the last of its value or not.
@@ -57,10 +58,10 @@ fn push_character(text: &mut String, at_end: bool, character: char) -> Result<()
     ensures { OnOk result (string_bytes text.new ≡
         string_bytes text.old ++ escaped at_end character) }
 {
-    if is_shown_by_octets(character) {
+    if is_written_as_octets(character) {
         return push_control(text, character);
     }
-    if says_something_else(at_end, character) {
+    if needs_backslash(at_end, character) {
         text.push_str("\\")?;
         return text.push(character);
     }
@@ -68,8 +69,8 @@ fn push_character(text: &mut String, at_end: bool, character: char) -> Result<()
 }
 
 /// Whether a character is special, or a space at an end.
-fn says_something_else(at_end: bool, character: char) -> bool
-    ensures { result ≡ says_something_else at_end character }
+fn needs_backslash(at_end: bool, character: char) -> bool
+    ensures { result ≡ needs_backslash at_end character }
 {
     is_special(character) || (at_end && character == ' ')
 }
@@ -94,16 +95,16 @@ fn push_escaped_octet(text: &mut String, octet: u8) -> Result<(), AllocError>
     push_octet(text, octet)
 }
 
-/// Whether a character is shown by its octets: a control, or one that changes the direction of others, or ends a line or a paragraph.
-fn is_shown_by_octets(character: char) -> bool
-    ensures { result ≡ is_shown_by_octets character }
+/// Whether a character is written as its octets: a control, or one that changes the direction of others, or ends a line or a paragraph.
+fn is_written_as_octets(character: char) -> bool
+    ensures { result ≡ is_written_as_octets character }
 {
-    character.is_control() || turns_or_ends_lines(character)
+    character.is_control() || turns_or_ends_line(character)
 }
 
 /// Whether a character changes the direction in which others are written, or ends a line or a paragraph.
-fn turns_or_ends_lines(character: char) -> bool
-    ensures { result ≡ turns_or_ends_lines character }
+fn turns_or_ends_line(character: char) -> bool
+    ensures { result ≡ turns_or_ends_line character }
 {
     matches!(
         character,

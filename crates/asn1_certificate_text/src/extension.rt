@@ -18,7 +18,7 @@ use std::fmt::Write;
 pub struct ShownExtension {
     /// Its kind.
     pub kind: Object,
-    /// Whether it is critical: whoever does not know its kind is not to accept the certificate.
+    /// Whether it is critical: a reader that does not know its kind must not accept the certificate.
     pub is_critical: bool,
     /// Its value.
     pub value: ExtensionValue,
@@ -35,7 +35,7 @@ impl AppendText for ShownExtension {
     }
 }
 
-/// What is between the kind of an extension and its value.
+/// The text between the kind of an extension and its value.
 fn criticality(is_critical: bool) -> &'static str
     ensures { result.now ≡ criticality_text is_critical }
 {
@@ -45,17 +45,17 @@ fn criticality(is_critical: bool) -> &'static str
 /// The value of an extension (RFC 5280, 4.2.1).
 #[derive(Drop)]
 pub enum ExtensionValue {
-    /// Which key a certificate is for.
+    /// The identifier of the key of a certificate.
     KeyIdentifier(Vec<u8>),
-    /// What the key may be used for, by bits.
+    /// The usages of the key, as bits.
     Usages(Vec<bool>),
     /// Further names.
     Names(Vec<ShownGeneralName>),
     /// Whether the certificate is that of an authority.
     Authority(Authority),
-    /// Which key of an authority a certificate is signed with.
+    /// The key of the authority that signed a certificate.
     AuthorityKey(AuthorityKey),
-    /// What the key may be used for, by objects.
+    /// The purposes of the key, as objects.
     Purposes(Vec<Object>),
     /// The octets of a kind that is not looked into.
     Octets(Vec<u8>),
@@ -101,9 +101,9 @@ fn push_after_space(text: &mut String, octets: &Vec<u8>) -> Result<(), AllocErro
 /// Whether a certificate is that of an authority (RFC 5280, 4.2.1.9).
 #[derive(Drop)]
 pub struct Authority {
-    /// Whether it is.
+    /// Whether it is one.
     pub is_authority: bool,
-    /// How many certificates of other authorities may be between it and a last one, where that is said.
+    /// The greatest number of certificates of other authorities between it and a last one, if there is a limit.
     pub path_length: Option<Integer>,
 }
 
@@ -116,7 +116,7 @@ impl AppendText for Authority {
     }
 }
 
-/// Whether it is an authority, in words.
+/// An authority or not, in words.
 fn authority_word(is_authority: bool) -> &'static str
     ensures { result.now ≡ authority_word is_authority }
 {
@@ -138,14 +138,14 @@ fn push_path_length(text: &mut String, length: &Option<Integer>) -> Result<(), A
     }
 }
 
-/// Which key of an authority a certificate is signed with (RFC 5280, 4.2.1.1).
+/// The key of the authority that signed a certificate (RFC 5280, 4.2.1.1).
 #[derive(Drop)]
 pub struct AuthorityKey {
     /// The identifier of the key.
     pub identifier: Option<Vec<u8>>,
     /// The serial number of the authority's certificate.
     pub serial_number: Option<OctetNumber>,
-    /// Who issued that one.
+    /// The issuer of that certificate.
     pub issuer: Vec<ShownGeneralName>,
 }
 

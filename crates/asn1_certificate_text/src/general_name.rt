@@ -3,13 +3,13 @@ ghost use Rattle.std.specs.Prelude.{◌≡◌, ◌++◌, OnOk};
 ghost use Rattle.std.specs.List.{flat_map};
 ghost use Rattle.std.specs.String.{string_bytes};
 ghost use Rattle.asn1_certificate_text.specs.Addresses.{address_text};
-ghost use Rattle.asn1_certificate_text.specs.Escapes.{shown};
+ghost use Rattle.asn1_certificate_text.specs.Escapes.{visible};
 ghost use Rattle.asn1_certificate_text.specs.declared.general_name.ShownGeneralName.TheVariants.{Other, Party};
 ghost use Rattle.asn1_certificate_text.specs.GeneralNames.{assigner_text, general_name_text};
 
 use crate::address::push_address;
 use crate::append_text::{AppendText, push_after};
-use crate::escapes::push_shown;
+use crate::escapes::push_visible;
 use crate::name::ShownName;
 use crate::object::Object;
 use crate::octets::push_octets;
@@ -29,7 +29,7 @@ pub enum ShownGeneralName {
     X400(usize),
     /// A name of a directory.
     Directory(ShownName),
-    /// A party of electronic data interchange, and who named it, if that is said.
+    /// A party of electronic data interchange, and the assigner of the name, if there is one.
     Party(Vec<char>, Option<Vec<char>>),
     /// A URI.
     Uri(Vec<char>),
@@ -65,10 +65,10 @@ impl AppendText for ShownGeneralName {
 /// Appends the name of a kind, and characters.
 fn push_named(text: &mut String, kind: &str, characters: &Vec<char>) -> Result<(), AllocError>
     ensures { OnOk result (string_bytes text.new ≡
-        string_bytes text.old ++ (kind.now ++ flat_map shown characters.now.items)) }
+        string_bytes text.old ++ (kind.now ++ flat_map visible characters.now.items)) }
 {
     text.push_str(kind)?;
-    push_shown(text, characters.as_slice())
+    push_visible(text, characters.as_slice())
 }
 
 /// Appends the name of a kind, and an IP address.
@@ -91,7 +91,7 @@ fn push_another_name(text: &mut String, kind: &Object, octets: &Vec<u8>) -> Resu
     push_octets(text, octets.as_slice())
 }
 
-/// Appends the name of a party, and who named it.
+/// Appends the name of a party, and its assigner.
 fn push_party(
     text: &mut String,
     party: &Vec<char>,
@@ -104,7 +104,7 @@ fn push_party(
     push_assigner(text, assigner)
 }
 
-/// Appends who named a party, if that is said.
+/// Appends the assigner of a name, if there is one.
 fn push_assigner(text: &mut String, assigner: &Option<Vec<char>>) -> Result<(), AllocError>
     ensures { OnOk result (string_bytes text.new ≡
         string_bytes text.old ++ assigner_text assigner.now) }

@@ -32,15 +32,15 @@ impl AppendText for ShownKey {
 /// The size of a public key.
 #[derive(Drop)]
 pub enum KeySize {
-    /// A key of RSA, by how many bits its modulus has, and its exponent.
+    /// A key of RSA, by the number of bits of its modulus, and its exponent.
     Modulus(u128, Integer),
-    /// A key on a curve, by the curve's name and how many bits a key has on it.
+    /// A key on a curve, by the curve's name and the number of bits of a key on it.
     Curve(&'static str, u32),
     /// A key of an algorithm that has keys of this many bits alone.
     Fixed(u32),
     /// A key on a curve that has no name here.
     UnnamedCurve(Object),
-    /// A key that is not looked into, by how many bits it is kept in.
+    /// A key of any other algorithm, by its number of bits.
     Kept(usize),
 }
 
@@ -58,7 +58,7 @@ impl AppendText for KeySize {
     }
 }
 
-/// Appends how many bits a modulus has, and the exponent.
+/// Appends the number of bits of a modulus, and the exponent.
 fn push_modulus(text: &mut String, bits: u128, exponent: &Integer) -> Result<(), AllocError>
     ensures { OnOk result (string_bytes text.new ≡
         string_bytes text.old ++ modulus_text bits exponent.now) }
@@ -67,12 +67,12 @@ fn push_modulus(text: &mut String, bits: u128, exponent: &Integer) -> Result<(),
     write!(text, "{exponent}")
 }
 
-/// The algorithm of a signature, which a certificate says twice, and is not to say otherwise the second time (RFC 5280, 4.1.1.2).
+/// The algorithm of a signature. A certificate has it twice, and both have to be the same (RFC 5280, 4.1.1.2).
 #[derive(Drop)]
 pub struct Signature {
-    /// What is said beside the signature.
+    /// The algorithm beside the signature.
     pub algorithm: Object,
-    /// What is said in the part that is signed, where that is not the same.
+    /// The algorithm in the signed part, if it is another.
     pub inside: Option<Object>,
 }
 
@@ -85,7 +85,7 @@ impl AppendText for Signature {
     }
 }
 
-/// Appends what is said inside, where that is not the same.
+/// Appends the algorithm in the signed part, if it is another.
 fn push_inside(text: &mut String, inside: &Option<Object>) -> Result<(), AllocError>
     ensures { OnOk result
         (string_bytes text.new ≡ string_bytes text.old ++ inside_text inside.now) }

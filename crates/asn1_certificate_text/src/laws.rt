@@ -1,4 +1,4 @@
-//! Laws of what no other contract names: that a text tells the octets of its first certificate, and what derives give.
+//! Laws that no other contract states: a text determines the octets of its first certificate, and derives compare contents.
 ghost use Rattle.std.specs.Prelude.{◌≡◌, ◌↔◌, ℕ, IsTrue, List};
 ghost use Rattle.asn1_certificate_text.specs.Pem.{HoldsCertificate};
 ghost use Rattle.asn1_certificate_text.specs.declared.moment.Moment.{Moment};

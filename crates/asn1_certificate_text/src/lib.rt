@@ -11,7 +11,7 @@
 //! | [`Object`] | an object identifier with its name |
 //! | [`object_named`], [`NamedObject`], [`curve_of`], [`Curve`] | the objects and curves with names |
 //! | [`Moment`] | a moment, read from the two kinds of time in a certificate (RFC 5280, 4.1.2.5) |
-//! | [`push_escaped`], [`push_shown`] | the value of an attribute of a name (RFC 4514), and other texts |
+//! | [`push_escaped`], [`push_visible`] | the value of an attribute of a name (RFC 4514), and other texts |
 //! | [`push_octets`], [`push_digits`] | octets in hexadecimal, with colons and without |
 //! | [`push_address`] | an IP address |
 //! | [`bit_length`], [`push_usages`] | the size of a number, and the usages of a key |
@@ -60,7 +60,7 @@ mod time;
 pub use address::push_address;
 pub use append_text::AppendText;
 pub use bits::{bit_length, push_usages};
-pub use escapes::{push_escaped, push_shown};
+pub use escapes::{push_escaped, push_visible};
 pub use extension::{Authority, AuthorityKey, ExtensionValue, ShownExtension};
 pub use general_name::ShownGeneralName;
 pub use key::{KeySize, ShownKey, Signature};

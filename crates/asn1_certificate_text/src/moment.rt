@@ -78,7 +78,7 @@ impl Moment {
         Moment::of_year(century * 100 + u16::from(number(*y, *z)), rest)
     }
 
-    /// The moment in a year that two digits each say, if these are digits and say one.
+    /// The moment in a year, by two digits for each part, if these are digits.
     fn of_year(year: u16, text: &[u8]) -> Option<Moment>
         ensures { (m : Moment) → IsInCalendar m → year ≡ m.year → text.now ≡ time_in_year m →
             result ≡ Some m }
@@ -114,7 +114,7 @@ impl Moment {
         self.is_in_calendar() && text == self.generalized_time().as_slice()
     }
 
-    /// Whether there is such a day, of a year below 10000, and such a second in it. No second is put in.
+    /// Whether there is such a day, of a year below 10000, and such a second in it. There are no leap seconds.
     fn is_in_calendar(&self) -> bool
         ensures { IsTrue result ↔ IsInCalendar self.now }
     {
@@ -154,7 +154,7 @@ fn full_year(in_century: u8) -> u16
     }
 }
 
-/// The number of two decimal digits. Of others it is some number.
+/// The number of two decimal digits. Other octets give some number.
 fn number(tens: u8, ones: u8) -> u8
     ensures { (n : ℕ) → n < 100 → tens ∷ ones ∷ [] ≡ two_digits n → result ≡ n }
 {

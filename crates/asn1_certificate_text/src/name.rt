@@ -1,5 +1,5 @@
 //! Names, as RFC 4514 writes them.
-ghost use Rattle.asn1_certificate_text.specs.ShownNames.{attribute_text, name_text, part_text, value_text};
+ghost use Rattle.asn1_certificate_text.specs.Names.{attribute_text, name_text, part_text, value_text};
 
 use crate::append_text::{AppendText, push_joined};
 use crate::escapes::push_escaped;
@@ -7,7 +7,7 @@ use crate::object::Object;
 use crate::octets::push_digits;
 use std::alloc::AllocError;
 
-/// A name by its parts, of which the last comes first.
+/// A name by its parts, the last part first.
 #[derive(Drop)]
 pub struct ShownName {
     /// The parts.

@@ -16,7 +16,7 @@ pub struct OctetNumber {
     pub octets: Vec<u8>,
 }
 
-/// Its octets in hexadecimal, with a colon between each two, after a `-` where it is negative; `00` for 0.
+/// Its octets in hexadecimal, with a colon between each two, after a `-` if it is negative; `00` for 0.
 impl AppendText for OctetNumber {
     ghost text_of = { octet_number_text };
 
@@ -40,7 +40,7 @@ pub enum Version {
     Second,
     /// The third, whose number is 2.
     Third,
-    /// One that RFC 5280 does not have, by its number.
+    /// A version that RFC 5280 does not define, by its number.
     Unknown(Integer),
 }
 

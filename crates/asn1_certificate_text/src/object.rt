@@ -6,12 +6,12 @@ use asn1_values::ObjectIdentifier;
 use std::alloc::AllocError;
 use std::fmt::Write;
 
-/// An object: an algorithm, a kind of attribute or of extension, or what a key is for.
+/// An object: an algorithm, a kind of attribute or of extension, or a purpose of a key.
 #[derive(Drop)]
 pub struct Object {
     /// Its identifier.
     pub identifier: ObjectIdentifier,
-    /// Its name, where it has one here.
+    /// Its name, if the table has one.
     pub name: Option<&'static str>,
 }
 

@@ -4,7 +4,7 @@ ghost use Rattle.base64.specs.Engines.{standard};
 ghost use Rattle.base64.specs.GeneralPurpose.{decode_of};
 ghost use Rattle.asn1_certificate_text.specs.Pem.{AreOctetsOfText, EnclosesAt, HasBegin, HasNoBegin, HoldsCertificate, is_symbol};
 ghost use Rattle.asn1_certificate_text.specs.declared.pem.PemError.TheVariants.{Memory};
-ghost use Rattle.asn1_certificate_text.specs.PemRefusals.{IsAboutBase64, IsPlaceOfSymbol, IsRefusal, IsRefusalOfBody};
+ghost use Rattle.asn1_certificate_text.specs.PemRefusals.{IsAboutBase64, IsPositionOfSymbol, IsRefusal, IsRefusalOfBody};
 
 use base64::engine::general_purpose::STANDARD;
 use base64::{DecodeAllocError, DecodeError};
@@ -18,19 +18,19 @@ const BEGIN: &[u8] = b"-----BEGIN CERTIFICATE-----";
 /// The line after it.
 const END: &[u8] = b"-----END CERTIFICATE-----";
 
-/// Why a text has no certificate. Places are those of bytes in the text, from 0.
+/// The reasons for which a text has no certificate. Positions are those of bytes in the text, from 0.
 #[derive(Clone, Copy, Debug, Drop, PartialEq, Eq, Error)]
 pub enum PemError {
     /// There is no line before a certificate.
     #[error("there is no line -----BEGIN CERTIFICATE-----")]
     NoBegin,
-    /// The first line before a certificate ends at this place, and behind it there is no line after one.
+    /// The first line before a certificate ends at this position, and no line after it ends one.
     #[error("there is no line -----END CERTIFICATE----- after byte {0}")]
     NoEnd(usize),
-    /// At this place is a symbol that base64 refuses there.
+    /// base64 refuses the symbol at this position.
     #[error("byte {0} is not base64")]
     BadSymbol(usize),
-    /// The base64 that ends at this place is not whole.
+    /// The base64 that ends at this position is not whole.
     #[error("the base64 before byte {0} is not whole")]
     NotWhole(usize),
     /// There was no memory.
@@ -60,7 +60,7 @@ pub fn is_pem(input: &[u8]) -> bool
 /// The octets of an input: those of the first certificate in a text, and any other input as it is.
 ///
 /// # Errors
-/// Those of [`pem_octets`], where there is a line before a certificate.
+/// Those of [`pem_octets`], if there is a line before a certificate.
 pub fn certificate_octets(alloc: Global, input: Vec<u8>) -> Result<Vec<u8>, PemError>
     ensures read { IfOk result (λ octets. AreOctetsOfText input.items octets.items) }
     ensures refused { IfErr result (IsRefusal input.items) }
@@ -75,7 +75,7 @@ pub fn certificate_octets(alloc: Global, input: Vec<u8>) -> Result<Vec<u8>, PemE
 /// The octets of the first certificate in a text. White space in its base64 is left out.
 ///
 /// # Errors
-/// Each but [`PemError::Memory`] says which byte of the text it is about.
+/// Each but [`PemError::Memory`] names a byte of the text.
 pub fn pem_octets(alloc: Global, text: &[u8]) -> Result<Vec<u8>, PemError>
     ensures read { IfOk result (λ octets. HoldsCertificate text.now octets.items) }
     ensures refused { IfErr result (IsRefusal text.now) }
@@ -86,7 +86,7 @@ pub fn pem_octets(alloc: Global, text: &[u8]) -> Result<Vec<u8>, PemError>
     }
 }
 
-/// What is between the first line before a certificate and the next line after one, and where it begins.
+/// The text between the first line before a certificate and the next line after one, and the position where it begins.
 fn enclosed(text: &[u8]) -> Result<(usize, &[u8]), PemError>
     ensures found { IfOk result (λ found. EnclosesAt text.now found.0 found.1.now) }
     ensures fits { IfOk result (λ found. found.0 + length found.1.now < 2 ^ 64) }
@@ -103,7 +103,7 @@ fn enclosed(text: &[u8]) -> Result<(usize, &[u8]), PemError>
     Ok((start, &rest[..length]))
 }
 
-/// The octets that the base64 in a body says, which begins at `start` in the text.
+/// The octets that the base64 in a body encodes. The body begins at `start` in the text.
 fn body_octets(alloc: Global, start: usize, body: &[u8]) -> Result<Vec<u8>, PemError>
     requires { start + length body.now < 2 ^ 64 }
     ensures read { IfOk result (λ octets. decode_of standard (filter is_symbol body.now) ≡
@@ -128,7 +128,7 @@ fn symbols_of(alloc: Global, body: &[u8]) -> Result<Vec<u8>, AllocError>
         .collect(alloc)
 }
 
-/// The error about the symbols of a body as one about the text in which this begins at `start`.
+/// The error about the symbols of a body, with its position in the text. The body begins at `start` there.
 fn error_at(start: usize, body: &[u8], error: DecodeError) -> PemError
     requires fits { start + length body.now < 2 ^ 64 }
     requires refused { decode_of standard (filter is_symbol body.now) ≡ Err error }
@@ -136,10 +136,10 @@ fn error_at(start: usize, body: &[u8], error: DecodeError) -> PemError
 {
     match error {
         DecodeError::InvalidByte(symbol, _) => {
-            PemError::BadSymbol(start + place_of_symbol(body, symbol))
+            PemError::BadSymbol(start + position_of_symbol(body, symbol))
         }
         DecodeError::InvalidLastSymbol { offset, .. } => {
-            PemError::BadSymbol(start + place_of_symbol(body, offset))
+            PemError::BadSymbol(start + position_of_symbol(body, offset))
         }
         DecodeError::InvalidLength(_) | DecodeError::InvalidPadding => {
             PemError::NotWhole(start + body.len())
@@ -147,17 +147,17 @@ fn error_at(start: usize, body: &[u8], error: DecodeError) -> PemError
     }
 }
 
-/// The place of the symbol before which there are this many: the length where there are no more.
-fn place_of_symbol(body: &[u8], before: usize) -> usize
+/// The position of the symbol after this many others: the length if there are no more.
+fn position_of_symbol(body: &[u8], before: usize) -> usize
     ensures within { result ≤ length body.now }
     ensures found { before < length (filter is_symbol body.now) →
-        IsPlaceOfSymbol body.now before result }
+        IsPositionOfSymbol body.now before result }
 {
     let mut left = before;
-    for (place, byte) in body.iter().enumerate() {
+    for (position, byte) in body.iter().enumerate() {
         if !byte.is_ascii_whitespace() {
             if left == 0 {
-                return place;
+                return position;
             }
             left -= 1;
         }

@@ -6,7 +6,7 @@ mod table;
 
 use table::{CURVES, OBJECTS};
 
-/// An object of some renown: an algorithm, a kind of attribute or of extension, or what a key is for.
+/// A known object: an algorithm, a kind of attribute or of extension, or a purpose of a key.
 #[derive(Clone, Copy, Debug)]
 pub struct NamedObject {
     /// The arcs of its identifier.
@@ -15,7 +15,7 @@ pub struct NamedObject {
     pub name: &'static str,
 }
 
-/// An elliptic curve, or an algorithm that has one curve alone.
+/// An elliptic curve, or an algorithm with only one curve.
 #[derive(Clone, Copy, Debug)]
 pub struct Curve {
     /// The arcs of its identifier.
@@ -26,7 +26,7 @@ pub struct Curve {
     pub bits: u32,
 }
 
-/// The object of these arcs, where it is in the table.
+/// The object of these arcs, if it is in the table.
 pub fn object_named(arcs: &[u32]) -> Option<NamedObject>
     ensures found { IfSome result (λ object. object.arcs.now ≡ arcs.now) }
     ensures listed { IfSome result (λ object.
@@ -36,7 +36,7 @@ pub fn object_named(arcs: &[u32]) -> Option<NamedObject>
     object_in(OBJECTS, arcs)
 }
 
-/// The curve of these arcs, where it is in the table.
+/// The curve of these arcs, if it is in the table.
 pub fn curve_of(arcs: &[u32]) -> Option<Curve>
     ensures found { IfSome result (λ curve. curve.arcs.now ≡ arcs.now) }
     ensures listed { IfSome result (λ curve.

@@ -1,4 +1,4 @@
-//! What is shown of a certificate.
+//! The report of a certificate.
 ghost use Rattle.std.specs.Prelude.{◌≡◌, ◌++◌, IfOk, OnOk};
 ghost use Rattle.std.specs.String.{string_bytes};
 ghost use Rattle.asn1_certificate_text.specs.Reports.{extensions_text, head_text, report_text, tail_text, times_text};
@@ -11,22 +11,22 @@ use crate::number::{OctetNumber, Version};
 use crate::time::ShownTime;
 use std::alloc::{AllocError, Global};
 
-/// What is shown of a certificate.
+/// The report of a certificate.
 #[derive(Drop)]
 pub struct Report {
     /// Its version.
     pub version: Version,
     /// Its serial number.
     pub serial_number: OctetNumber,
-    /// Whom it is for.
+    /// Its subject.
     pub subject: ShownName,
-    /// Who issued it.
+    /// Its issuer.
     pub issuer: ShownName,
-    /// From when on it is valid.
+    /// The beginning of its validity.
     pub valid_from: ShownTime,
-    /// Until when it is valid.
+    /// The end of its validity.
     pub valid_until: ShownTime,
-    /// The public key of whom it is for.
+    /// The public key of the subject.
     pub key: ShownKey,
     /// The algorithm of its signature.
     pub signature: Signature,

@@ -2,7 +2,7 @@
 ghost use Rattle.asn1_certificate_text.specs.Times.{time_text};
 
 use crate::append_text::AppendText;
-use crate::escapes::push_shown;
+use crate::escapes::push_visible;
 use crate::moment::Moment;
 use std::alloc::AllocError;
 use std::fmt::Write;
@@ -10,9 +10,9 @@ use std::fmt::Write;
 /// A time of a certificate.
 #[derive(Drop)]
 pub enum ShownTime {
-    /// The moment that it says.
+    /// A moment.
     Moment(Moment),
-    /// The characters of a text that RFC 5280 does not have as a time.
+    /// The characters of a text that is no time of RFC 5280.
     Text(Vec<char>),
 }
 
@@ -23,7 +23,7 @@ impl AppendText for ShownTime {
         match self {
             ShownTime::Moment(moment) => write!(text, "{moment}"),
             ShownTime::Text(characters) => {
-                push_shown(text, characters.as_slice())?;
+                push_visible(text, characters.as_slice())?;
                 text.push_str(" (no time of RFC 5280)")
             }
         }

@@ -68,7 +68,7 @@ pub(super) const OBJECTS: &[(&[u32], &str)] = &[
         "signedCertificateTimestampList",
     ),
     (&[1, 3, 6, 1, 5, 5, 7, 1, 24], "tlsFeature"),
-    // What a key is for (RFC 5280, 4.2.1.12).
+    // The purposes of keys (RFC 5280, 4.2.1.12).
     (&[2, 5, 29, 37, 0], "anyExtendedKeyUsage"),
     (&[1, 3, 6, 1, 5, 5, 7, 3, 1], "serverAuth"),
     (&[1, 3, 6, 1, 5, 5, 7, 3, 2], "clientAuth"),

@@ -4,17 +4,17 @@ use Rattle.memchr.specs.Find.{FindsNeedle}
 use Rattle.asn1_certificate_text.specs.Pem.{EnclosesAt, begin_line, end_line}
 use Rattle.asn1_certificate_text.proofs.pem.enclosed.Goals as goal
 
--- what is before the second line is as long as the place of that line says
+-- the text before the second line is as long as the position of that line
 length_before : (rest : List ℕ) (size : ℕ) → FindsNeedle rest end_line 0 (Some size) → length (take size rest) ≡ size
 length_before rest size ends = let fits : size + 25 ≤ length rest = ends.1.fits in omega (arith, length-take size rest)
 
--- a line before a certificate, and a line after one in what is behind it
+-- a line before a certificate, and a line after one in the text after it
 encloses : (text rest : List ℕ) (begin size : ℕ) → rest ≡ drop (begin + 27) text → FindsNeedle text begin_line 0 (Some begin) →
     FindsNeedle rest end_line 0 (Some size) → EnclosesAt text (begin + 27) (take size rest)
 encloses text rest begin size is first second =
     let long = length_before rest size second in
     record {
-      begins = record { place = begin; found = first; behind = refl };
+      begins = record { position = begin; found = first; after = refl };
       ends = subst (λ (r : List ℕ). FindsNeedle r end_line 0 (Some (length (take size rest)))) is
           (subst (λ (n : ℕ). FindsNeedle rest end_line 0 (Some n)) (sym long) second);
       between = ap (λ (r : List ℕ). take size r) is ∙ ap (λ (n : ℕ). take n (drop (begin + 27) text)) (sym long);
@@ -38,6 +38,6 @@ pub returns-in_default-find-clause-refused : goal.returns-in_default-find-clause
 returns-in_default-find-clause-refused c =
     let start = c.in-Some.begin + 27 in
     record {
-      begins = record { place = c.in-Some.begin; found = c.in-Some.ensures; behind = refl };
+      begins = record { position = c.in-Some.begin; found = c.in-Some.ensures; after = refl };
       never_ends = subst (λ (r : List ℕ). FindsNeedle r end_line 0 None) (take_rest c.args.text.now start) c.in_default-find.ensures;
     }

@@ -12,8 +12,8 @@ returns-in-InvalidByte c =
       refused = c.requires.refused;
       symbol = c.in-InvalidByte.symbol;
       about = about;
-      place_in_body = c.place_of_symbol.result;
-      at_place = c.place_of_symbol.ensures.found (symbol_is_inside (filter is_symbol c.args.body.now) c.args.error _ c.requires.refused about);
+      position_in_body = c.position_of_symbol.result;
+      at_position = c.position_of_symbol.ensures.found (symbol_is_inside (filter is_symbol c.args.body.now) c.args.error _ c.requires.refused about);
       in_text = refl;
     }
 
@@ -25,8 +25,8 @@ returns-in-InvalidLastSymbol c =
       refused = c.requires.refused;
       symbol = c.in-InvalidLastSymbol.offset;
       about = about;
-      place_in_body = c.place_of_symbol-in-InvalidLastSymbol.result;
-      at_place = c.place_of_symbol-in-InvalidLastSymbol.ensures.found
+      position_in_body = c.position_of_symbol-in-InvalidLastSymbol.result;
+      at_position = c.position_of_symbol-in-InvalidLastSymbol.ensures.found
           (symbol_is_inside (filter is_symbol c.args.body.now) c.args.error _ c.requires.refused about);
       in_text = refl;
     }
