@@ -1,4 +1,4 @@
-//! What is shown of public keys whose size is known and of others; the octets were made by hand.
+//! Reports of public keys, with known sizes and without; the octets were made by hand.
 use asn1_certificate_input::{OutputFormat, output_of};
 use asn1_der_items::{begin_element, end_element};
 use asn1_tags::Tag;

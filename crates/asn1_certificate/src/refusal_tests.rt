@@ -1,4 +1,4 @@
-//! Which values a name cannot have, which parameters an algorithm, and what is shown of a value that is not of its type.
+//! Values that no name can have, bad parameters of algorithms, and reports of values that are not of their type.
 use asn1_certificate_input::{InputError, OutputFormat, output_of};
 use asn1_certificate_reader::{
     MAX_DEPTH, NameFault, ParameterType, ValueFault, bad_parameters, first_name_fault,
@@ -118,8 +118,8 @@ fn parameters_are_of_the_type_of_their_tag(rt: HostRuntime) {
     assert_parameters(&rt, alloc, 0x80, 0, None);
 }
 
-/// A certificate in DER. The parameters of its three algorithms are a BOOLEAN of these octets: of the algorithm of its signature, as it
-/// is said inside, of that of its key, and of the first as it is said beside. Its key usage is not of its type.
+/// A certificate in DER. The parameters of its three algorithms are a BOOLEAN of these octets: of the algorithm of its signature inside
+/// the signed part, of that of its key, and of that beside the signed part. Its key usage is not of its type.
 const fn certificate(inside: u8, key: u8, beside: u8) -> [u8; 71] {
     [
         0x30, 69, 0x30, 55, 0xa0, 3, 2, 1, 2, 2, 1, 1, 0x30, 7, 6, 2, 0x2a, 3, 1, 1, inside, 0x30,
@@ -129,17 +129,17 @@ const fn certificate(inside: u8, key: u8, beside: u8) -> [u8; 71] {
     ]
 }
 
-/// Why a certificate is refused.
+/// The reason for which a certificate is refused.
 fn refusal(rt: &impl Abort, alloc: Global, certificate: &[u8]) -> Option<InputError> {
     let input = Vec::from_slice(alloc, certificate).expect(rt, "memory");
     output_of(alloc, OutputFormat::Der, input).err()
 }
 
-/// The place of the parameters of an algorithm for which a certificate is refused, if they have to be a BOOLEAN.
-fn bad_place(rt: &impl Abort, alloc: Global, certificate: &[u8]) -> Option<usize> {
+/// The position of the parameters of an algorithm for which a certificate is refused, if they have to be a BOOLEAN.
+fn bad_position(rt: &impl Abort, alloc: Global, certificate: &[u8]) -> Option<usize> {
     match refusal(rt, alloc, certificate)? {
-        InputError::BadSignatureParameters(place, ParameterType::Boolean)
-        | InputError::BadKeyParameters(place, ParameterType::Boolean) => Some(place),
+        InputError::BadSignatureParameters(position, ParameterType::Boolean)
+        | InputError::BadKeyParameters(position, ParameterType::Boolean) => Some(position),
         _ => None,
     }
 }
@@ -148,12 +148,12 @@ fn bad_place(rt: &impl Abort, alloc: Global, certificate: &[u8]) -> Option<usize
 fn bad_parameters_are_refused(rt: HostRuntime) {
     let alloc = rt.alloc();
     assert!(rt; refusal(&rt, alloc, &certificate(0xff, 0, 0xff)).is_none());
-    assert!(rt; bad_place(&rt, alloc, &certificate(2, 0, 0xff)) == Some(18));
-    assert!(rt; bad_place(&rt, alloc, &certificate(0xff, 2, 0xff)) == Some(39));
-    assert!(rt; bad_place(&rt, alloc, &certificate(0xff, 0, 2)) == Some(65));
+    assert!(rt; bad_position(&rt, alloc, &certificate(2, 0, 0xff)) == Some(18));
+    assert!(rt; bad_position(&rt, alloc, &certificate(0xff, 2, 0xff)) == Some(39));
+    assert!(rt; bad_position(&rt, alloc, &certificate(0xff, 0, 2)) == Some(65));
 }
 
-/// A certificate in DER that does not say its version. The common names of its issuer and its subject have these values of four octets.
+/// A certificate in DER without a version. The common names of its issuer and its subject have these values of four octets.
 const fn of_names(issuer: [u8; 6], subject: [u8; 6]) -> [u8; 73] {
     let [a, b, c, d, e, f] = issuer;
     let [u, v, w, x, y, z] = subject;
@@ -169,10 +169,10 @@ const UTF8: [u8; 6] = [0x0c, 4, b'A', b'n', b'n', b'a'];
 
 const NO_STRING: [u8; 6] = [0x17, 4, b'A', b'n', b'n', b'a'];
 
-/// The place of the value for which a certificate is refused, if it is in a name.
+/// The position of the value for which a certificate is refused, if it is in a name.
 fn bad_name(rt: &impl Abort, alloc: Global, certificate: &[u8]) -> Option<usize> {
     match refusal(rt, alloc, certificate)? {
-        InputError::BadIssuer(place, _) | InputError::BadSubject(place, _) => Some(place),
+        InputError::BadIssuer(position, _) | InputError::BadSubject(position, _) => Some(position),
         _ => None,
     }
 }
@@ -185,8 +185,8 @@ fn bad_values_in_names_are_refused(rt: HostRuntime) {
     assert!(rt; bad_name(&rt, alloc, &of_names(UTF8, NO_STRING)) == Some(47));
 }
 
-/// A certificate in DER that says its version, whose issuer has two parts, the second with two attributes, of which the second has a
-/// value that is no string.
+/// A certificate in DER with a version. Its issuer has two parts, the second with two attributes, and the value of the second of these
+/// is no string.
 const TWO_PARTS: &[u8] = &[
     0x30, 0x6b, 0x30, 0x60, 0xa0, 3, 2, 1, 2, 2, 1, 1, 0x30, 4, 6, 2, 0x2a, 3, 0x30, 0, 0x30, 0x1e,
     0x17, 0x0d, b'2', b'0', b'0', b'1', b'0', b'1', b'0', b'0', b'0', b'0', b'0', b'0', b'Z', 0x17,
@@ -196,7 +196,7 @@ const TWO_PARTS: &[u8] = &[
     1, 0, 0x30, 4, 6, 2, 0x2a, 3, 3, 1, 0,
 ];
 
-/// One that does not say its version, whose key has parameters that are no BOOLEAN.
+/// A certificate without a version. The parameters of its key are no BOOLEAN.
 const BAD_KEY: &[u8] = &[
     0x30, 0x46, 0x30, 0x3b, 2, 1, 1, 0x30, 4, 6, 2, 0x2a, 3, 0x30, 0, 0x30, 0x1e, 0x17, 0x0d, b'2',
     b'0', b'0', b'1', b'0', b'1', b'0', b'0', b'0', b'0', b'0', b'0', b'Z', 0x17, 0x0d, b'3', b'0',
@@ -205,13 +205,13 @@ const BAD_KEY: &[u8] = &[
 ];
 
 #[test]
-fn places_are_those_of_each_path(rt: HostRuntime) {
+fn positions_are_those_of_each_path(rt: HostRuntime) {
     let alloc = rt.alloc();
     assert!(rt; bad_name(&rt, alloc, TWO_PARTS) == Some(86));
-    assert!(rt; bad_place(&rt, alloc, BAD_KEY) == Some(57));
+    assert!(rt; bad_position(&rt, alloc, BAD_KEY) == Some(57));
 }
 
-/// Asserts that the common name of who issued a certificate is shown as this text.
+/// Asserts that the common name of the issuer of a certificate is shown as this text.
 fn assert_shown(rt: &impl Abort, alloc: Global, value: [u8; 6], expected: &str) {
     let input = Vec::from_slice(alloc, &of_names(value, UTF8)).expect(rt, "memory");
     let bytes = output_of(alloc, OutputFormat::Report, input).expect(rt, "a certificate");
@@ -231,16 +231,16 @@ fn each_kind_of_string_is_shown(rt: HostRuntime) {
     assert_shown(&rt, alloc, [3, 4, 0, 1, 2, 3], "CN=#030400010203\n");
 }
 
-/// Whether a certificate is refused for its serial number, with the place after it.
+/// Whether a certificate is refused for its serial number, with the position after it.
 fn is_refused_for_its_number(rt: &impl Abort, alloc: Global, certificate: &[u8]) -> bool {
     match refusal(rt, alloc, certificate) {
-        Some(InputError::BadComponent(place, name)) => place == 12 && name == "serialNumber",
+        Some(InputError::BadComponent(position, name)) => position == 12 && name == "serialNumber",
         _ => false,
     }
 }
 
 #[test]
-fn a_component_that_is_refused_has_a_place(rt: HostRuntime) {
+fn a_component_that_is_refused_has_a_position(rt: HostRuntime) {
     let alloc = rt.alloc();
     let mut octets = certificate(0, 0, 0);
     octets[9] = 4;

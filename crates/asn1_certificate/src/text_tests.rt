@@ -6,7 +6,7 @@ use asn1_certificate_text::{
 use std::alloc::Global;
 use std::process::Abort;
 
-/// What a call appends to an empty text.
+/// Asserts that a call has appended this to an empty text.
 fn assert_text(rt: &impl Abort, text: &String, expected: &str) {
     assert_eq!(rt; text.as_str(), expected);
 }
@@ -153,7 +153,7 @@ fn objects_have_names(rt: HostRuntime) {
     assert!(rt; curve_of(&[1, 2, 840, 10045, 3, 1, 7]).map(|curve| curve.bits) == Some(256));
 }
 
-/// What is in a text between the two lines.
+/// Asserts that a text has this certificate between the two lines.
 fn assert_pem(rt: &impl Abort, alloc: Global, text: &[u8], expected: Result<&[u8], PemError>) {
     match (pem_octets(alloc, text), expected) {
         (Ok(octets), Ok(expected)) => assert_eq!(rt; octets.as_slice(), expected),

@@ -1,4 +1,4 @@
 pub mod Inputs
-pub mod Places
+pub mod Positions
 pub mod Refused
 pub mod Shown

@@ -1,8 +1,8 @@
--- Why the program writes nothing.
+-- The reasons for which the program writes nothing.
 use Rattle.std.specs.Prelude.{◌≡◌, ◌≢◌, ◌⊎◌, ⊤, ℕ, Bool, false, true, List, Option, Some, if◌then◌else◌}
 use Rattle.std.specs.Io.KnownBytes.{Consumes}
 use Rattle.asn1_certificate_input.specs.Inputs.{AreInputOctets, AreOfNoCertificate, IsCertificateOf, records_of}
-use Rattle.asn1_certificate_input.specs.Places.{issuer, place_of_key_parameters, place_of_parameters_beside, place_of_signed_parameters, place_of_value, subject}
+use Rattle.asn1_certificate_input.specs.Positions.{issuer, position_of_key_parameters, position_of_parameters_beside, position_of_signed_parameters, position_of_value, subject}
 use Rattle.asn1_certificate_input.specs.declared.output_format.OutputFormat.{OutputFormat}
 use Rattle.asn1_certificate_input.specs.declared.output_format.OutputFormat.TheVariants.{Der}
 use Rattle.asn1_certificate_input.specs.declared.outcome.Failure.{Failure}
@@ -26,12 +26,13 @@ IsRefusalOfText input (Text error) = (is_one_element input ≡ false) × ((error
 IsRefusalOfText input Memory = ⊤
 IsRefusalOfText input other = ⊥
 
--- the octets are those of no valid certificate, and the place that the error names is the first at which an element is due and none
--- begins, or they are elements, looked into down to 64 scopes; or memory ran out. Up to which place elements were read is not said.
+-- the octets are those of no valid certificate, and the position that the error names is the first at which an element is due and none
+-- begins, or they are elements, nested in 64 scopes at most; or memory ran out. The relation puts no condition on the position up to
+-- which elements were read.
 abbrev pub IsRefusalOfOctets : List ℕ → InputError → Type 0
-IsRefusalOfOctets octets (NoElement place error) = AreOfNoCertificate octets × IsFirstFault 64 octets place
-IsRefusalOfOctets octets (BadComponent place name) = AreOfNoCertificate octets × AreElementsDownTo 64 octets
-IsRefusalOfOctets octets (NoCertificate place error) = AreOfNoCertificate octets × AreElementsDownTo 64 octets
+IsRefusalOfOctets octets (NoElement position error) = AreOfNoCertificate octets × IsFirstFault 64 octets position
+IsRefusalOfOctets octets (BadComponent position name) = AreOfNoCertificate octets × AreElementsDownTo 64 octets
+IsRefusalOfOctets octets (NoCertificate position error) = AreOfNoCertificate octets × AreElementsDownTo 64 octets
 IsRefusalOfOctets octets Memory = ⊤
 IsRefusalOfOctets octets other = ⊥
 
@@ -42,19 +43,19 @@ pub record HasOtherDer (octets : List ℕ) (certificate : Certificate) : Type 0 
   pub other : bytes ≢ octets
 
 -- The fault is the first of a name of the certificate that these octets were read as; or the parameters of the algorithm of its key,
--- or of one of its signature, are not what they have to be by their tag; and the place is that to which the path of that value or of
+-- or of one of its signature, are not what they have to be by their tag; and the position is that to which the path of that value or of
 -- these parameters leads in the octets. Or, where its DER was asked for, it has none that is nested in 64 scopes at most, or has
 -- other DER than the octets; or memory ran out.
 abbrev pub IsRefusalOfCertificate : OutputFormat → List ℕ → Certificate → InputError → Type 0
-IsRefusalOfCertificate format octets certificate (BadIssuer place fault) =
-    AnswersName certificate.tbs_certificate.issuer (Some fault) × (place ≡ place_of_value octets issuer fault)
-IsRefusalOfCertificate format octets certificate (BadSubject place fault) =
-    AnswersName certificate.tbs_certificate.subject (Some fault) × (place ≡ place_of_value octets subject fault)
-IsRefusalOfCertificate format octets certificate (BadKeyParameters place bad) =
-    HasBadParameters der_format certificate.tbs_certificate.subject_public_key_info.algorithm bad × (place ≡ place_of_key_parameters octets)
-IsRefusalOfCertificate format octets certificate (BadSignatureParameters place bad) =
-    (HasBadParameters der_format certificate.tbs_certificate.signature bad × (place ≡ place_of_signed_parameters octets)) ⊎
-    (HasBadParameters der_format certificate.signature_algorithm bad × (place ≡ place_of_parameters_beside octets))
+IsRefusalOfCertificate format octets certificate (BadIssuer position fault) =
+    AnswersName certificate.tbs_certificate.issuer (Some fault) × (position ≡ position_of_value octets issuer fault)
+IsRefusalOfCertificate format octets certificate (BadSubject position fault) =
+    AnswersName certificate.tbs_certificate.subject (Some fault) × (position ≡ position_of_value octets subject fault)
+IsRefusalOfCertificate format octets certificate (BadKeyParameters position bad) =
+    HasBadParameters der_format certificate.tbs_certificate.subject_public_key_info.algorithm bad × (position ≡ position_of_key_parameters octets)
+IsRefusalOfCertificate format octets certificate (BadSignatureParameters position bad) =
+    (HasBadParameters der_format certificate.tbs_certificate.signature bad × (position ≡ position_of_signed_parameters octets)) ⊎
+    (HasBadParameters der_format certificate.signature_algorithm bad × (position ≡ position_of_parameters_beside octets))
 IsRefusalOfCertificate format octets certificate (NotWritten error) = (format ≡ Der) × ((error ≢ writing.Memory) × IsNotWritten der_format (records_of certificate) 64 error)
 IsRefusalOfCertificate format octets certificate OtherDer = (format ≡ Der) × HasOtherDer octets certificate
 IsRefusalOfCertificate format octets certificate Memory = ⊤

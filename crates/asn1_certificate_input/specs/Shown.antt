@@ -1,4 +1,4 @@
--- What the program writes.
+-- The output of the program.
 use Rattle.std.specs.Prelude.{◌≡◌, ℕ, List, None, Option}
 use Rattle.std.specs.Io.KnownBytes.{Appends, Consumes}
 use Rattle.asn1_certificate_input.specs.Inputs.{IsCertificateOf, records_of}

@@ -2,28 +2,28 @@
 //!
 //! | Item | What it is |
 //! |---|---|
-//! | [`run`], [`Outcome`] | writes the certificate that a reader gives, and how the program then ends |
-//! | [`output_of`], [`InputError`] | what is written of an input, or why nothing is |
+//! | [`run`], [`Outcome`] | writes the certificate that a reader gives, and the end of the program |
+//! | [`output_of`], [`InputError`] | the output for an input, or the reason that there is none |
 //! | [`OutputFormat`], [`format_of`] | the format in which a certificate is written |
 //!
-//! An input is the DER of a certificate, or a text with it in base64. As a report it is what a person wants to see of it
+//! An input is the DER of a certificate, or a text with it in base64. As a report it is for a person to read
 //! (`report_of` of `asn1_certificate_reader` and `report_text` of `asn1_certificate_text`), and as DER the octets that were read.
 //!
-//! What the contracts promise:
+//! The contracts promise:
 //!
-//! - What is written is of the certificate that the input has (`AreLinesOfInput` and `IsDerOfInput` of `specs/Shown.antt`): an input
-//!   that is one element is its own octets, and the octets are read as the valid certificate whose DER they are, where there is one
+//! - The output is that of the certificate of the input (`AreLinesOfInput` and `IsDerOfInput` of `specs/Shown.antt`): an input
+//!   that is one element is its own octets, and the octets are read as the valid certificate whose DER they are, if there is one
 //!   (`IsCertificateOf` of `specs/Inputs.antt`).
-//! - Why an input is refused is so (`IsRefusalOfInput` of `specs/Refused.antt`). Where what is refused is a value in a name, or are
-//!   parameters, the place is that to which their path leads in the octets (`specs/IndexedComponents.antt`).
-//!   The status is 1 where it is refused, and 2 where memory runs out or reading or writing fails (`status_after`).
+//! - The error is a true reason for which an input is refused (`IsRefusalOfInput` of `specs/Refused.antt`). For a value in a name, and
+//!   for parameters, its position is the one to which their path leads in the octets (`specs/Positions.antt`).
+//!   The status is 1 if the input is refused, and 2 if memory runs out or reading or writing fails (`status_after`).
 #![tactic(auto)]
 
 mod open_types;
 mod outcome;
 mod output;
 mod output_format;
-mod places;
+mod positions;
 
 pub use outcome::{Outcome, run};
 pub use output::{InputError, output_of};

@@ -1,20 +1,20 @@
-//! What the open types of a certificate cannot hold.
+//! Values that the open types of a certificate cannot hold.
 ghost use Rattle.std.specs.Prelude.{IfErr, OnOk};
 ghost use Rattle.asn1_certificate_input.specs.Refused.{IsRefusalOfCertificate};
 ghost use Rattle.asn1_certificate_input.specs.Shown.{HasGoodNames};
 
 use crate::output::InputError;
 use crate::output_format::OutputFormat;
-use crate::places::{
-    ISSUER, SUBJECT, place_of_key_parameters, place_of_parameters_beside,
-    place_of_signed_parameters, place_of_value,
+use crate::positions::{
+    ISSUER, SUBJECT, position_of_key_parameters, position_of_parameters_beside,
+    position_of_signed_parameters, position_of_value,
 };
 use asn1_certificate_reader::{bad_parameters, first_name_fault};
 use asn1_der::DerRules;
 use asn1_x509::Certificate;
 use std::alloc::Global;
 
-/// Refuses a certificate that was read of these octets, but whose open types hold what they cannot hold.
+/// Refuses a certificate that was read of these octets, if its open types hold values that they cannot hold.
 pub(crate) fn check_open_types(
     alloc: Global,
     octets: &[u8],
@@ -38,12 +38,12 @@ fn check_names(octets: &[u8], certificate: &Certificate) -> Result<(), InputErro
 {
     let signed = &certificate.tbs_certificate;
     if let Some(fault) = first_name_fault(&signed.issuer) {
-        let place = place_of_value(octets, ISSUER, fault);
-        return Err(InputError::BadIssuer(place, fault));
+        let position = position_of_value(octets, ISSUER, fault);
+        return Err(InputError::BadIssuer(position, fault));
     }
     if let Some(fault) = first_name_fault(&signed.subject) {
-        let place = place_of_value(octets, SUBJECT, fault);
-        return Err(InputError::BadSubject(place, fault));
+        let position = position_of_value(octets, SUBJECT, fault);
+        return Err(InputError::BadSubject(position, fault));
     }
     Ok(())
 }
@@ -60,16 +60,16 @@ fn check_parameters(
     let signed = &certificate.tbs_certificate;
     let key = &signed.subject_public_key_info;
     if let Some(bad) = bad_parameters(&rules, alloc, &key.algorithm)? {
-        let place = place_of_key_parameters(octets);
-        return Err(InputError::BadKeyParameters(place, bad));
+        let position = position_of_key_parameters(octets);
+        return Err(InputError::BadKeyParameters(position, bad));
     }
     if let Some(bad) = bad_parameters(&rules, alloc, &signed.signature)? {
-        let place = place_of_signed_parameters(octets);
-        return Err(InputError::BadSignatureParameters(place, bad));
+        let position = position_of_signed_parameters(octets);
+        return Err(InputError::BadSignatureParameters(position, bad));
     }
     if let Some(bad) = bad_parameters(&rules, alloc, &certificate.signature_algorithm)? {
-        let place = place_of_parameters_beside(octets);
-        return Err(InputError::BadSignatureParameters(place, bad));
+        let position = position_of_parameters_beside(octets);
+        return Err(InputError::BadSignatureParameters(position, bad));
     }
     Ok(())
 }

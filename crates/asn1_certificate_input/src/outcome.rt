@@ -1,4 +1,4 @@
-//! How the program ends.
+//! The end of the program.
 ghost use Rattle.std.specs.Prelude.{◌≡◌, ◌↔◌, IfErr, IsOk, OnOk};
 ghost use Rattle.std.specs.Io.KnownBytes.{Appends, IsAtEnd};
 ghost use Rattle.asn1_certificate_input.specs.Refused.{IsFailure, IsRefused, status_after};
@@ -13,7 +13,7 @@ use std::io::{Eprint, Read, Write};
 use std::process::{ExitCode, Termination};
 use thiserror::Error;
 
-/// Why nothing is written.
+/// The reason that there is no output.
 #[derive(Clone, Copy, Debug, Drop, Error)]
 pub(crate) enum Failure {
     /// The input is refused, or memory ran out.
@@ -41,16 +41,16 @@ impl Failure {
     }
 }
 
-/// How the program ends: with a status, and with what `{}` shows of it on standard error.
+/// The end of the program: its status, and the text that `{}` prints on standard error.
 #[derive(Clone, Copy)]
 pub struct Outcome {
-    /// 0 if a certificate was written, 1 if the input is refused, and 2 where memory ran out, or reading or writing failed.
+    /// 0 if a certificate was written, 1 if the input is refused, and 2 if memory ran out, or reading or writing failed.
     pub status: u8,
     failure: Option<Failure>,
 }
 
 impl Outcome {
-    /// How the program ends after that answer.
+    /// The end of the program after this answer.
     fn of(answer: Result<(), Failure>) -> Outcome
         ensures written { (result.status ≡ 0) ↔ IsOk answer }
         ensures failed { IfErr answer (λ failure. result.status ≡ status_after failure) }
@@ -77,7 +77,7 @@ impl fmt::Display for Outcome {
     }
 }
 
-/// What `main` answers: the text is printed, and the process ends with the status.
+/// The answer of `main`: the text is printed, and the process ends with the status.
 impl Termination for Outcome {
     ghost use Rattle.std.specs.Process.{exit_status};
 
@@ -89,7 +89,7 @@ impl Termination for Outcome {
     }
 }
 
-/// Writes the certificate that the reader gives in a format, and answers how the program then ends.
+/// Writes the certificate that the reader gives in a format, and answers the end of the program.
 pub fn run<R: Read, W: Write>(
     alloc: Global,
     format: OutputFormat,

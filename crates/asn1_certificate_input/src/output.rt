@@ -1,4 +1,4 @@
-//! What is written of an input.
+//! The output for an input.
 ghost use Rattle.std.specs.Prelude.{◌≡◌, IfErr, IfOk};
 ghost use Rattle.asn1_certificate_input.specs.Inputs.{AreInputOctets, AreOfNoCertificate, IsCertificateOf, IsReadOf, records_of};
 ghost use Rattle.asn1_certificate_input.specs.Refused.{IsNotRead, IsRefusalOfCertificate, IsRefusalOfInput, IsRefusalOfOctets, IsRefusalOfText};
@@ -19,38 +19,38 @@ use asn1_x509::{Certificate, certificate_is_well_tagged};
 use std::alloc::{AllocError, Global};
 use thiserror::Error;
 
-/// Why nothing is written of an input. Places are those of bytes, from 0.
+/// The reason that there is no output for an input. Positions are those of bytes, from 0.
 #[derive(Clone, Copy, Debug, Drop, Error)]
 pub enum InputError {
     /// The input is a text, and its certificate is not found.
     #[error("{0}")]
     Text(PemError),
-    /// At this place of the octets an element is due, and none begins. The error is that of reading them.
+    /// No element begins at this position of the octets, although one is due. The error is that of reading them.
     #[error("no certificate: byte {0} of its DER begins no element ({1})")]
     NoElement(usize, DecodeError),
-    /// The octets are elements, and those of no certificate, since this component is not as it has to be. They were read up to this
-    /// place, with the element that was refused.
+    /// The octets are elements, and those of no certificate, since this component is invalid. They were read up to this position, with
+    /// the element that was refused.
     #[error("no certificate: {1} is not as it has to be (its DER was read up to byte {0})")]
     BadComponent(usize, &'static str),
-    /// The octets are elements, and those of no certificate for another reason. They were read up to this place.
+    /// The octets are elements, and those of no certificate for another reason. They were read up to this position.
     #[error("no certificate: {1} (its DER was read up to byte {0})")]
     NoCertificate(usize, DecodeError),
-    /// The name of who issued it has a value, at this place, that no name can have.
+    /// The name of the issuer has a value, at this position, that no name can have.
     #[error("no certificate: in its issuer {1} (byte {0} of its DER)")]
     BadIssuer(usize, NameFault),
-    /// The name of whom it is for has one.
+    /// The name of the subject has one.
     #[error("no certificate: in its subject {1} (byte {0} of its DER)")]
     BadSubject(usize, NameFault),
-    /// The parameters of the key's algorithm, at this place, have to be this by their tag, and are not.
+    /// The parameters of the key's algorithm, at this position, have to be of this type by their tag, and are not.
     #[error("no certificate: the parameters of its key's algorithm are no valid {1} (byte {0} of its DER)")]
     BadKeyParameters(usize, ParameterType),
-    /// So do those of the signature's algorithm.
+    /// The parameters of the signature's algorithm are not.
     #[error("no certificate: the parameters of its signature's algorithm are no valid {1} (byte {0} of its DER)")]
     BadSignatureParameters(usize, ParameterType),
     /// The certificate was read, and is not written again.
     #[error("not written: {0}")]
     NotWritten(EncodeError),
-    /// The octets were read as a certificate whose DER is other: they have a component that is its DEFAULT.
+    /// The octets were read as a certificate with other DER: they have a component that is its DEFAULT.
     #[error("not written: its DER has other octets, without components that are their DEFAULT")]
     OtherDer,
     /// There was no memory.
@@ -66,7 +66,7 @@ impl From<AllocError> for InputError {
     }
 }
 
-/// What is written of an input, which is the DER of a certificate or a text with it in base64: the certificate in a format.
+/// The output for an input, which is the DER of a certificate or a text with it in base64: the certificate in a format.
 pub fn output_of(alloc: Global, format: OutputFormat, input: Vec<u8>) -> Result<Vec<u8>, InputError>
     ensures report { format ≡ OutputFormat.Report →
         IfOk result (λ bytes. AreLinesOfInput input.items bytes.items) }
@@ -81,7 +81,7 @@ pub fn output_of(alloc: Global, format: OutputFormat, input: Vec<u8>) -> Result<
     }
 }
 
-/// The lines that are shown of a certificate.
+/// The lines of the report of a certificate.
 fn lines_of(alloc: Global, certificate: &Certificate) -> Result<Vec<u8>, InputError>
     ensures shown { IfOk result (λ bytes. AreLinesOf certificate.now bytes.items) }
     ensures memory { IfErr result (λ e. e ≡ Memory) }
@@ -124,8 +124,8 @@ fn certificate_of(alloc: Global, input: Vec<u8>) -> Result<(Vec<u8>, Certificate
     }
 }
 
-/// The octets of an input: one element is its own octets, and of others they are those of the first certificate in a text, or the
-/// input where it has none.
+/// The octets of an input: one element is its own octets, and other inputs have those of the first certificate in a text, or else
+/// their own.
 fn octets_of(alloc: Global, input: Vec<u8>) -> Result<Vec<u8>, InputError>
     ensures read { IfOk result (λ octets. AreInputOctets input.items octets.items) }
     ensures refused { IfErr result (IsRefusalOfText input.items) }
@@ -140,7 +140,7 @@ fn octets_of(alloc: Global, input: Vec<u8>) -> Result<Vec<u8>, InputError>
     }
 }
 
-/// The certificate of which these octets are the DER.
+/// The certificate with this DER.
 fn read(alloc: Global, octets: &Vec<u8>) -> Result<Certificate, InputError>
     ensures read { IfOk result (IsReadOf octets.now.items) }
     ensures refused { IfErr result (IsRefusalOfOctets octets.now.items) }
@@ -153,22 +153,22 @@ fn read(alloc: Global, octets: &Vec<u8>) -> Result<Certificate, InputError>
     }
 }
 
-/// Why octets are not read, with the first place at which an element is due and none begins, or else the place up to which they were
-/// read.
+/// The reason for which octets are not read, with the first position at which an element is due and none begins, or else the position
+/// up to which they were read.
 fn refusal(alloc: Global, octets: &[u8], error: DecodeError) -> InputError
     ensures { AreOfNoCertificate octets.now → IsRefusalOfOctets octets.now result }
 {
-    if let Some(place) = first_fault(octets, MAX_DEPTH) {
-        return InputError::NoElement(place, error);
+    if let Some(position) = first_fault(octets, MAX_DEPTH) {
+        return InputError::NoElement(position, error);
     }
-    let place = read_up_to(alloc, octets);
+    let position = read_up_to(alloc, octets);
     match error {
-        DecodeError::FieldError { name, .. } => InputError::BadComponent(place, name),
-        _ => InputError::NoCertificate(place, error),
+        DecodeError::FieldError { name, .. } => InputError::BadComponent(position, name),
+        _ => InputError::NoCertificate(position, error),
     }
 }
 
-/// Up to which place octets are read as a certificate, with an element that is refused.
+/// The position up to which octets are read as a certificate, with an element that is refused.
 fn read_up_to(alloc: Global, octets: &[u8]) -> usize {
     let mut decoder = DerDecoder::new(alloc, octets, MAX_DEPTH);
     let _ = Certificate::decode(&mut decoder);

@@ -16,7 +16,7 @@ not_chosen : (b : Bool) (m n : ℕ) → (b ≡ true → ⊥) → (if b then m el
 not_chosen true m n not = absurd (not refl)
 not_chosen false m n not = refl
 
--- what takes the place of a number that is that of no character
+-- the replacement of a number that is that of no character
 pub character_or_replacement : (unit : ℕ) (o : Option ℕ) → SomeIff o (IsScalar unit) unit → unwrap_or o 0xFFFD ≡ teletex_character unit
 character_or_replacement unit None none = sym (not_chosen (scalar unit) unit 0xFFFD none)
 character_or_replacement unit (Some c) is = is.1 ∙ sym (chosen (scalar unit) unit 0xFFFD is.0)

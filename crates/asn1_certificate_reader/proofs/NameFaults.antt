@@ -1,4 +1,4 @@
--- What the values of a name are, by what was found of them.
+-- The faults of the values of a name, by the search for them.
 use Rattle.std.specs.Prelude.{◌≡◌, ◌<◌, ◌≤◌, ◌+◌, ℕ, Bool, false, true, List, Option, None, Some, Result, Ok, Err, MatchResult, is_ok}
 use Rattle.std.proofs.Common.{ap, get_or, length, refl, subst, sym, take}
 use Rattle.std.proofs.lemmas.List.{take_all}
@@ -36,10 +36,10 @@ pub read_is_utf8 : {A B : Type 0} (Text : A → Type 0) (Why : B → Type 0) (oc
 read_is_utf8 Text Why octets (Ok s) is = sym (is_utf8-from_IsUtf8 octets is.1)
 read_is_utf8 Text Why octets (Err e) is = sym (no_utf8 octets is.0)
 
--- what a loop has seen of a list, and the next item
+-- the items of a list that a loop has visited, and the next item
 pub one_more : {X : Type 0} (P : X → Type 0) (xs : List X) (i : ℕ) (x : X) → i < length xs → x ≡ get_or xs i x → All P (take i xs) → P x → All P (take (i + 1) xs)
 one_more P xs i x below is all here = All-more P xs i x below all (subst P is here)
 
--- what a loop has seen of a list at its end
+-- the items of a list that a loop has visited at its end
 pub all_seen : {X : Type 0} (P : X → Type 0) (xs : List X) (i : ℕ) → length xs ≤ i → All P (take i xs) → All P xs
 all_seen P xs i at_end all = subst (All P) (take_all i xs at_end) all

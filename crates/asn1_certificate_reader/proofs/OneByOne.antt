@@ -1,11 +1,11 @@
--- Lists whose items stand in a relation to those of another list, one by one.
+-- Lists with a relation between their items, one by one.
 use mathlib.Core.List.{reverse_aux}
 use Rattle.std.proofs.Common.{◌≡◌, ◌∙◌, ◌<◌, ◌≤◌, ◌+◌, ℕ, List, [], ◌∷◌, ◌++◌, ap, get_or, length, reverse, subst, sym, take}
 use Rattle.std.proofs.lemmas.List.{take_all, take_more}
 use Rattle.std.proofs.lemmas.Slice.Zip.{all_zipped_more}
 use Rattle.std.specs.List.{AllZip}
 
--- what a loop over a list adds to the list that it makes of it
+-- the next item of the list that a loop builds
 pub one_more : {A B : Type 0} (R : A → B → Type 0) (xs : List A) (ys zs : List B) (i : ℕ) (x : A) (y : B) → i < length xs → x ≡ get_or xs i x →
     zs ≡ ys ++ (y ∷ []) → AllZip R (take i xs) ys → R x y → AllZip R (take (i + 1) xs) zs
 one_more R xs ys zs i x y below is pushed all here =
@@ -13,7 +13,7 @@ one_more R xs ys zs i x y below is pushed all here =
     subst (λ l. AllZip R l zs) (sym more)
     (subst (λ l. AllZip R (take i xs ++ (x ∷ [])) l) (sym pushed) (all_zipped_more R (take i xs) ys x y all here))
 
--- what a loop over a list has made of it at its end
+-- the list that a loop has built at its end
 pub all_seen : {A B : Type 0} (R : A → B → Type 0) (xs : List A) (ys : List B) (i : ℕ) → length xs ≤ i → AllZip R (take i xs) ys → AllZip R xs ys
 all_seen R xs ys i at_end all = subst (λ l. AllZip R l ys) (take_all i xs at_end) all
 

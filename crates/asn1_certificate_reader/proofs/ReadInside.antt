@@ -1,4 +1,4 @@
--- What octets were read as, by what reading them answered.
+-- The value that octets were read as, by the answer of the call.
 use Rattle.std.proofs.Common.{◌≡◌, ℕ, Bool, Err, List, None, Ok, Some, Vec, arith, inl, inr}
 use Rattle.std.specs.declared.alloc.Global.{Global}
 use Rattle.asn1_certificate_reader.specs.Inside.{AreOctetsOfValue, AreReadAs}

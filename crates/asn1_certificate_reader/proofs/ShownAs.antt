@@ -1,4 +1,4 @@
--- What is shown of octets by a type, by what they were read as.
+-- The report of octets by a type, by the value that they were read as.
 use Rattle.std.proofs.Common.{◌≡◌, ℕ, Bool, List, Option, Vec, subst}
 use Rattle.std.specs.declared.alloc.Global.{Global}
 use Rattle.asn1_certificate_reader.specs.ExtensionValues.{IsShownByRead, IsShownAs}

@@ -1,7 +1,7 @@
--- What is shown of octets by a type of strings, by what was found.
+-- The report of octets by a type of strings, by the characters that were found.
 use Rattle.std.proofs.Common.{◌≡◌, ℕ, Bool, List, None, Option, Some, Vec, subst}
 use Rattle.std.specs.declared.alloc.Global.{Global}
-use Rattle.asn1_certificate_reader.specs.NamesShown.{AreCharactersRead, IsShownBy, IsTextOf}
+use Rattle.asn1_certificate_reader.specs.Names.{AreCharactersRead, IsShownBy, IsTextOf}
 use Rattle.asn1_certificate_text.specs.declared.name.AttributeValue.{AttributeValue}
 use Rattle.asn1_model.specs.Meaning.{Meaning}
 use Rattle.asn1_rules.specs.Rules.{Format}

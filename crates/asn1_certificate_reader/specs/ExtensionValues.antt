@@ -1,14 +1,14 @@
--- What is shown of the values of extensions, by the types that RFC 5280 has for their kinds.
+-- The report of the values of extensions, by the types that RFC 5280 has for their kinds.
 use Rattle.std.specs.Bool.{beq}
 use Rattle.std.specs.Cmp.Lexicographic.{pointwise}
 use Rattle.std.specs.List.{AllZip}
 use Rattle.std.specs.Prelude.{◌≡◌, ℕ, ℤ, Bool, ◌==◌, List, [], ◌∷◌, None, Option, Some, Vec, if◌then◌else◌, nat_eq}
 use Rattle.std.specs.declared.alloc.Global.{Global}
-use Rattle.asn1_certificate_reader.specs.GeneralNamesShown.{AreGeneralNamesOf}
+use Rattle.asn1_certificate_reader.specs.GeneralNames.{AreGeneralNamesOf}
 use Rattle.asn1_certificate_reader.specs.Inside.{AreReadAs}
-use Rattle.asn1_certificate_reader.specs.ObjectsShown.{IsObjectOf}
+use Rattle.asn1_certificate_reader.specs.Objects.{IsObjectOf}
 use Rattle.asn1_certificate_reader.specs.Options.{AreBothOrNone}
-use Rattle.asn1_certificate_reader.specs.Simple.{IsOctetNumberOf}
+use Rattle.asn1_certificate_reader.specs.Scalars.{IsOctetNumberOf}
 use Rattle.asn1_certificate_reader.specs.Strings.{bit_string, octet_string}
 use Rattle.asn1_certificate_reader.specs.declared.extensions.ValueKind.{ValueKind}
 use Rattle.asn1_certificate_reader.specs.declared.extensions.ValueKind.TheVariants as kind
@@ -54,7 +54,7 @@ abbrev pub IsOtherType : List ℕ → ExtensionValue → Type 0
 IsOtherType octets (own.OtherType shown) = shown.items ≡ octets
 IsOtherType octets _ = ⊥
 
--- it is these octets, of a kind that is not looked into
+-- it is these octets, of a kind without a type here
 abbrev pub AreOctets : List ℕ → ExtensionValue → Type 0
 AreOctets octets (own.Octets shown) = shown.items ≡ octets
 AreOctets octets _ = ⊥
@@ -64,23 +64,23 @@ abbrev pub IsKeyIdentifier : List ℕ → ExtensionValue → Type 0
 IsKeyIdentifier octets (own.KeyIdentifier shown) = shown.items ≡ octets
 IsKeyIdentifier octets _ = ⊥
 
--- it is these bits, which say what a key may be used for
+-- it is these bits, the usages of a key
 abbrev pub AreUsages : List Bool → ExtensionValue → Type 0
 AreUsages usages (own.Usages shown) = shown.items ≡ usages
 AreUsages usages _ = ⊥
 
--- the number of certificates that may be between, if there is one
+-- the greatest number of certificates between, if there is a limit
 abbrev pub path_length_of : Option PathLength → Option ℤ
 path_length_of None = None
 path_length_of (Some length) = Some length.0
 
--- it says of an authority what these constraints say: whether it is one, and the path length
+-- it is these constraints of an authority: whether it is one, and the path length
 abbrev pub IsAuthority : BasicConstraints → ExtensionValue → Type 0
 IsAuthority constraints (own.Authority shown) =
     (shown.is_authority ≡ constraints.is_authority) × (shown.path_length ≡ path_length_of constraints.path_length)
 IsAuthority constraints _ = ⊥
 
--- it is these objects, which say what a key may be used for, in their order
+-- it is these objects, the purposes of a key, in their order
 abbrev pub ArePurposes : List (List ℕ) → ExtensionValue → Type 0
 ArePurposes purposes (own.Purposes shown) = AllZip IsObjectOf purposes shown.items
 ArePurposes purposes _ = ⊥
@@ -99,7 +99,7 @@ IsShownByRead IsShown octets (Some value) shown = IsShown value shown
 IsShownByRead IsShown octets None shown = IsOtherType octets shown
 
 module _ (F : Format (Vec ℕ Global)) where
-  -- What is shown of these octets by a type: what is shown of the value that they are read as, and else the octets.
+  -- The report of these octets by a type: that of the value that they are read as, or else the octets.
   pub record IsShownAs {V : Type 0} (m : Meaning V) (eq : V → V → Bool) (IsShown : V → ExtensionValue → Type 0)
       (octets : List ℕ) (shown : ExtensionValue) : Type 0 where
     pub value : Option V
@@ -111,12 +111,12 @@ module _ (F : Format (Vec ℕ Global)) where
   AreNames names (own.Names shown) = AreGeneralNamesOf F names shown.items
   AreNames names _ = ⊥
 
-  -- the names of who issued the certificate of an authority, which may be absent: that is shown as no names
+  -- the names of the issuer of the certificate of an authority; if they are absent, there are none
   abbrev pub AreIssuers : Option (Vec GeneralName Global) → List ShownGeneralName → Type 0
   AreIssuers (Some names) shown = AreGeneralNamesOf F names.items shown
   AreIssuers None shown = shown ≡ []
 
-  -- The key of an authority, by its identifier, and by the serial number and the issuer of its certificate, where they are said.
+  -- The key of an authority, by its identifier, and by the serial number and the issuer of its certificate, if the extension has them.
   pub record IsKeyOfAuthority (key : AuthorityKeyIdentifier) (shown : AuthorityKey) : Type 0 where
     pub identifier : AreBothOrNone (λ octets (copy : Vec ℕ Global). copy.items ≡ octets) key.key_identifier shown.identifier
     pub serial_number : AreBothOrNone IsOctetNumberOf key.authority_cert_serial_number shown.serial_number
@@ -127,7 +127,7 @@ module _ (F : Format (Vec ℕ Global)) where
   IsAuthorityKey key (own.AuthorityKey shown) = IsKeyOfAuthority key shown
   IsAuthorityKey key _ = ⊥
 
-  -- What is shown of these octets, which are a value of this kind (RFC 5280, 4.2.1): a key identifier (4.2.1.2), a key usage (4.2.1.3),
+  -- The report of these octets, which are a value of this kind (RFC 5280, 4.2.1): a key identifier (4.2.1.2), a key usage (4.2.1.3),
   -- further names (4.2.1.6 and 4.2.1.7), basic constraints (4.2.1.9), the key of an authority (4.2.1.1) or an extended key usage
   -- (4.2.1.12).
   abbrev pub IsValueOfKind : ValueKind → List ℕ → ExtensionValue → Type 0

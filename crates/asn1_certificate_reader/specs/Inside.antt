@@ -1,4 +1,4 @@
--- What octets inside open types and strings were read as.
+-- The values that octets inside open types and strings are read as.
 use Rattle.std.specs.Prelude.{◌≡◌, ◌≤◌, ℕ, Bool, true, List, MatchOption, Option, Vec}
 use Rattle.std.specs.declared.alloc.Global.{Global}
 use Rattle.asn1_model.specs.Meaning.{Meaning, own_records}
@@ -17,8 +17,8 @@ module _ (F : Format (Vec ℕ Global)) where
   abbrev pub AreOfNoValue : {V : Type 0} → Meaning V → List ℕ → Type 0
   AreOfNoValue {V = V} m octets = (value : V) → ¬ AreOctetsOfValue m octets value
 
-  -- What octets were read as, by the meaning and the equality of a type: where they are those of a value, one that is equal to it. Of
-  -- other octets nothing is said.
+  -- The value that octets were read as, by the meaning and the equality of a type: octets of a value are read as one that is equal to
+  -- it. The relation puts no condition on other octets.
   abbrev pub AreReadAs : {V : Type 0} → Meaning V → (V → V → Bool) → List ℕ → Option V → Type 0
   AreReadAs {V = V} m eq octets read =
       (value : V) → AreOctetsOfValue m octets value → MatchOption read ⊥ (λ w. eq w value ≡ true)

@@ -1,9 +1,9 @@
--- What is shown of public keys.
+-- The report of public keys.
 use Rattle.std.specs.Cmp.Lexicographic.{pointwise}
 use Rattle.std.specs.Prelude.{◌≡◌, ◌≢◌, ◌⊎◌, ◌<◌, ℕ, ◌%◌, All, Bool, Contains, List, [], ◌∷◌, MatchOption, None, Option, Some, Vec, length, nat_eq, unsigned_abs}
 use Rattle.std.specs.declared.alloc.Global.{Global}
 use Rattle.asn1_certificate_reader.specs.Inside.{AreReadAs}
-use Rattle.asn1_certificate_reader.specs.ObjectsShown.{IsObjectOf}
+use Rattle.asn1_certificate_reader.specs.Objects.{IsObjectOf}
 use Rattle.asn1_certificate_text.specs.declared.key.KeySize.{KeySize}
 use Rattle.asn1_certificate_text.specs.declared.key.KeySize.TheVariants.{Modulus, Curve, Fixed, UnnamedCurve, Kept}
 use Rattle.asn1_certificate_text.specs.declared.key.ShownKey.{ShownKey}
@@ -25,17 +25,17 @@ rsa = 1 ∷ 2 ∷ 840 ∷ 113549 ∷ 1 ∷ 1 ∷ 1 ∷ []
 abbrev pub elliptic : List ℕ
 elliptic = 1 ∷ 2 ∷ 840 ∷ 10045 ∷ 2 ∷ 1 ∷ []
 
--- how many bits there are of a key that is not looked into
+-- the number of bits of a key of any other algorithm
 abbrev pub IsKeptIn : ℕ → KeySize → Type 0
 IsKeptIn count (Kept shown) = shown ≡ count
 IsKeptIn count _ = ⊥
 
--- how many bits the modulus of this key has, or its magnitude where it is negative, and the exponent
+-- the number of bits of the modulus of this key, or of its magnitude if it is negative, and the exponent
 abbrev pub IsModulusOf : RsaPublicKey → KeySize → Type 0
 IsModulusOf key (Modulus bits exponent) = IsBitLength (unsigned_abs key.modulus) bits × (exponent ≡ key.public_exponent)
 IsModulusOf key _ = ⊥
 
--- the name of the curve of these arcs and the size of a key on it, or the object where the curve has no name here
+-- the name of the curve of these arcs and the size of a key on it, or the object if the curve has no name here
 abbrev pub IsSizeOnCurve : List ℕ → KeySize → Type 0
 IsSizeOnCurve arcs (Curve name bits) = NamesCurve curve_sizes arcs name.now bits
 IsSizeOnCurve arcs (UnnamedCurve curve) = (¬ Contains known_curves arcs) × IsObjectOf arcs curve
@@ -46,18 +46,18 @@ pub record HasOneCurve (arcs : List ℕ) (bits : ℕ) : Type 0 where
   pub name : List ℕ
   pub listed : NamesCurve curve_sizes arcs name bits
 
--- how many bits a row of the table of curves has for the arcs of this algorithm, and else how many bits there are
+-- the size of a row of the table of curves with the arcs of this algorithm, or else the number of bits
 abbrev pub IsSizeByAlgorithm : List ℕ → ℕ → KeySize → Type 0
 IsSizeByAlgorithm arcs count (Fixed bits) = HasOneCurve arcs bits
 IsSizeByAlgorithm arcs count (Kept shown) = (¬ Contains known_curves arcs) × (shown ≡ count)
 IsSizeByAlgorithm arcs count _ = ⊥
 
--- bits that were read as this key of RSA are shown by it, and bits that were read as none by how many they are
+-- bits that were read as this key of RSA are shown by it, and other bits by their number
 abbrev pub IsSizeOfRead : List Bool → Option RsaPublicKey → KeySize → Type 0
 IsSizeOfRead bits (Some key) size = IsModulusOf key size
 IsSizeOfRead bits None size = IsKeptIn (length bits) size
 
--- parameters that were read as this curve are shown by it, and where none was read, how many bits there are
+-- parameters that were read as this curve are shown by it, and other keys by their number of bits
 abbrev pub IsSizeByCurve : ℕ → Option (List ℕ) → KeySize → Type 0
 IsSizeByCurve count (Some arcs) size = IsSizeOnCurve arcs size
 IsSizeByCurve count None size = IsKeptIn count size
@@ -74,7 +74,7 @@ module _ (F : Format (Vec ℕ Global)) where
   abbrev pub AreBitsReadAs : List Bool → Option RsaPublicKey → Type 0
   AreBitsReadAs bits key = AreOctetsReadAs bits key ⊎ ((length bits % 8 ≢ 0) × (key ≡ None))
 
-  -- What is shown of a key of RSA, which these bits are (RFC 3279, 2.3.1).
+  -- The report of a key of RSA with these bits (RFC 3279, 2.3.1).
   pub record IsSizeOfRsa (bits : List Bool) (size : KeySize) : Type 0 where
     pub key : Option RsaPublicKey
     pub are_read_as : AreBitsReadAs bits key
@@ -85,20 +85,20 @@ module _ (F : Format (Vec ℕ Global)) where
   IsCurveIn parameters curve = MatchOption parameters (curve ≡ None)
       (λ octets. AreReadAs F object_identifier (pointwise nat_eq) octets curve)
 
-  -- What is shown of a key on a curve, which its parameters name (RFC 5480, 2.1.1).
+  -- The report of a key on the curve that its parameters name (RFC 5480, 2.1.1).
   pub record IsSizeByParameters (key : SubjectPublicKeyInfo) (size : KeySize) : Type 0 where
     pub curve : Option (List ℕ)
     pub is_in : IsCurveIn key.algorithm.parameters curve
     pub is_shown : IsSizeByCurve (length key.subject_public_key) curve size
 
-  -- What is shown of the size of a key, by its algorithm.
+  -- The report of the size of a key, by its algorithm.
   pub record IsSizeOf (key : SubjectPublicKeyInfo) (size : KeySize) : Type 0 where
     pub of_rsa : key.algorithm.algorithm ≡ rsa → IsSizeOfRsa key.subject_public_key size
     pub on_curve : key.algorithm.algorithm ≡ elliptic → IsSizeByParameters key size
     pub of_another : key.algorithm.algorithm ≢ rsa → key.algorithm.algorithm ≢ elliptic →
         IsSizeByAlgorithm key.algorithm.algorithm (length key.subject_public_key) size
 
-  -- What is shown of a public key (RFC 5280, 4.1.2.7).
+  -- The report of a public key (RFC 5280, 4.1.2.7).
   pub record IsKeyOf (key : SubjectPublicKeyInfo) (shown : ShownKey) : Type 0 where
     pub algorithm : IsObjectOf key.algorithm.algorithm shown.algorithm
     pub size : IsSizeOf key shown.size

@@ -1,4 +1,4 @@
--- Which values a name cannot have, by their octets in DER.
+-- The values that no name can have, by their octets in DER.
 use Rattle.std.specs.Prelude.{◌≡◌, ℕ, Bool, false, true, Option, None, Some, List, [], ◌∷◌, All, nat_lt, take, if◌then◌else◌}
 use Rattle.std.specs.List.{slice_get}
 use Rattle.std.specs.Str.{is_utf8}
@@ -28,8 +28,8 @@ abbrev pub counts_unused_bits : List ℕ → Bool
 counts_unused_bits [] = false
 counts_unused_bits (unused ∷ octets) = nat_lt unused 8
 
--- whether the contents are such as the tag wants them: of a BIT STRING they count its unused bits, of a UTF8String they are UTF-8, and of
--- a UniversalString and a BMPString the numbers of characters
+-- whether the contents are valid for the tag: those of a BIT STRING count its unused bits, those of a UTF8String are UTF-8, and those of
+-- a UniversalString and a BMPString are the numbers of characters
 abbrev pub has_contents_of_tag : Element → Bool
 has_contents_of_tag e =
     if tag_eq e.tag (universal 3) then counts_unused_bits e.contents
@@ -54,26 +54,26 @@ value_fault octets = fault_of (element_at octets)
 abbrev pub HasNoFault : AttributeTypeAndValue → Type 0
 HasNoFault a = value_fault a.value ≡ None
 
--- Of these attributes the first with a value that no name can have is at this place, and this is why.
-pub record IsFirstInPart (attributes : List AttributeTypeAndValue) (place : ℕ) (fault : ValueFault) : Type 0 where
-  pub before : All HasNoFault (take place attributes)
+-- The first of these attributes with a value that no name can have is at this index, with this fault.
+pub record IsFirstInPart (attributes : List AttributeTypeAndValue) (index : ℕ) (fault : ValueFault) : Type 0 where
+  pub before : All HasNoFault (take index attributes)
   pub attribute : AttributeTypeAndValue
-  pub at : slice_get attributes place ≡ Some attribute
+  pub at : slice_get attributes index ≡ Some attribute
   pub is_at_fault : value_fault attribute.value ≡ Some fault
 
--- Of these parts the first with such an attribute is at the place of the fault, and the attribute is the first in it.
+-- The first of these parts with such an attribute is at the index of the fault, and the attribute is the first in it.
 pub record IsFirstFault (parts : List (List AttributeTypeAndValue)) (f : NameFault) : Type 0 where
   pub before : All (All HasNoFault) (take f.part parts)
   pub part : List AttributeTypeAndValue
   pub at : slice_get parts f.part ≡ Some part
   pub first : IsFirstInPart part f.attribute f.fault
 
--- the answer for the attributes of a part: none where each value is one that a name can have, and else the first
+-- the answer for the attributes of a part: none if a name can have each value, and else the first
 abbrev pub AnswersPart : List AttributeTypeAndValue → Option (ℕ × ValueFault) → Type 0
 AnswersPart attributes None = All HasNoFault attributes
 AnswersPart attributes (Some found) = IsFirstInPart attributes found.0 found.1
 
--- the answer for the parts of a name: none if and only if each value is one that a name can have, and else the first
+-- the answer for the parts of a name: none if and only if a name can have each value, and else the first
 abbrev pub AnswersParts : List (List AttributeTypeAndValue) → Option NameFault → Type 0
 AnswersParts parts None = All (All HasNoFault) parts
 AnswersParts parts (Some f) = IsFirstFault parts f

@@ -1,4 +1,4 @@
--- What may be absent.
+-- Values that may be absent.
 use Rattle.std.specs.Prelude.{⊤, None, Option, Some}
 
 -- both are there, and the relation holds of them; or neither is there

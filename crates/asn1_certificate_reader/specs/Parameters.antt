@@ -1,4 +1,4 @@
--- Which parameters of an algorithm are of no value of the type of their tag (RFC 5280, 4.1.1.2).
+-- Parameters of an algorithm that are of no value of the type of their tag (RFC 5280, 4.1.1.2).
 use Rattle.std.specs.Prelude.{◌≡◌, ◌==◌, ◌<◌, ◌^◌, ◌%◌, ◌∷◌, [], ⊤, ℕ, ℤ, Bool, List, MatchOption, None, Option, Some, Vec, codes, false, if◌then◌else◌, length, not, true}
 use Rattle.std.specs.declared.alloc.Global.{Global}
 use Rattle.asn1_certificate_reader.specs.Inside.{AreOfNoValue}
@@ -21,7 +21,7 @@ use Rattle.asn1_types.specs.Kinds.{implicit_type}
 use Rattle.asn1_types.specs.declared.implicit.Implicit.{Implicit}
 use Rattle.asn1_x509.specs.declared.algorithm_identifier.AlgorithmIdentifier.{AlgorithmIdentifier}
 
--- the type that has this tag, of those whose contents are looked into (X.680, 8.4, table 1)
+-- the type with this tag, if its contents are checked (X.680, 8.4, table 1)
 abbrev pub type_of_tag : Tag → Option ParameterType
 type_of_tag tag =
     if tag_eq tag (universal 1) then Some Boolean
@@ -36,7 +36,7 @@ type_of_tag tag =
 
 -- whether an element of the universal class has the form that DER gives its tag: a SEQUENCE and a SET are constructed (X.690, 8.9 and
 -- 8.11), any other is primitive (10.2), and none has the tag of end-of-contents (8.1.5). An EXTERNAL, an EMBEDDED PDV and a CHARACTER
--- STRING, which are constructed too (8.18, 8.17 and 8.24), no algorithm has as parameters.
+-- STRING are constructed too (8.18, 8.17 and 8.24), but no algorithm has them as parameters.
 abbrev pub has_universal_form : Element → Bool
 has_universal_form e = if e.constructed then has e.tag (universal 16 ∷ universal 17 ∷ []) else not (has e.tag (universal 0 ∷ universal 16 ∷ universal 17 ∷ []))
 
@@ -45,8 +45,8 @@ abbrev pub has_own_form : Class → Element → Bool
 has_own_form Universal e = has_universal_form e
 has_own_form _ e = true
 
--- what the element has to be that octets begin with, if they begin with one, and it has not the form that DER gives its tag, or its
--- type is looked into
+-- the type that the first element of octets has to be of, if there is one: an element of DER if it is not in the form that DER gives its
+-- tag, or else the type of its tag, if that is one of those
 abbrev pub type_of_element : Option Element → Option ParameterType
 type_of_element (Some element) = if has_own_form element.tag.class element then type_of_tag element.tag else Some OfDer
 type_of_element None = None
@@ -61,7 +61,7 @@ abbrev pub enumerated_number : Meaning (Implicit (Marker 10) ℤ)
 enumerated_number = implicit_type (universal 10) (λ enumerated. enumerated.value) (under_own_name unbounded_integer_type)
 
 module _ (F : Format (Vec ℕ Global)) where
-  -- The octets are of no value of this type. What has not the form of DER has not, whatever its contents are.
+  -- The octets are of no value of this type. An element that is not in the form of DER is of no value, whatever its contents are.
   abbrev pub AreNotOfType : ParameterType → List ℕ → Type 0
   AreNotOfType Boolean = AreOfNoValue F (without_constraints (scalar_type (universal 1) unconstrained (Some (codes "BOOLEAN")) boolean))
   AreNotOfType Integer = AreOfNoValue F (under_own_name unbounded_integer_type)

@@ -1,4 +1,4 @@
--- What is shown of a certificate.
+-- The report of a certificate.
 use Rattle.std.specs.List.{AllZip}
 use Rattle.std.specs.Prelude.{◌≡◌, ℕ, List, [], Option, None, Some, Vec}
 use Rattle.std.specs.declared.alloc.Global.{Global}
@@ -7,9 +7,9 @@ use Rattle.asn1_certificate_text.specs.declared.report.Report.{Report}
 use Rattle.asn1_certificate_reader.specs.Algorithms.{IsSignatureOf}
 use Rattle.asn1_certificate_reader.specs.ExtensionValues.{IsValueOfKind, kind_of}
 use Rattle.asn1_certificate_reader.specs.Keys.{IsKeyOf}
-use Rattle.asn1_certificate_reader.specs.NamesShown.{IsNameOf}
-use Rattle.asn1_certificate_reader.specs.ObjectsShown.{IsObjectOf}
-use Rattle.asn1_certificate_reader.specs.Simple.{IsOctetNumberOf, IsTimeOf, IsVersionOf}
+use Rattle.asn1_certificate_reader.specs.Names.{IsNameOf}
+use Rattle.asn1_certificate_reader.specs.Objects.{IsObjectOf}
+use Rattle.asn1_certificate_reader.specs.Scalars.{IsOctetNumberOf, IsTimeOf, IsVersionOf}
 use Rattle.asn1_rules.specs.Rules.{Format}
 use Rattle.asn1_x509.specs.declared.certificate.Certificate.{Certificate}
 use Rattle.asn1_x509.specs.declared.extension.Extension.{Extension}
@@ -25,7 +25,7 @@ abbrev pub AreExtensionsOf : Format (Vec ℕ Global) → Option (Vec Extension G
 AreExtensionsOf F None shown = shown ≡ []
 AreExtensionsOf F (Some es) shown = AllZip (IsExtensionOf F) es.items shown
 
--- What is shown is of this certificate (RFC 5280, 4.1), whose names, key and extensions are read by a codec of this format.
+-- This is a report of the certificate (RFC 5280, 4.1), with its names, key and extensions read by a codec of this format.
 pub record IsReportOf (F : Format (Vec ℕ Global)) (c : Certificate) (r : Report) : Type 0 where
   pub version : IsVersionOf c.tbs_certificate.version r.version
   pub serial_number : IsOctetNumberOf c.tbs_certificate.serial_number r.serial_number

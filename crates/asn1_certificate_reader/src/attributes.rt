@@ -1,17 +1,17 @@
 //! Names and their attributes.
 ghost use Rattle.std.specs.List.{AllZip};
 ghost use Rattle.std.specs.Prelude.{IfOk, reverse};
-ghost use Rattle.asn1_certificate_reader.specs.NamesShown.{IsAttributeOf, IsNameOf, IsPartOf, IsValueOf};
+ghost use Rattle.asn1_certificate_reader.specs.Names.{IsAttributeOf, IsNameOf, IsPartOf, IsValueOf};
 
 use crate::name_strings::{UniversalOctets, characters_of};
-use crate::objects::named;
+use crate::objects::object_of;
 use asn1_certificate_text::{Attribute, AttributeValue, NamePart, ShownName};
 use asn1_rules::Rules;
 use asn1_values::{Ia5String, NumericString};
 use asn1_x509::{AttributeTypeAndValue, DirectoryString, Name, RelativeDistinguishedName};
 use std::alloc::{AllocError, Global};
 
-/// A name by its parts, of which the last comes first.
+/// A name by its parts, the last part first.
 pub(crate) fn name_of<R: Rules<Output = Vec<u8>>>(
     rules: &R,
     alloc: Global,
@@ -91,12 +91,12 @@ fn attribute_of<R: Rules<Output = Vec<u8>>>(
     ensures { IfOk result (IsAttributeOf R.format attribute.now) }
 {
     Ok(Attribute {
-        kind: named(alloc, &attribute.attribute)?,
+        kind: object_of(alloc, &attribute.attribute)?,
         value: value_of(rules, alloc, attribute.value.as_bytes())?,
     })
 }
 
-/// A value: its characters where it is a string whose characters are known, and else its octets.
+/// A value: its characters if it is a string of one of four types, and else its octets.
 fn value_of<R: Rules<Output = Vec<u8>>>(
     rules: &R,
     alloc: Global,

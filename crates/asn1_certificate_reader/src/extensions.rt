@@ -4,7 +4,7 @@ ghost use Rattle.std.specs.Prelude.{◌≡◌, IfOk};
 ghost use Rattle.asn1_certificate_reader.specs.ExtensionValues.{IsValueOfKind, kind_of};
 ghost use Rattle.asn1_certificate_reader.specs.Reports.{IsExtensionOf};
 
-use crate::objects::named;
+use crate::objects::object_of;
 use crate::shown_value::shown_as;
 use asn1_certificate_text::{ExtensionValue, ShownExtension};
 use asn1_rules::Rules;
@@ -15,7 +15,7 @@ use asn1_x509_extensions::{
 };
 use std::alloc::{AllocError, Global};
 
-/// What is shown of extensions.
+/// The report of extensions.
 pub(crate) fn extensions_of<R: Rules<Output = Vec<u8>>>(
     rules: &R,
     alloc: Global,
@@ -40,7 +40,7 @@ fn extension_of<R: Rules<Output = Vec<u8>>>(
 {
     let kind = kind_of(extension.extension_id.as_slice());
     Ok(ShownExtension {
-        kind: named(alloc, &extension.extension_id)?,
+        kind: object_of(alloc, &extension.extension_id)?,
         is_critical: extension.critical,
         value: value_of(rules, alloc, kind, extension.value.as_slice())?,
     })
@@ -81,8 +81,7 @@ fn kind_of(arcs: &[u32]) -> ValueKind
     }
 }
 
-/// A value of this kind. Where the octets are not of the type of the kind they are shown as they are, and so where the kind has no type
-/// here.
+/// The report of a value of this kind: its octets, if they are not of the type of the kind or the kind has no type here.
 fn value_of<R: Rules<Output = Vec<u8>>>(
     rules: &R,
     alloc: Global,

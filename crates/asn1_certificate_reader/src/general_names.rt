@@ -1,18 +1,18 @@
 //! Names of the nine kinds.
 ghost use Rattle.std.specs.Prelude.{IfOk};
-ghost use Rattle.asn1_certificate_reader.specs.GeneralNamesShown.{AreCharactersOf, AreGeneralNamesOf, IsGeneralNameOf};
+ghost use Rattle.asn1_certificate_reader.specs.GeneralNames.{AreCharactersOf, AreGeneralNamesOf, IsGeneralNameOf};
 ghost use Rattle.asn1_certificate_reader.specs.Options.{AreBothOrNone};
 
 use crate::attributes::name_of;
 use crate::characters::{ascii_characters, directory_characters};
-use crate::objects::named;
+use crate::objects::object_of;
 use asn1_certificate_text::ShownGeneralName;
 use asn1_rules::Rules;
 use asn1_x509::DirectoryString;
 use asn1_x509_extensions::GeneralName;
 use std::alloc::{AllocError, Global};
 
-/// What is shown of names.
+/// The report of names.
 pub(crate) fn general_names_of<R: Rules<Output = Vec<u8>>>(
     rules: &R,
     alloc: Global,
@@ -27,7 +27,7 @@ pub(crate) fn general_names_of<R: Rules<Output = Vec<u8>>>(
     Ok(shown)
 }
 
-/// What is shown of a name.
+/// The report of a name.
 fn general_name_of<R: Rules<Output = Vec<u8>>>(
     rules: &R,
     alloc: Global,
@@ -37,7 +37,7 @@ fn general_name_of<R: Rules<Output = Vec<u8>>>(
 {
     match name {
         GeneralName::Other(other) => Ok(ShownGeneralName::Other(
-            named(alloc, &other.type_id)?,
+            object_of(alloc, &other.type_id)?,
             Vec::from_slice(alloc, other.value.as_bytes())?,
         )),
         GeneralName::Rfc822(mailbox) => {
@@ -56,13 +56,13 @@ fn general_name_of<R: Rules<Output = Vec<u8>>>(
         GeneralName::IpAddress(octets) => {
             Ok(ShownGeneralName::Address(Vec::from_slice(alloc, octets.as_slice())?))
         }
-        GeneralName::RegisteredId(object) => Ok(ShownGeneralName::Registered(named(
+        GeneralName::RegisteredId(object) => Ok(ShownGeneralName::Registered(object_of(
             alloc, object,
         )?)),
     }
 }
 
-/// The characters of who named a party, if that is said.
+/// The characters of the assigner of a name, if there is one.
 fn characters_of_assigner(
     alloc: Global,
     assigner: &Option<DirectoryString>,

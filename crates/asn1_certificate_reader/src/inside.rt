@@ -1,4 +1,4 @@
-//! What is inside open types and octets.
+//! The values inside open types and octets.
 ghost use Rattle.std.specs.Prelude.{IfOk};
 ghost use Rattle.asn1_certificate_reader.specs.Inside.{AreReadAs};
 ghost use Rattle.asn1_model.specs.Meaning.{IsWellTagged};
@@ -7,11 +7,11 @@ use asn1_dec::{Decode, DecodeError};
 use asn1_rules::Rules;
 use std::alloc::{AllocError, Global};
 
-/// How deep certificates may be nested. The deepest that RFC 5280 allows are less than half as deep, unless a name in a name says
-/// more.
+/// The greatest depth of a certificate. The deepest ones that RFC 5280 allows are less than half as deep, unless a name is nested in a
+/// name.
 pub const MAX_DEPTH: usize = 64;
 
-/// The value that is all of these octets, where they are read as one. So they are where they are those of a value of the type.
+/// The value that these octets are read as, if they are read as one. Octets of a value of the type are.
 pub fn read_inside<R: Rules<Output = Vec<u8>>, T: Decode>(
     rules: &R,
     alloc: Global,

@@ -5,8 +5,8 @@ ghost use Rattle.asn1_certificate_reader.specs.Keys.{AreBitsReadAs, IsCurveIn, I
 ghost use Rattle.asn1_items.specs.Bits.{bits_of_octets};
 
 use crate::inside::read_inside;
-use crate::objects::named;
-use crate::simple::copy_of;
+use crate::objects::object_of;
+use crate::scalars::copy_of;
 use asn1_certificate_text::{KeySize, ShownKey, Signature, bit_length, curve_of};
 use asn1_items::Content;
 use asn1_rules::Rules;
@@ -32,7 +32,7 @@ pub(crate) fn key_of<R: Rules<Output = Vec<u8>>>(
     ensures { IfOk result (IsKeyOf R.format key.now) }
 {
     Ok(ShownKey {
-        algorithm: named(alloc, &key.algorithm.algorithm)?,
+        algorithm: object_of(alloc, &key.algorithm.algorithm)?,
         size: size_of(rules, alloc, key)?,
     })
 }
@@ -55,7 +55,7 @@ fn size_of<R: Rules<Output = Vec<u8>>>(
     Ok(size_by_algorithm(arcs, key.subject_public_key.len()))
 }
 
-/// The size of a key of the algorithm of these arcs, which is kept in this many bits.
+/// The size of a key of the algorithm of these arcs, with this many bits.
 fn size_by_algorithm(arcs: &[u32], count: usize) -> KeySize
     ensures { IsSizeByAlgorithm arcs.now count result }
 {
@@ -94,7 +94,7 @@ fn read_key<R: Rules<Output = Vec<u8>>>(
     }
 }
 
-/// How many bits the modulus of a key has, and its exponent.
+/// The number of bits of the modulus of a key, and its exponent.
 fn modulus_of(alloc: Global, key: &RsaPublicKey) -> Result<KeySize, AllocError>
     ensures { IfOk result (IsModulusOf key.now) }
 {
@@ -103,7 +103,7 @@ fn modulus_of(alloc: Global, key: &RsaPublicKey) -> Result<KeySize, AllocError>
     Ok(KeySize::Modulus(bit_length(modulus.as_slice()), exponent))
 }
 
-/// The octets of bits, where these are whole octets.
+/// The octets of bits, if these are whole octets.
 #[tactic(auto, using(crate::proofs::WholeOctets::no_bits))]
 fn octets_of_bits(alloc: Global, bits: &[bool]) -> Result<Option<Vec<u8>>, AllocError>
     ensures octets { IfOk result (λ whole.
@@ -150,17 +150,17 @@ fn curve_in<R: Rules<Output = Vec<u8>>>(
     }
 }
 
-/// The name of a curve and the size of a key on it, or the object where it has no name here.
+/// The name of a curve and the size of a key on it, or the object if it has no name here.
 fn size_on_curve(alloc: Global, curve: &ObjectIdentifier) -> Result<KeySize, AllocError>
     ensures { IfOk result (IsSizeOnCurve curve.now) }
 {
     match curve_of(curve.as_slice()) {
         Some(known) => Ok(KeySize::Curve(known.name, known.bits)),
-        None => Ok(KeySize::UnnamedCurve(named(alloc, curve)?)),
+        None => Ok(KeySize::UnnamedCurve(object_of(alloc, curve)?)),
     }
 }
 
-/// The algorithm of a signature, by what is said beside it and in what is signed.
+/// The algorithm of a signature, as the certificate has it beside the signature and inside the signed part.
 pub(crate) fn signature_of(
     alloc: Global,
     beside: &AlgorithmIdentifier,
@@ -168,7 +168,7 @@ pub(crate) fn signature_of(
 ) -> Result<Signature, AllocError>
     ensures { IfOk result (IsSignatureOf beside.now inside.now) }
 {
-    let algorithm = named(alloc, &beside.algorithm)?;
+    let algorithm = object_of(alloc, &beside.algorithm)?;
     if beside == inside {
         return Ok(Signature {
             algorithm,
@@ -177,6 +177,6 @@ pub(crate) fn signature_of(
     }
     Ok(Signature {
         algorithm,
-        inside: Some(named(alloc, &inside.algorithm)?),
+        inside: Some(object_of(alloc, &inside.algorithm)?),
     })
 }

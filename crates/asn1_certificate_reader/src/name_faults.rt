@@ -11,7 +11,7 @@ use asn1_x509::{AttributeTypeAndValue, Name, RelativeDistinguishedName};
 use std::str;
 use thiserror::Error;
 
-/// Why a value is none that a name can have.
+/// The reason for which no name can have a value.
 #[derive(Clone, Copy, Debug, Drop, PartialEq, Eq, Error)]
 pub enum ValueFault {
     /// Its tag is that of no kind of string, of no bits and of no SEQUENCE.
@@ -22,7 +22,7 @@ pub enum ValueFault {
     BadString,
 }
 
-/// Which value of a name it cannot have, and why.
+/// The value that no name can have, and the reason.
 #[derive(Clone, Copy, Debug, Drop, PartialEq, Eq, Error)]
 #[error("the value of attribute {attribute} in part {part} {fault}")]
 pub struct NameFault {
@@ -30,7 +30,7 @@ pub struct NameFault {
     pub part: usize,
     /// The attribute of the part, from 0.
     pub attribute: usize,
-    /// Why it is none.
+    /// The reason.
     pub fault: ValueFault,
 }
 
@@ -46,10 +46,10 @@ const PRIMITIVE_TAGS: [Tag; 8] = [
     Tag::BMP_STRING,
 ];
 
-/// The first value in a name in DER that it cannot have, if there is one. A name has values of seven kinds of string: those of a
-/// DirectoryString (RFC 5280, 4.1.2.4), an IA5String and a NumericString; and bits and SEQUENCEs, which a unique identifier and a
-/// postal address are. Which characters a kind of string may have is not asked, since certificates are in use that do not keep to it;
-/// but those of a UTF8String, a UniversalString and a BMPString have to be characters.
+/// The first value in a name in DER that no name can have, if there is one. A name has values of seven kinds of string: those of a
+/// DirectoryString (RFC 5280, 4.1.2.4), an IA5String and a NumericString; and bits and SEQUENCEs, for unique identifiers and postal
+/// addresses. The alphabet of a kind of string is not checked, since certificates in use break it; but the contents of a
+/// UTF8String, a UniversalString and a BMPString have to be characters.
 pub fn first_name_fault(name: &Name) -> Option<NameFault>
     ensures { AnswersName name.now result }
 {
@@ -58,7 +58,7 @@ pub fn first_name_fault(name: &Name) -> Option<NameFault>
     }
 }
 
-/// The same in the parts of a name.
+/// The first such value in the parts of a name.
 fn first_in_parts(parts: &[RelativeDistinguishedName]) -> Option<NameFault>
     ensures { AnswersParts parts.now result }
 {
@@ -74,19 +74,19 @@ fn first_in_parts(parts: &[RelativeDistinguishedName]) -> Option<NameFault>
     None
 }
 
-/// The same in the attributes of a part, with the place of the attribute.
+/// The first such value in the attributes of a part, with the index of the attribute.
 fn first_in_part(attributes: &[AttributeTypeAndValue]) -> Option<(usize, ValueFault)>
     ensures { AnswersPart attributes.now result }
 {
-    for (place, attribute) in attributes.iter().enumerate() {
+    for (index, attribute) in attributes.iter().enumerate() {
         if let Some(fault) = value_fault(attribute.value.as_bytes()) {
-            return Some((place, fault));
+            return Some((index, fault));
         }
     }
     None
 }
 
-/// Why the octets of a value are none of a name, if they are none.
+/// The fault of the octets of a value, if no name can have them.
 #[tactic(auto, using(crate::proofs::NameFaults::no_element))]
 fn value_fault(octets: &[u8]) -> Option<ValueFault>
     ensures { result ≡ value_fault octets.now }
@@ -97,7 +97,7 @@ fn value_fault(octets: &[u8]) -> Option<ValueFault>
     }
 }
 
-/// The same of an element.
+/// The fault of an element, if no name can have it.
 fn element_fault(element: Element<'_>) -> Option<ValueFault>
     ensures { result ≡ element_fault (element_of element.entry) }
 {
@@ -120,8 +120,7 @@ fn has_tag_of_name(element: Element<'_>) -> bool
     PRIMITIVE_TAGS.contains(&element.tag)
 }
 
-/// Whether the contents are such as the tag wants them, where it is that of a BIT STRING, a UTF8String, a UniversalString or a
-/// BMPString.
+/// Whether the contents are valid for the tag, if it is that of a BIT STRING, a UTF8String, a UniversalString or a BMPString.
 fn has_contents_of_tag(element: Element<'_>) -> bool
     ensures { result ≡ has_contents_of_tag (element_of element.entry) }
 {

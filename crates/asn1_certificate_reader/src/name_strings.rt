@@ -3,7 +3,7 @@ ghost use Rattle.std.specs.Option.{option_map};
 ghost use Rattle.std.specs.Prelude.{◌≡◌, IfOk, Some};
 ghost use Rattle.std.specs.Str.{chars};
 ghost use Rattle.asn1_certificate_reader.specs.Characters.{directory_characters};
-ghost use Rattle.asn1_certificate_reader.specs.NamesShown.{AreCharactersRead};
+ghost use Rattle.asn1_certificate_reader.specs.Names.{AreCharactersRead};
 ghost use Rattle.asn1_certificate_reader.specs.Units.{universal_characters};
 
 use crate::characters::{ascii_characters, directory_characters, text_characters};
@@ -17,8 +17,8 @@ use asn1_values::{Ia5String, NumericString, OctetString};
 use asn1_x509::{DirectoryString, directory_string_is_well_tagged};
 use std::alloc::{AllocError, Global};
 
-/// The octets under the tag of a UniversalString, which are four for each character in DER. The layer's own UniversalString is a text in
-/// UTF-8 under that tag.
+/// The octets under the tag of a UniversalString, four for each character in DER. The UniversalString of `asn1_schema` is a text in UTF-8
+/// under that tag.
 pub(crate) type UniversalOctets = Implicit<UNIVERSAL_STRING, OctetString>;
 
 /// A type of strings, with their characters.

@@ -1,15 +1,15 @@
 //! Objects with their names.
 ghost use Rattle.std.specs.List.{AllZip};
 ghost use Rattle.std.specs.Prelude.{Contains, IfOk, MatchOption};
-ghost use Rattle.asn1_certificate_reader.specs.ObjectsShown.{IsObjectOf};
+ghost use Rattle.asn1_certificate_reader.specs.Objects.{IsObjectOf};
 ghost use Rattle.asn1_certificate_text.specs.Registry.{NamesObject, known_objects, object_names};
 
 use asn1_certificate_text::{Object, object_named};
 use asn1_values::ObjectIdentifier;
 use std::alloc::{AllocError, Global};
 
-/// An object with the name that it has here.
-pub(crate) fn named(alloc: Global, object: &ObjectIdentifier) -> Result<Object, AllocError>
+/// An object with its name, if it has one here.
+pub(crate) fn object_of(alloc: Global, object: &ObjectIdentifier) -> Result<Object, AllocError>
     ensures { IfOk result (IsObjectOf object.now) }
 {
     Ok(Object {
@@ -29,8 +29,8 @@ fn known_name(arcs: &[u32]) -> Option<&'static str>
     }
 }
 
-/// Objects with the names that they have here.
-pub(crate) fn all_named(
+/// Objects with their names.
+pub(crate) fn objects_of(
     alloc: Global,
     objects: &[ObjectIdentifier],
 ) -> Result<Vec<Object>, AllocError>
@@ -38,7 +38,7 @@ pub(crate) fn all_named(
 {
     let mut shown = Vec::new(alloc);
     for object in objects {
-        shown.push(named(alloc, object)?)?;
+        shown.push(object_of(alloc, object)?)?;
     }
     Ok(shown)
 }

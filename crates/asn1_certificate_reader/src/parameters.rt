@@ -17,7 +17,7 @@ use asn1_x509::AlgorithmIdentifier;
 use std::alloc::{AllocError, Global};
 use thiserror::Error;
 
-/// What parameters of an algorithm have to be, by their tag.
+/// The type that parameters of an algorithm have to be of, by their tag.
 #[derive(Clone, Copy, Debug, Drop, PartialEq, Eq, Error)]
 pub enum ParameterType {
     /// BOOLEAN
@@ -56,9 +56,9 @@ const CONSTRUCTED_TAGS: [Tag; 2] = [Tag::SEQUENCE, Tag::SET];
 /// The tags of the universal class that primitive parameters cannot have.
 const NO_PRIMITIVE_TAGS: [Tag; 3] = [Tag::EOC, Tag::SEQUENCE, Tag::SET];
 
-/// What the parameters of an algorithm have to be by their tag, in DER, where they are not. Eight types are looked into; of another tag
-/// of the universal class the form is looked at alone, and parameters of any other class can be anything. An algorithm may have none.
-/// It fails only if memory runs out.
+/// The type that the parameters of an algorithm have to be of by their tag, in DER, if they are not. The contents are checked for eight
+/// types, for another tag of the universal class the form alone, and parameters of any other class can be anything. An algorithm
+/// may have none. The call fails only if memory runs out.
 pub fn bad_parameters<R: Rules<Output = Vec<u8>>>(
     rules: &R,
     alloc: Global,
@@ -90,8 +90,8 @@ fn bad_type<R: Rules<Output = Vec<u8>>>(
     Ok(None)
 }
 
-/// What the element has to be that octets begin with, if they begin with one, and it is not of the form that DER gives its tag, or its
-/// type is looked into.
+/// The type that the first element of octets has to be of, if there is one: an element of DER if it is not in the form that DER gives
+/// its tag, or else the type of its tag, if its contents are checked.
 fn type_of_octets(octets: &[u8]) -> Option<ParameterType>
     ensures { IfSome result (λ kind. type_of_element (element_at octets.now) ≡ Some kind) }
 {
@@ -107,7 +107,7 @@ fn type_of_octets(octets: &[u8]) -> Option<ParameterType>
     }
 }
 
-/// Whether an element has the form that DER gives its tag, as far as the tag tells it.
+/// Whether an element is in the form that DER gives its tag, if the tag decides it.
 fn has_own_form(element: Element<'_>) -> bool
     ensures { result ≡ has_own_form element.entry.tag.class (element_of element.entry) }
 {
@@ -127,7 +127,7 @@ fn has_universal_form(element: Element<'_>) -> bool
     !NO_PRIMITIVE_TAGS.contains(&element.tag)
 }
 
-/// The type that has this tag, if its contents octets are looked into.
+/// The type with this tag, if its contents octets are checked.
 fn type_of_tag(tag: Tag) -> Option<ParameterType>
     ensures { result ≡ type_of_tag tag }
 {

@@ -1,17 +1,17 @@
-//! What is shown of a certificate.
+//! The report of a certificate.
 ghost use Rattle.std.specs.Prelude.{IfOk};
 ghost use Rattle.asn1_certificate_reader.specs.Reports.{AreExtensionsOf, IsReportOf};
 
 use crate::attributes::name_of;
 use crate::extensions::extensions_of;
 use crate::keys::{key_of, signature_of};
-use crate::simple::{octet_number, time_of, version_of};
+use crate::scalars::{octet_number, time_of, version_of};
 use asn1_certificate_text::{Report, ShownExtension};
 use asn1_rules::Rules;
 use asn1_x509::{Certificate, Extension};
 use std::alloc::{AllocError, Global};
 
-/// What is shown of a certificate. It fails only if memory runs out.
+/// The report of a certificate. The call fails only if memory runs out.
 pub fn report_of<R: Rules<Output = Vec<u8>>>(
     rules: &R,
     alloc: Global,
@@ -33,7 +33,7 @@ pub fn report_of<R: Rules<Output = Vec<u8>>>(
     })
 }
 
-/// What is shown of extensions, of which there may be none.
+/// The report of extensions, if there are any.
 fn all_extensions<R: Rules<Output = Vec<u8>>>(
     rules: &R,
     alloc: Global,

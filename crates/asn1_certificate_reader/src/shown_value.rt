@@ -1,13 +1,13 @@
-//! The types of the values of extensions, and what is shown of their values.
+//! The types of the values of extensions, and the reports of their values.
 ghost use Rattle.std.specs.Prelude.{◌≡◌, IfOk};
 ghost use Rattle.asn1_certificate_reader.specs.ExtensionValues.{AreIssuers, AreNames, ArePurposes, AreUsages, IsAuthority, IsAuthorityKey, IsKeyIdentifier, IsKeyOfAuthority, IsShownAs, path_length_of};
 ghost use Rattle.asn1_certificate_reader.specs.Options.{AreBothOrNone};
-ghost use Rattle.asn1_certificate_reader.specs.Simple.{IsOctetNumberOf};
+ghost use Rattle.asn1_certificate_reader.specs.Scalars.{IsOctetNumberOf};
 
 use crate::general_names::general_names_of;
 use crate::inside::read_inside;
-use crate::objects::all_named;
-use crate::simple::{copy_of, octet_number};
+use crate::objects::objects_of;
+use crate::scalars::{copy_of, octet_number};
 use asn1_certificate_text::{
     Authority, AuthorityKey, ExtensionValue, OctetNumber, ShownGeneralName,
 };
@@ -21,7 +21,7 @@ use asn1_x509_extensions::{
 };
 use std::alloc::{AllocError, Global};
 
-/// A type of values of extensions, of which something is shown. An extension's type may be a common one by another name: an
+/// A type of values of extensions, with their reports. An extension's type may be a common one by another name: an
 /// OCTET STRING is a key identifier here, a BIT STRING a key usage, and a list of objects an extended key usage.
 pub(crate) trait ShownValue: Decode {
     ghost use Rattle.std.specs.Prelude.{ℕ, Vec};
@@ -30,10 +30,10 @@ pub(crate) trait ShownValue: Decode {
     ghost use Rattle.asn1_model.specs.Meaning.{IsWellTagged};
     ghost use Rattle.asn1_rules.specs.Rules.{Format};
 
-    // What is shown of a value, by a codec of this format.
+    // The relation of a value to its report, by a codec of this format.
     ghost IsShown: { Format (Vec ℕ Global) → Self → ExtensionValue → Type 0 };
 
-    /// What is shown of a value.
+    /// The report of a value.
     fn shown<R: Rules<Output = Vec<u8>>>(
         &self,
         rules: &R,
@@ -46,7 +46,7 @@ pub(crate) trait ShownValue: Decode {
         ensures { IsWellTagged Self.meaning };
 }
 
-/// What is shown of octets by a type: of the value that they are read as, or else the octets.
+/// The report of octets by a type: that of the value that they are read as, or else the octets.
 pub(crate) fn shown_as<R: Rules<Output = Vec<u8>>, T: ShownValue>(
     rules: &R,
     alloc: Global,
@@ -62,7 +62,7 @@ pub(crate) fn shown_as<R: Rules<Output = Vec<u8>>, T: ShownValue>(
     }
 }
 
-/// Which key a certificate is for.
+/// The identifier of the key of a certificate.
 impl ShownValue for OctetString {
     ghost IsShown = { λ _. IsKeyIdentifier };
 
@@ -79,7 +79,7 @@ impl ShownValue for OctetString {
     }
 }
 
-/// What a key may be used for, by bits.
+/// The usages of a key, as bits.
 impl ShownValue for BitString {
     ghost IsShown = { λ _. AreUsages };
 
@@ -114,7 +114,7 @@ impl ShownValue for Vec<GeneralName> {
     }
 }
 
-/// What a key may be used for, by objects.
+/// The purposes of a key, as objects.
 impl ShownValue for Vec<ObjectIdentifier> {
     ghost IsShown = { λ _ purposes. ArePurposes purposes.items };
 
@@ -123,7 +123,7 @@ impl ShownValue for Vec<ObjectIdentifier> {
         _rules: &R,
         alloc: Global,
     ) -> Result<ExtensionValue, AllocError> {
-        let purposes = all_named(alloc, self.as_slice())?;
+        let purposes = objects_of(alloc, self.as_slice())?;
         Ok(ExtensionValue::Purposes(purposes))
     }
 
@@ -152,7 +152,7 @@ impl ShownValue for BasicConstraints {
     }
 }
 
-/// How many certificates may be between, if that is said.
+/// The greatest number of certificates between, if there is a limit.
 fn path_length_of(alloc: Global, length: &Option<PathLength>) -> Result<Option<Integer>, AllocError>
     ensures { IfOk result (λ shown. shown ≡ path_length_of length.now) }
 {
@@ -162,7 +162,7 @@ fn path_length_of(alloc: Global, length: &Option<PathLength>) -> Result<Option<I
     }
 }
 
-/// Which key of an authority a certificate is signed with.
+/// The key of the authority that signed a certificate.
 impl ShownValue for AuthorityKeyIdentifier {
     ghost IsShown = { IsAuthorityKey };
 
@@ -222,7 +222,7 @@ fn serial_number_of(
     }
 }
 
-/// The names of an issuer, of which there may be none.
+/// The names of an issuer, if there are any.
 fn issuer_of<R: Rules<Output = Vec<u8>>>(
     rules: &R,
     alloc: Global,

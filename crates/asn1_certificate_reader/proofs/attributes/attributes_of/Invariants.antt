@@ -1,6 +1,6 @@
 use Rattle.std.proofs.Common.{take}
 use Rattle.std.specs.List.{AllZip}
-use Rattle.asn1_certificate_reader.specs.NamesShown.{IsAttributeOf}
+use Rattle.asn1_certificate_reader.specs.Names.{IsAttributeOf}
 use Rattle.asn1_certificate_reader.proofs.attributes.attributes_of.Given as goal
 
 abbrev pub invariant-loop-attribute : goal.invariant-loop-attribute

@@ -1,6 +1,6 @@
 use Rattle.std.proofs.Common.{reverse, subst, sym}
 use Rattle.std.specs.List.{AllZip}
-use Rattle.asn1_certificate_reader.specs.NamesShown.{IsPartOf}
+use Rattle.asn1_certificate_reader.specs.Names.{IsPartOf}
 use Rattle.asn1_certificate_reader.proofs.OneByOne.{reversed}
 use Rattle.asn1_certificate_reader.proofs.attributes.name_of_parts.Goals as goal
 

@@ -1,6 +1,6 @@
 use Rattle.std.proofs.Common.{[], subst, sym}
 use Rattle.std.specs.List.{AllZip}
-use Rattle.asn1_certificate_reader.specs.NamesShown.{IsPartOf}
+use Rattle.asn1_certificate_reader.specs.Names.{IsPartOf}
 use Rattle.asn1_certificate_reader.proofs.OneByOne.{all_seen, one_more}
 use Rattle.asn1_certificate_reader.proofs.attributes.parts_of.Goals as goal
 

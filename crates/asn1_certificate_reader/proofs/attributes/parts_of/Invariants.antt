@@ -1,6 +1,6 @@
 use Rattle.std.proofs.Common.{take}
 use Rattle.std.specs.List.{AllZip}
-use Rattle.asn1_certificate_reader.specs.NamesShown.{IsPartOf}
+use Rattle.asn1_certificate_reader.specs.Names.{IsPartOf}
 use Rattle.asn1_certificate_reader.proofs.attributes.parts_of.Given as goal
 
 abbrev pub invariant-loop-part : goal.invariant-loop-part

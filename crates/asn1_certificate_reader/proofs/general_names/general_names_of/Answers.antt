@@ -1,5 +1,5 @@
 use Rattle.std.proofs.Common.{[], subst, sym}
-use Rattle.asn1_certificate_reader.specs.GeneralNamesShown.{AreGeneralNamesOf, IsGeneralNameOf}
+use Rattle.asn1_certificate_reader.specs.GeneralNames.{AreGeneralNamesOf, IsGeneralNameOf}
 use Rattle.asn1_certificate_reader.proofs.OneByOne.{all_seen, one_more}
 use Rattle.asn1_certificate_reader.proofs.general_names.general_names_of.Goals as goal
 

@@ -33,7 +33,7 @@ SaysInUtc text m = IsInCalendar m × (IsOfUtcTime m × (text ≡ utc_time m))
 abbrev pub SaysInGeneral : List ℕ → SomeMoment → Type 0
 SaysInGeneral text m = IsInCalendar m × (text ≡ generalized_time m)
 
--- the moment that a text says, or the text itself where it says none
+-- the moment of a text, or the text itself if it is that of no moment
 abbrev pub IsTextOfTime : (List ℕ → SomeMoment → Type 0) → List ℕ → ShownTime → Type 0
 IsTextOfTime Says text (Moment m) = Says text m
 IsTextOfTime Says text (Text said) = (said.items ≡ chars text) × ((m : SomeMoment) → ¬ Says text m)

@@ -1,4 +1,4 @@
--- What is shown of objects.
+-- The report of objects.
 use Rattle.std.specs.Prelude.{◌≡◌, ℕ, Contains, List, MatchOption}
 use Rattle.asn1_certificate_text.specs.declared.object.Object.{Object}
 use Rattle.asn1_certificate_text.specs.Registry.{NamesObject, known_objects, object_names}

@@ -1,11 +1,11 @@
--- What is shown of names of the nine kinds (RFC 5280, 4.2.1.6).
+-- The report of names of the nine kinds (RFC 5280, 4.2.1.6).
 use Rattle.std.specs.List.{AllZip}
 use Rattle.std.specs.Prelude.{◌≡◌, ℕ, List, Vec, length}
 use Rattle.std.specs.Str.{chars}
 use Rattle.std.specs.declared.alloc.Global.{Global}
 use Rattle.asn1_certificate_reader.specs.Characters.{directory_characters}
-use Rattle.asn1_certificate_reader.specs.NamesShown.{IsNameOf}
-use Rattle.asn1_certificate_reader.specs.ObjectsShown.{IsObjectOf}
+use Rattle.asn1_certificate_reader.specs.Names.{IsNameOf}
+use Rattle.asn1_certificate_reader.specs.Objects.{IsObjectOf}
 use Rattle.asn1_certificate_reader.specs.Options.{AreBothOrNone}
 use Rattle.asn1_certificate_text.specs.declared.general_name.ShownGeneralName.{ShownGeneralName}
 use Rattle.asn1_certificate_text.specs.declared.general_name.ShownGeneralName.TheVariants as own

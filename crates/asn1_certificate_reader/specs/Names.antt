@@ -1,4 +1,4 @@
--- What is shown of names: their parts, their attributes, and the values of these.
+-- The report of names: their parts, their attributes, and the values of these.
 use Rattle.std.specs.Cmp.Lexicographic.{pointwise}
 use Rattle.std.specs.List.{AllZip}
 use Rattle.std.specs.Option.{option_and_then}
@@ -7,7 +7,7 @@ use Rattle.std.specs.Str.{chars}
 use Rattle.std.specs.declared.alloc.Global.{Global}
 use Rattle.asn1_certificate_reader.specs.Characters.{directory_characters}
 use Rattle.asn1_certificate_reader.specs.Inside.{AreReadAs}
-use Rattle.asn1_certificate_reader.specs.ObjectsShown.{IsObjectOf}
+use Rattle.asn1_certificate_reader.specs.Objects.{IsObjectOf}
 use Rattle.asn1_certificate_reader.specs.Strings.{ia5_string, numeric_string, same_octets, universal_octets}
 use Rattle.asn1_certificate_reader.specs.Units.{universal_characters}
 use Rattle.asn1_certificate_text.specs.declared.name.Attribute.{Attribute}
@@ -34,14 +34,14 @@ IsOctetsOf octets (Text shown) = ⊥
 IsOctetsOf octets (Octets shown) = shown.items ≡ octets
 
 module _ (F : Format (Vec ℕ Global)) where
-  -- What octets are read as by a type of strings, by its meaning and its equality, and the characters of that, where it has some.
+  -- The string that octets are read as, by the meaning and the equality of a type, and its characters, if it has some.
   pub record AreCharactersRead {V : Type 0} (m : Meaning V) (eq : V → V → Bool) (text : V → Option (List ℕ))
       (octets : List ℕ) (found : Option (List ℕ)) : Type 0 where
     pub read : Option V
     pub are_read_as : AreReadAs F m eq octets read
     pub are : found ≡ option_and_then text read
 
-  -- What is shown of octets by a type of strings: the characters that are read by it, and else what this says.
+  -- The report of octets by a type of strings: the characters that are read by it, or else `IsElse`.
   pub record IsShownBy {V : Type 0} (m : Meaning V) (eq : V → V → Bool) (text : V → Option (List ℕ)) (IsElse : AttributeValue → Type 0)
       (octets : List ℕ) (shown : AttributeValue) : Type 0 where
     pub found : Option (List ℕ)
@@ -60,7 +60,7 @@ module _ (F : Format (Vec ℕ Global)) where
   abbrev pub IsDirectoryOrElse : List ℕ → AttributeValue → Type 0
   IsDirectoryOrElse octets = IsShownBy directory_strings.meaning directory_equality.eq (λ text. Some (directory_characters text)) (IsAsciiOrElse octets) octets
 
-  -- What is shown of these octets, the value of an attribute: the characters of a UniversalString of four octets each, and else those
+  -- The report of these octets, the value of an attribute: the characters of a UniversalString of four octets each, and else those
   -- of another string, and else the octets.
   abbrev pub IsValueOf : List ℕ → AttributeValue → Type 0
   IsValueOf octets = IsShownBy universal_octets same_octets (λ string. universal_characters string.value) (IsDirectoryOrElse octets) octets

@@ -1,6 +1,6 @@
 //! Versions, numbers and times.
 ghost use Rattle.std.specs.Prelude.{◌≡◌, IfOk};
-ghost use Rattle.asn1_certificate_reader.specs.Simple.{IsOctetNumberOf, IsTextOfTime, IsTimeOf, IsVersionOf, SaysInGeneral, SaysInUtc};
+ghost use Rattle.asn1_certificate_reader.specs.Scalars.{IsOctetNumberOf, IsTextOfTime, IsTimeOf, IsVersionOf, SaysInGeneral, SaysInUtc};
 
 use asn1_certificate_text::{Moment, OctetNumber, ShownTime, Version};
 use asn1_values::{Integer, VisibleString};
@@ -19,7 +19,7 @@ pub(crate) fn version_of(alloc: Global, number: &Integer) -> Result<Version, All
     }
 }
 
-/// A number again.
+/// A copy of a number.
 pub(crate) fn copy_of(alloc: Global, number: &Integer) -> Result<Integer, AllocError>
     ensures { IfOk result (λ copy. copy ≡ number.now) }
 {
@@ -38,7 +38,7 @@ pub(crate) fn octet_number(alloc: Global, number: &Integer) -> Result<OctetNumbe
     })
 }
 
-/// A time as a moment, or its own text where RFC 5280 has no such time.
+/// A time as a moment, or its own text if it is no time of RFC 5280.
 pub(crate) fn time_of(alloc: Global, time: &Time) -> Result<ShownTime, AllocError>
     ensures { IfOk result (IsTimeOf time.now) }
 {
