@@ -1,4 +1,4 @@
-//! What values of the types are to every codec.
+//! The records of values of the types, the same for every codec.
 ghost use Rattle.std.specs.Prelude.{[], ◌≡◌};
 ghost use Rattle.asn1_protocols.specs.ProtocolRecords.{bind_request_records, date_records, records_without_children};
 ghost use Rattle.asn1_types.specs.Words.{own_records};
@@ -7,18 +7,18 @@ use crate::ldap::BindRequest;
 use crate::personnel::{Date, PersonnelRecord};
 use asn1_types::AsnType;
 
-/// What a request is to every codec: a SEQUENCE under the type's own tag.
+/// The records of a request: a SEQUENCE under the type's own tag.
 pub fn bind_request_has_its_records(request: &BindRequest)
     ensures { own_records ⟦<BindRequest as AsnType>⟧.meaning request.now ≡
         bind_request_records request.now }
 {}
 
-/// What a day is to every codec.
+/// The records of a day.
 pub fn date_has_its_records(date: &Date)
     ensures { own_records ⟦<Date as AsnType>⟧.meaning date.now ≡ date_records date.now }
 {}
 
-/// What a record without children is to every codec, its components in the order of the definition: the last is not written.
+/// The records of a record without children, its components in the order of the definition: the last is not written.
 pub fn no_children_are_absent(person: &PersonnelRecord)
     ensures { person.now.children.items ≡ [] →
         own_records ⟦<PersonnelRecord as AsnType>⟧.meaning person.now ≡

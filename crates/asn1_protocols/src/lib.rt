@@ -5,9 +5,9 @@
 //! | [`ldap`] | messages of LDAP (RFC 4511), cut down | types with a tag of their own, and tags of the class APPLICATION |
 //! | [`personnel`] | the record of X.690, annex A | a SET with a tag of its own and a DEFAULT, components of a SET after explicit tags |
 //!
-//! What the contracts promise:
+//! The contracts promise:
 //!
-//! - Each type can be inside other types (`bind_request_is_well_tagged` and the like), and which of its values are valid is said
+//! - Each type can be inside other types (`bind_request_is_well_tagged` and the like), and has a law that states its valid values
 //!   (`bind_request_is_valid` and the like). Tables, meaning, writer and reader are proved
 //!   to say the same.
 //! - A component that is its default is written as absent (`no_children_are_absent`), and a type with a tag of its

@@ -1,4 +1,4 @@
--- What a reader of filters goes by: the law of the type, which alternative has a tag, and how a set is one of them.
+-- Lemmas of a reader of filters: the law of the type, the alternative with a tag, and a set as one of them.
 use Rattle.std.proofs.Common.{◌≡◌, ℕ, Bool, true, false, List, eqb, refl, rules, ap, sym, ◌∙◌, subst}
 use Rattle.asn1_components.specs.Alternatives.{all_of, chosen, chosen_meaning, value_meaning}
 use Rattle.asn1_components.specs.ChoiceTypes.{AgreesWithChoice, itself_agrees}
@@ -77,7 +77,7 @@ numbered (ExtensibleMatch said) tag has = subst (λ t. HasNumber t.value (Extens
 pub of_number : (n : ℕ) (tag : Tag) → tag.value ≡ n → (v : Filter) → Has (tree_tags (chosen (all_of filter_alternatives) (filter_pick v)).type.tree) tag → HasNumber n v
 of_number n tag is v has = subst (λ k. HasNumber k v) is (numbered v tag has)
 
--- a tag of one of them is had
+-- one of them has the tag
 pub is_had : (n : ℕ) (tag : Tag) → tag ≡ context n → Has (only (context n)) tag
 is_had n tag is = subst (Has (only (context n))) (sym is) (only_has (context n))
 

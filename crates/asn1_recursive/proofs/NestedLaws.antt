@@ -1,4 +1,4 @@
--- Which alternative of a `Nested` has a tag.
+-- The alternative of a `Nested` with a tag.
 use Rattle.std.proofs.Common.{◌≡◌, ℕ, Bool, true, false, eqb, refl, rules, sym, subst}
 use Rattle.asn1_components.specs.Alternatives.{all_of, chosen}
 use Rattle.asn1_components.specs.ChoiceTypes.{AgreesWithChoice, itself_agrees}

@@ -153,6 +153,6 @@ filter_agrees (Present name) = means_itself
 filter_agrees (ApproxMatch said) = means_itself
 filter_agrees (ExtensibleMatch said) = means_itself
 
--- What a filter means.
+-- The meaning of a filter.
 abbrev pub filter_meaning : Meaning Filter
 filter_meaning = choice_holding_itself (codes "Filter") filter_alternatives_with filter_means filter_pick filter_agrees

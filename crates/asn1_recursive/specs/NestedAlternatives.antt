@@ -41,6 +41,6 @@ nested_agrees Null = means_itself
 nested_agrees (Flag b) = means_itself
 nested_agrees (Inner' p inner) = means_itself
 
--- What a value means.
+-- The meaning of a value.
 abbrev pub nested_meaning : Meaning Nested
 nested_meaning = choice_holding_itself (codes "Nested") nested_alternatives_with nested_means nested_pick nested_agrees

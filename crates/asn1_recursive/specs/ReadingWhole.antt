@@ -1,4 +1,4 @@
--- What the calls promise that read values of a type that holds itself, which is well tagged.
+-- The contracts of the calls that read values of a type that holds itself and is well tagged.
 use Rattle.std.specs.Prelude.{◌≡◌, ◌≤◌, ℕ, Bool, true, List, [], ◌∷◌, All, Result, length}
 use Rattle.std.specs.List.{flat_map}
 use Rattle.asn1_tags.specs.declared.tags.Tag.{Tag}

@@ -15,7 +15,7 @@ use asn1_types::{
 use asn1_values::OctetString;
 use std::alloc::Global;
 
-/// What is said of an attribute: its name, and a value.
+/// An assertion on an attribute: its name, and a value.
 #[derive(PartialEq, Eq, Debug, Drop)]
 pub struct AttributeValueAssertion {
     /// `attributeDesc AttributeDescription`

@@ -31,7 +31,7 @@ use asn1_types::{
 };
 use asn1_values::OctetString;
 
-/// Which entries a search finds: a CHOICE that holds itself, and sets of itself.
+/// The filter of a search: a CHOICE that holds itself, and sets of itself.
 #[derive(PartialEq, Eq, Debug, Drop)]
 pub enum Filter {
     /// `and [0] SET SIZE (1..MAX) OF filter Filter`

@@ -1,4 +1,4 @@
-//! How a filter is read: by five functions that call one another.
+//! The reader of a filter: five functions that call one another.
 ghost use Rattle.asn1_components.specs.Alternatives.{Each, all_of};
 ghost use Rattle.asn1_components.specs.ChosenTags.{LacksTag};
 ghost use Rattle.asn1_laws.specs.DecodeErrors.{no_valid_choice, reason};
@@ -86,29 +86,29 @@ pub(crate) fn read_alternative<D: Decoder>(decoder: &mut D, tag: Tag) -> Result<
             }
         }
         EQUALITY_MATCH => {
-            let said = AttributeValueAssertion::decode_with_tag(decoder, EQUALITY_MATCH)?;
-            Ok(Filter::EqualityMatch(said))
+            let value = AttributeValueAssertion::decode_with_tag(decoder, EQUALITY_MATCH)?;
+            Ok(Filter::EqualityMatch(value))
         }
         SUBSTRINGS => {
-            let said = SubstringFilter::decode_with_tag(decoder, SUBSTRINGS)?;
-            Ok(Filter::Substrings(said))
+            let value = SubstringFilter::decode_with_tag(decoder, SUBSTRINGS)?;
+            Ok(Filter::Substrings(value))
         }
         GREATER_OR_EQUAL => {
-            let said = AttributeValueAssertion::decode_with_tag(decoder, GREATER_OR_EQUAL)?;
-            Ok(Filter::GreaterOrEqual(said))
+            let value = AttributeValueAssertion::decode_with_tag(decoder, GREATER_OR_EQUAL)?;
+            Ok(Filter::GreaterOrEqual(value))
         }
         LESS_OR_EQUAL => {
-            let said = AttributeValueAssertion::decode_with_tag(decoder, LESS_OR_EQUAL)?;
-            Ok(Filter::LessOrEqual(said))
+            let value = AttributeValueAssertion::decode_with_tag(decoder, LESS_OR_EQUAL)?;
+            Ok(Filter::LessOrEqual(value))
         }
         PRESENT => Ok(Filter::Present(OctetString::decode_with_tag(decoder, PRESENT)?)),
         APPROX_MATCH => {
-            let said = AttributeValueAssertion::decode_with_tag(decoder, APPROX_MATCH)?;
-            Ok(Filter::ApproxMatch(said))
+            let value = AttributeValueAssertion::decode_with_tag(decoder, APPROX_MATCH)?;
+            Ok(Filter::ApproxMatch(value))
         }
         EXTENSIBLE_MATCH => {
-            let said = MatchingRuleAssertion::decode_with_tag(decoder, EXTENSIBLE_MATCH)?;
-            Ok(Filter::ExtensibleMatch(said))
+            let value = MatchingRuleAssertion::decode_with_tag(decoder, EXTENSIBLE_MATCH)?;
+            Ok(Filter::ExtensibleMatch(value))
         }
         _ => Err(DecodeError::NoValidChoice("Filter")),
     }

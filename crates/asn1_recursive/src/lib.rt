@@ -3,23 +3,23 @@
 //! | Item | What it is |
 //! |---|---|
 //! | [`Filter`] | a CHOICE with sets of its own type inside: the filters of LDAP; it is written and read |
-//! | [`AttributeValueAssertion`], [`SubstringFilter`], [`Substring`], [`MatchingRuleAssertion`] | what filters say of attributes |
+//! | [`AttributeValueAssertion`], [`SubstringFilter`], [`Substring`], [`MatchingRuleAssertion`] | assertions on attributes |
 //! | [`Nested`] | a CHOICE with its own type inside, under a tag; it is written and read |
 //! | [`laws`] | the names of alternatives, and which parts of filters are valid |
 //!
-//! What the contracts promise:
+//! The contracts promise:
 //!
 //! - Each type can be inside other types (`filter_is_well_tagged`, `nested_is_well_tagged`), and each value of it is valid
 //!   (`each_filter_is_valid`, `each_nested_is_valid`).
-//! - A CHOICE says by recursion on a value what the chosen alternative says of it (`specs/FilterAlternatives.antt` and
+//! - A CHOICE defines the meaning of its chosen alternative by recursion on a value (`specs/FilterAlternatives.antt` and
 //!   `specs/NestedAlternatives.antt`). Tables and meaning are proved to say the same.
 //! - They are read by functions that call one another, and open a scope before each alternative, so the depth left of the decoder
 //!   ends the recursion, whatever the input. Their proofs go by the lemmas of `asn1_laws` for a CHOICE that holds itself
 //!   (`proofs/ReadingChoices.antt`).
-//! - [`laws`] says which names the tables have, and that the parts of a filter are valid.
+//! - [`laws`] states the names of the tables, and that the parts of a filter are valid.
 //!
-//! The prover wants such a type, its tables, its writer and its reader in one crate. A call takes memory where a codec does,
-//! and reading for what is inside.
+//! The prover wants such a type, its tables, its writer and its reader in one crate. A call allocates for a codec, and
+//! reading for the values inside.
 #![tactic(auto, using(asn1_tags::proofs::Leaves::tree_shapes))]
 
 mod attribute_value_assertion;

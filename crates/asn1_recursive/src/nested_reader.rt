@@ -1,4 +1,4 @@
-//! How a `Nested` is read: by three functions that call one another.
+//! The reader of a `Nested`: three functions that call one another.
 ghost use Rattle.asn1_components.specs.Alternatives.{Each, all_of};
 ghost use Rattle.asn1_components.specs.ChosenTags.{LacksTag};
 ghost use Rattle.asn1_laws.specs.DecodeErrors.{no_valid_choice, reason};

@@ -19,7 +19,7 @@ use std::alloc::Global;
 /// The parts of a text, in their order.
 pub type Substrings = Vec<Substring>;
 
-/// What a text has to contain. That there is a part, and that none is before the first or after the last, is the caller's to see.
+/// The parts that a text has to contain. The caller ensures that there is one, and that none is before the first or after the last.
 #[derive(PartialEq, Eq, Debug, Drop)]
 pub struct SubstringFilter {
     /// `type AttributeDescription`

@@ -107,7 +107,7 @@ own_inside = record {
 abbrev pub node_components : Components Node
 node_components = components_with_itself (codes "Node") is_sequence (components_with out-Node) own_inside
 
--- What a node means.
+-- The meaning of a node.
 abbrev pub node_meaning : Meaning Node
 node_meaning = holding_itself (codes "Node") own_inside node_components
 

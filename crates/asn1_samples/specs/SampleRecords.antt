@@ -1,4 +1,4 @@
--- What a value of each sample type is to every codec: its records, a line for each component or alternative.
+-- The records of a value of each sample type, the same for every codec: a line for each component or alternative.
 use Rattle.std.specs.Prelude.{ℕ, ℤ, Bool, false, List, [], ◌∷◌, ◌++◌, Option, None, Some, pos, codes, nat_eq}
 use Rattle.std.proofs.Math.Bool.{beq}
 use Rattle.std.specs.Option.{option_map}

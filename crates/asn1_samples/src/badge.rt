@@ -15,7 +15,7 @@ use asn1_types::{
 use asn1_values::VisibleString;
 use std::alloc::Global;
 
-/// What someone wears: a SET, whose components may be written in any order.
+/// A badge: a SET, with components that may be written in any order.
 #[derive(PartialEq, Eq, Debug, Drop)]
 pub struct Badge {
     /// `id INTEGER (0..4294967295)`
@@ -47,8 +47,8 @@ impl FieldTable for Badge {
         3
     }
 
-    fn field_at(place: usize) -> Option<Field<'static>> {
-        match place {
+    fn field_at(index: usize) -> Option<Field<'static>> {
+        match index {
             0 => Some(Field::new_required_type::<Shape>(2, "shape")),
             1 => Some(Field::new_required_type::<u32>(0, "id")),
             2 => Some(Field::new_optional_type::<VisibleString>(1, "label")),
@@ -103,8 +103,8 @@ impl Encode for Badge {
 }
 
 impl EncodeFields for Badge {
-    fn encode_field<E: Encoder>(&self, place: usize, encoder: &mut E) -> Result<(), EncodeError> {
-        match place {
+    fn encode_field<E: Encoder>(&self, index: usize, encoder: &mut E) -> Result<(), EncodeError> {
+        match index {
             0 => self.id.encode(encoder),
             1 => self.label.encode(encoder),
             2 => self.shape.encode(encoder),

@@ -17,8 +17,8 @@ use asn1_types::{
 use asn1_values::Utf8String;
 use std::alloc::Global;
 
-/// What a gauge shows: a SET two of whose components are under constraints of their own. The definition has no limits for the
-/// numbers, and a value keeps those that a `u16` has.
+/// The reading of a gauge: a SET with two components under constraints of their own. The definition has no limits for the
+/// numbers, and a value keeps those of a `u16`.
 #[derive(PartialEq, Eq, Debug, Drop)]
 pub struct Gauge {
     /// `level INTEGER`

@@ -89,7 +89,7 @@ pub fn alternatives_and_items_have_their_names()
         codes "green" ∷ codes "blue" ∷ [] }
 {}
 
-/// A law of the table in which a `Shape` looks for its alternative: it has each leaf of the alternatives once, with its place among
+/// A law of the table in which a `Shape` looks for its alternative: it has each leaf of the alternatives once, with its index among
 /// all, in ascending order. So a tag is looked for in this table, and not in the list of leaves.
 pub fn the_table_of_a_shape_fits()
     ensures { TableFits (leaves_of (trees_of (all_of ⟦<Shape as Choice>⟧.alternatives))) LEAVES.now }

@@ -1,4 +1,4 @@
-//! Sample types, which are written and read: one of each kind, and those that a codec has trouble with.
+//! Sample types, written and read: one of each kind, and those that are hard for a codec.
 //!
 //! | Type | What it is |
 //! |---|---|
@@ -18,7 +18,7 @@
 //! | [`Node`] | a SEQUENCE that holds itself, in a list |
 //! | [`Plate`] | a string with a permitted alphabet |
 //!
-//! What the contracts promise:
+//! The contracts promise:
 //!
 //! - Each type states its components, alternatives or items once, and its tables, meaning and writer are proved to say the
 //!   same. The writer has a line for each component (`encode_field`) or alternative (`encode_alternative`), and no proof.
@@ -28,21 +28,21 @@
 //!   (`the_table_of_a_shape_fits`). Three types show the other forms, which have proofs: an `Envelope` reads its components one
 //!   after another (`decode_fields`), a `Badge` is read as parts (`DecodeSet`), and a `Node` by functions that call one another;
 //!   each node opens two scopes, so the depth left of the decoder ends the recursion, whatever the input. A component that may be
-//!   absent is asked for under its own tag, which what follows does not begin with; so it is in a group whose last components are
-//!   absent, where what follows is after the group, as the note of a `Visit` is. A tag that no alternative has is refused with the
+//!   absent is asked for under its own tag, and the next record has another tag; so it is in a group with absent last components,
+//!   before a component after the group, as the note of a `Visit` is. A tag that no alternative has is refused with the
 //!   name of the CHOICE.
-//! - The errors of a component are as they are where a type is read by `decode_sequence` or `decode_set` of the decoder: `Person`,
-//!   `Profile`, `Envelope`, `Labelled`, `Settings`, `Node` and `Badge`, and the group `Contact`. They have the name of the
-//!   component in a `Notice`, a `Pair`, a `Visit`, a `Ticket` and a `Gauge`.
+//! - Types that are read by `decode_sequence` or `decode_set` of the decoder pass on the errors of components unchanged: `Person`,
+//!   `Profile`, `Envelope`, `Labelled`, `Settings`, `Node` and `Badge`, and the group `Contact`. `Notice`, `Pair`, `Visit`,
+//!   `Ticket` and `Gauge` add the name of the component.
 //! - Each can be inside other types: `person_is_well_tagged` and the like.
-//! - [`laws`] says what the records of each value are (`specs/SampleRecords` writes them out), which values are valid, when two
-//!   values are equal, which names the tables have, and which types have an extension marker. `envelope_is_valid` and
-//!   `pair_is_valid` say when an `Envelope` and a `Pair` are valid; each `Node` is valid (`each_node_is_valid`).
-//! - A `Node` states its components by what is inside a value (`specs/NodeComponents`): the records follow by a fold, and a node
+//! - [`laws`] states the records of each value (`specs/SampleRecords` writes them out), the valid values, equality of values, the
+//!   names of the tables, and the types with an extension marker. `envelope_is_valid` and `pair_is_valid` state when an `Envelope`
+//!   and a `Pair` are valid; each `Node` is valid (`each_node_is_valid`).
+//! - A `Node` states its components by recursion on a value (`specs/NodeComponents`): the records follow by a fold, and a node
 //!   meets its type's invariant if and only if all labels inside it meet theirs. Its records are written out, by those of its
 //!   children (`node_has_its_records`), and how deep they are nested (`node_is_two_higher_than_its_children`).
 //!
-//! A call takes memory only where a codec does, for what is read, for the alphabet of a `Plate` and for the table of a `Shape`.
+//! A call allocates only for a codec, for the values that are read, for the alphabet of a `Plate` and for the table of a `Shape`.
 //! CHOICE types that hold themselves are in the crate `asn1_recursive`. `docs/USING.md` explains how such types are written, and
 //! quotes `Notice`, and `Contact` and `Profile` for groups.
 #![tactic(auto, using(asn1_tags::proofs::Leaves::tree_shapes))]

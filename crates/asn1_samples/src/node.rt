@@ -94,7 +94,7 @@ impl EncodeFields for Node {
         }
     }
 
-    // The places one after the other, with no loop: so the compiler knows which component each call writes.
+    // The indices one after the other, with no loop: so the compiler knows which component each call writes.
     #[cycle(node)]
     #[inline(always)]
     fn encode_fields<E: Encoder>(&self, encoder: &mut E) -> Result<(), EncodeError> {
@@ -120,7 +120,7 @@ impl DecodeFields for Node {
     }
 }
 
-/// What a node is to every codec, by what its children are.
+/// The records of a node, by those of its children.
 pub fn node_has_its_records(node: &Node)
     ensures { own_records ⟦<Node as AsnType>⟧.meaning node.now ≡ records_by_children node.now }
 {}

@@ -15,7 +15,7 @@ use asn1_types::{
 use asn1_values::Utf8String;
 use std::alloc::Global;
 
-/// What someone is told, and whether at once.
+/// A message, and whether it is urgent.
 #[derive(PartialEq, Eq, Debug, Drop)]
 pub struct Notice {
     /// `id [0] INTEGER (0..255)`

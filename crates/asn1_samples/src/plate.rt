@@ -9,7 +9,7 @@ use asn1_enc::{Encode, EncodeError, Encoder};
 use asn1_types::{AsnType, ConstraintTable, Constraints, Identifier, Tag, TypeTable};
 use asn1_values::VisibleString;
 
-/// What is written on a plate: the letters A, B and C. That a value has these alone is left to whoever makes it.
+/// The text of a plate: the letters A, B and C. The caller ensures that a value has no others.
 #[derive(PartialEq, Eq, Debug, Drop)]
 pub struct Plate(pub VisibleString);
 

@@ -29,7 +29,7 @@ use asn1_types::{
 use asn1_values::{Ia5String, Utf8String};
 use std::alloc::Global;
 
-/// What is known of someone.
+/// The profile of a user.
 #[derive(PartialEq, Eq, Debug, Drop)]
 pub struct Profile {
     /// `nick [0] UTF8String OPTIONAL`

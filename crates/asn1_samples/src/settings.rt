@@ -13,7 +13,7 @@ use asn1_types::{
 };
 use std::alloc::Global;
 
-/// What is set, unless it is as usual. An entry with the key of the default is the default, and its note is not written.
+/// A setting with a default. An entry with the key of the default is the default, and its note is not written.
 #[derive(PartialEq, Eq, Debug, Drop)]
 pub struct Settings {
     /// `entry [0] Labelled DEFAULT { key 1, note 0 }`

@@ -129,7 +129,7 @@ impl Decode for Shape {
     }
 }
 
-/// The leaves of the alternatives in ascending order, each with its place among all: that of an octet string is the last, the
+/// The leaves of the alternatives in ascending order, each with its index among all: that of an octet string is the last, the
 /// second of `inner`.
 pub(crate) const LEAVES: &[(Tag, usize)] = &[
     (Tag::BOOL, 2),

@@ -15,7 +15,7 @@ use asn1_types::{
 use asn1_values::Utf8String;
 use std::alloc::Global;
 
-/// Where someone sits, perhaps who, and whether it is paid: a SET with a default.
+/// A seat, the name of the guest if it is known, and whether it is paid: a SET with a default.
 #[derive(PartialEq, Eq, Debug, Drop)]
 pub struct Ticket {
     /// `seat [0] INTEGER (0..65535)`

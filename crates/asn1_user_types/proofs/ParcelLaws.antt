@@ -1,4 +1,4 @@
--- Which alternative of a `Parcel` has a tag.
+-- The alternative of a `Parcel` with a tag.
 use Rattle.std.proofs.Common.{◌≡◌, ℕ, Bool, true, false, eqb, refl, rules, sym, subst}
 use Rattle.asn1_schema.specs.components.Alternatives.{all_of, chosen}
 use Rattle.asn1_schema.specs.components.ChoiceTypes.{AgreesWithChoice, itself_agrees}

@@ -36,6 +36,6 @@ pub parcel_agrees : (v : Parcel) → MeansTheSame (parcel_means v) (chosen_meani
 parcel_agrees Letter = means_itself
 parcel_agrees (Inner' p inner) = means_itself
 
--- What a value means.
+-- The meaning of a value.
 abbrev pub parcel_meaning : Meaning Parcel
 parcel_meaning = choice_holding_itself (codes "Parcel") parcel_alternatives_with parcel_means parcel_pick parcel_agrees

@@ -9,15 +9,15 @@
 //! | [`Signed`] | a SEQUENCE of any type |
 //! | [`Parcel`] | a CHOICE that holds itself |
 //!
-//! What the contracts promise:
+//! The contracts promise:
 //!
-//! - Each type is written and read by any codec. Each but the CHOICE types is told to be well tagged (`price_is_well_tagged` and
-//!   the like); of a [`Payment`] it is what `signed_payment_comes_back` rests on, and of a [`Parcel`] a lemma (proofs/ParcelLaws).
+//! - Each type is written and read by any codec. Each is well tagged (`price_is_well_tagged` and the like; for a [`Payment`] the
+//!   proof of `signed_payment_comes_back` uses it, and for a [`Parcel`] it is a lemma, proofs/ParcelLaws).
 //! - Each value of these is valid, and a [`Signed`] if and only if its content is (`price_is_valid` and the like).
 //! - A signed order or payment is read back as it was written, by any codec (`signed_order_comes_back`).
 //!
-//! So one name in `crates.txt` is enough for each kind of type. Only a clause that has the meaning of a CHOICE in it by its type, as
-//! `⟦<Payment as AsnType>⟧.meaning`, wants `asn1_tags` there too. `asn1_samples` and `asn1_recursive` have more types of each kind,
+//! So one name in `crates.txt` is enough for each kind of type. Only a clause with the meaning of a CHOICE by its type, as
+//! `⟦<Payment as AsnType>⟧.meaning`, needs `asn1_tags` there too. `asn1_samples` and `asn1_recursive` have more types of each kind,
 //! over the crates below `asn1_schema`.
 #![tactic(auto, using(asn1_schema::proofs::Trees::tree_shapes))]
 

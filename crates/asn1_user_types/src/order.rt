@@ -10,10 +10,10 @@ use asn1_schema::{
 };
 use std::alloc::Global;
 
-/// What is bought, in whatever order.
+/// The articles of an order, in any order.
 pub type Goods = SetOf<Utf8String>;
 
-/// What someone buys.
+/// An order of a customer.
 #[derive(PartialEq, Eq, Debug, Drop)]
 pub struct Order {
     /// `price Price`

@@ -8,7 +8,7 @@ use asn1_schema::{
     Encode, EncodeChoice, EncodeError, Encoder, Identifier, Tag, TagTree, TypeTable,
 };
 
-/// What is sent: a letter, or a parcel in a parcel.
+/// A letter, or a parcel in a parcel.
 #[derive(PartialEq, Eq, Debug, Drop)]
 pub enum Parcel {
     /// `letter NULL`

@@ -1,4 +1,4 @@
-//! How a `Parcel` is read: by three functions that call one another.
+//! The reader of a `Parcel`: three functions that call one another.
 ghost use Rattle.asn1_schema.specs.components.Alternatives.{Each, all_of};
 ghost use Rattle.asn1_schema.specs.components.ChosenTags.{LacksTag};
 ghost use Rattle.asn1_schema.specs.codec_laws.DecodeErrors.{no_valid_choice, reason};

@@ -10,7 +10,7 @@ use asn1_schema::{
 };
 use std::alloc::Global;
 
-/// What something costs.
+/// The price of an article.
 #[derive(PartialEq, Eq, Debug, Drop)]
 pub struct Price {
     /// `amount INTEGER (0..4294967295)`

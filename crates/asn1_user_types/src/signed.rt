@@ -81,7 +81,7 @@ impl<T: AsnType> ConstructedType for Signed<T> {
     ghost agrees = { constructed_agrees };
 }
 
-/// A `Signed` can be inside other types where its content can.
+/// A `Signed` can be inside other types if its content can.
 pub fn signed_is_well_tagged<T: AsnType>()
     ensures { IsWellTagged T.meaning → IsWellTagged ⟦<Signed<T> as AsnType>⟧.meaning }
 {}
@@ -118,7 +118,7 @@ impl<T: Decode> Decode for Signed<T> {
     }
 }
 
-/// Writes a signed order by a codec, and reads it back: what is read is what was written.
+/// Writes a signed order by a codec, and reads it back: the value that is read equals the one that was written.
 ///
 /// # Errors
 /// Those of [`round_trip`].

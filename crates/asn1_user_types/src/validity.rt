@@ -1,4 +1,4 @@
-//! Which values of the types are valid: each, and of a [`Signed`] those whose content is. Each type's own file says that the
+//! The valid values of the types: all, and for a [`Signed`] those with valid content. Each type's own file states that the
 //! type is well tagged.
 ghost use Rattle.std.specs.Prelude.{Bool, List, ℕ, ◌↔◌};
 

@@ -1,4 +1,4 @@
--- What a certificate leaves open: the parameters of algorithms and the values of attributes (RFC 5280, 4.1.1.2 and 4.1.2.4).
+-- The open types of a certificate: the parameters of algorithms and the values of attributes (RFC 5280, 4.1.1.2 and 4.1.2.4).
 -- A codec accepts an open value if it reads these bytes as one value, which `accepts` tells.
 use Rattle.std.specs.Prelude.{ℕ, Bool, IsTrue, List, IfSome, All}
 use Rattle.asn1_x509.specs.declared.algorithm_identifier.AlgorithmIdentifier.{AlgorithmIdentifier}

@@ -22,7 +22,7 @@ use asn1_types::{
 };
 use asn1_values::{BmpString, PrintableString, TeletexString, Utf8String};
 
-/// A text in one of five kinds of string. That it is not empty is the caller's to see.
+/// A text in one of five kinds of string. The caller ensures that it is not empty.
 #[derive(PartialEq, Eq, Debug, Drop)]
 pub enum DirectoryString {
     /// `teletexString TeletexString (SIZE (1..MAX))`

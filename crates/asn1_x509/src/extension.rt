@@ -15,10 +15,10 @@ use asn1_types::{
 use asn1_values::{ObjectIdentifier, OctetString};
 use std::alloc::Global;
 
-/// `Extensions ::= SEQUENCE SIZE (1..MAX) OF Extension`. That there is one is the caller's to see.
+/// `Extensions ::= SEQUENCE SIZE (1..MAX) OF Extension`. The caller ensures that there is at least one.
 pub type Extensions = Vec<Extension>;
 
-/// What else a certificate says: the name of a kind of extension, and the bytes of its value.
+/// An extension of a certificate: its kind, and the bytes of its value.
 #[derive(PartialEq, Eq, Debug, Drop)]
 pub struct Extension {
     /// `extnID OBJECT IDENTIFIER`

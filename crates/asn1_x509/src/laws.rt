@@ -1,4 +1,4 @@
-//! What a certificate is to every codec.
+//! The records of a certificate, the same for every codec.
 ghost use Rattle.std.specs.Prelude.{None, pos, ◌≡◌};
 ghost use Rattle.asn1_types.specs.Words.{own_records};
 ghost use Rattle.asn1_x509.specs.CertificateRecords.{first_version_records};
@@ -6,7 +6,7 @@ ghost use Rattle.asn1_x509.specs.CertificateRecords.{first_version_records};
 use crate::tbs_certificate::TbsCertificate;
 use asn1_types::AsnType;
 
-/// What a certificate of the first version without unique names and extensions is to every codec: none of the four is written.
+/// The records of a certificate of the first version without unique names and extensions: none of the four is written.
 pub fn first_version_is_absent(tbs: &TbsCertificate)
     ensures { tbs.now.version ≡ pos 0 → tbs.now.issuer_unique_id ≡ None →
         tbs.now.subject_unique_id ≡ None → tbs.now.extensions ≡ None →

@@ -3,25 +3,25 @@
 //! | Item | What it is |
 //! |---|---|
 //! | [`Certificate`], [`TbsCertificate`] | a certificate, and the part of it that is signed |
-//! | [`Signed`] | what is signed, of any type, with its signature |
-//! | [`Name`], [`RelativeDistinguishedName`], [`AttributeTypeAndValue`] | whose certificate it is, and who issued it |
+//! | [`Signed`] | a value of any type, with its signature |
+//! | [`Name`], [`RelativeDistinguishedName`], [`AttributeTypeAndValue`] | the subject of a certificate, and its issuer |
 //! | [`DirectoryString`] | a text in one of five kinds of string |
-//! | [`Validity`], [`Time`] | from when to when a certificate is valid |
-//! | [`AlgorithmIdentifier`], [`SubjectPublicKeyInfo`], [`RsaPublicKey`] | an algorithm, and a public key, with what RSA has in it |
-//! | [`Extension`], [`Extensions`] | what else a certificate says |
+//! | [`Validity`], [`Time`] | the time in which a certificate is valid |
+//! | [`AlgorithmIdentifier`], [`SubjectPublicKeyInfo`], [`RsaPublicKey`] | an algorithm, a public key, and a key of RSA |
+//! | [`Extension`], [`Extensions`] | the extensions of a certificate |
 //!
-//! What the contracts promise:
+//! The contracts promise:
 //!
 //! - Each type states its components or its alternatives once, and its tables, meaning, writer and reader are proved to say
 //!   the same. Components are read by index, each into a slot of its own. So a valid value comes back equal (`round_trip` of
 //!   `asn1_schema`).
 //! - Each type can be inside other types (`certificate_is_well_tagged` and the like): no tag is where another is expected.
-//! - A version that is the first is its default, and is written as absent: `first_version_is_absent` says it of a certificate
+//! - A version that is the first is its default, and is written as absent: `first_version_is_absent` states it for a certificate
 //!   without unique names and extensions, which are absent too.
 //! - The parameters of algorithms and the values of attributes are open types. A certificate is valid if and only if the codec
-//!   accepts each of them as one value (`certificate_is_valid`; `specs/OpenValues.antt`). All else is valid as it is.
+//!   accepts each of them as one value (`certificate_is_valid`; `specs/OpenValues.antt`). All other values are valid.
 //!
-//! What a schema asks beyond that is left to whoever makes a value: that a list has an element, that a text is a time.
+//! The caller ensures the other constraints of the schema: a list has an element, and a text is a time.
 #![tactic(auto, using(asn1_tags::proofs::Leaves::tree_shapes))]
 
 mod algorithm_identifier;

@@ -13,7 +13,7 @@ use asn1_types::{
     AsnType, Choice, ChoiceType, Constraints, Identifier, SetOf, Tag, TagTree, TypeTable,
 };
 
-/// `RelativeDistinguishedName ::= SET SIZE (1..MAX) OF AttributeTypeAndValue`. That there is one is the caller's to see.
+/// `RelativeDistinguishedName ::= SET SIZE (1..MAX) OF AttributeTypeAndValue`. The caller ensures that there is at least one.
 pub type RelativeDistinguishedName = SetOf<AttributeTypeAndValue>;
 
 /// `RDNSequence ::= SEQUENCE OF RelativeDistinguishedName`

@@ -17,7 +17,7 @@ use asn1_types::{
 use asn1_values::BitString;
 use std::alloc::Global;
 
-/// What is signed, of any type, with its signature.
+/// A value of any type, with its signature.
 #[derive(PartialEq, Eq, Debug, Drop)]
 pub struct Signed<T> {
     /// `toBeSigned ToBeSigned`
@@ -99,12 +99,12 @@ impl<T: AsnType> ConstructedType for Signed<T> {
     ghost agrees = { constructed_agrees };
 }
 
-/// A `Signed` can be inside other types where what is signed can be a component.
+/// A `Signed` can be inside other types if the signed value can be a component.
 pub fn signed_is_well_tagged<T: AsnType>()
     ensures { IsWellTagged T.meaning → IsWellTagged ⟦<Signed<T> as AsnType>⟧.meaning }
 {}
 
-/// A `Signed` is valid if and only if what is signed is, and the codec accepts the parameters of the algorithm, if there are any.
+/// A `Signed` is valid if and only if the signed value is, and the codec accepts the parameters of the algorithm, if there are any.
 pub fn signed_is_valid<T: AsnType>(signed: &Signed<T>)
     ensures { (accepts : List ℕ → Bool) →
         ⟦<Signed<T> as AsnType>⟧.meaning.IsValid accepts signed.now ↔ (T.meaning.IsValid accepts

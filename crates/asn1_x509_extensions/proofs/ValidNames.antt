@@ -1,4 +1,4 @@
--- Which names are valid: by what is open in them.
+-- The valid names, by the open types in them.
 use Rattle.std.proofs.Common.{ℕ, Bool, List}
 use Rattle.std.specs.Global.{Vec}
 use Rattle.std.specs.Prelude.{◌↔◌, All, IfSome, None, Option, Some, slice_index_or}

@@ -1,4 +1,4 @@
--- What names of the nine kinds leave open (RFC 5280, 4.2.1.6): the value of a name of another kind, the components of an X.400
+-- The open types in names of the nine kinds (RFC 5280, 4.2.1.6): the value of a name of another kind, the components of an X.400
 -- address, and the attributes of a name of the directory.
 use Rattle.std.specs.Prelude.{ℕ, ⊤, Bool, IsTrue, List, All}
 use Rattle.asn1_x509.specs.OpenValues.{NameIsAccepted}

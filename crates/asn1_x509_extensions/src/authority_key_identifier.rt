@@ -24,7 +24,7 @@ use asn1_types::{
 use asn1_x509::CertificateSerialNumber;
 use std::alloc::Global;
 
-/// Which key an authority signed with.
+/// The key that an authority signed with.
 #[derive(PartialEq, Eq, Debug, Drop)]
 pub struct AuthorityKeyIdentifier {
     /// `keyIdentifier [0] KeyIdentifier OPTIONAL`

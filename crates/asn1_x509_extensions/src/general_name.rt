@@ -31,7 +31,7 @@ use asn1_types::{
 use asn1_values::{Ia5String, ObjectIdentifier, OctetString};
 use asn1_x509::Name;
 
-/// `GeneralNames ::= SEQUENCE SIZE (1..MAX) OF GeneralName`. That there is one is the caller's to see.
+/// `GeneralNames ::= SEQUENCE SIZE (1..MAX) OF GeneralName`. The caller ensures that there is at least one.
 pub type GeneralNames = Vec<GeneralName>;
 
 /// `SubjectAltName ::= GeneralNames` (RFC 5280, 4.2.1.6)

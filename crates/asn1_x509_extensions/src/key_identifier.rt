@@ -18,7 +18,7 @@ pub type KeyUsage = BitString;
 /// `KeyPurposeId ::= OBJECT IDENTIFIER` (RFC 5280, 4.2.1.12)
 pub type KeyPurposeId = ObjectIdentifier;
 
-/// `ExtKeyUsageSyntax ::= SEQUENCE SIZE (1..MAX) OF KeyPurposeId` (RFC 5280, 4.2.1.12). That there is one is the caller's to see.
+/// `ExtKeyUsageSyntax ::= SEQUENCE SIZE (1..MAX) OF KeyPurposeId` (RFC 5280, 4.2.1.12). The caller ensures that there is at least one.
 pub type ExtKeyUsageSyntax = Vec<KeyPurposeId>;
 
 /// The extensions whose types are not of this crate can be inside other types too.

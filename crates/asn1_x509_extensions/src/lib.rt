@@ -3,22 +3,22 @@
 //! | Item | What it is |
 //! |---|---|
 //! | [`GeneralName`], [`GeneralNames`] | a name of one of nine kinds |
-//! | [`SubjectAltName`], [`IssuerAltName`] | the further names of whom a certificate is for, and of who issued it |
+//! | [`SubjectAltName`], [`IssuerAltName`] | the further names of the subject of a certificate, and of its issuer |
 //! | [`BasicConstraints`], [`PathLength`] | whether a certificate is that of an authority |
-//! | [`KeyUsage`], [`ExtKeyUsageSyntax`] | what a key may be used for |
-//! | [`SubjectKeyIdentifier`], [`AuthorityKeyIdentifier`] | which key a certificate is for, and which key it is signed with |
+//! | [`KeyUsage`], [`ExtKeyUsageSyntax`] | the usages and purposes of a key |
+//! | [`SubjectKeyIdentifier`], [`AuthorityKeyIdentifier`] | the key of a certificate, and the key that signed it |
 //! | [`AnotherName`], [`EdiPartyName`] | two kinds of name |
 //!
-//! What the contracts promise:
+//! The contracts promise:
 //!
 //! - Each type states its components or its alternatives once, and its tables, meaning, writer and reader are proved to say
 //!   the same. So a valid value comes back equal (`round_trip` of `asn1_schema`).
 //! - Each type can be inside other types (`general_name_is_well_tagged` and the like).
 //! - A name is valid if and only if the codec accepts as one value each open type in it (`general_name_is_valid`;
-//!   `specs/OpenNames.antt`), and so a key of an authority. All else is valid as it is.
+//!   `specs/OpenNames.antt`), and so a key of an authority. All other values are valid.
 //!
-//! The value of an [`asn1_x509::Extension`] is the bytes that a codec makes of one of these. What a schema asks beyond that
-//! is left to whoever makes a value: that a list has an element, and how long a text is.
+//! The value of an [`asn1_x509::Extension`] is the bytes that a codec writes of one of these. The caller ensures the other
+//! constraints of the schema: a list has an element, and a text has a length within its limits.
 #![tactic(auto, using(asn1_tags::proofs::Leaves::tree_shapes))]
 
 mod another_name;

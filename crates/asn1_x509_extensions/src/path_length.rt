@@ -10,7 +10,7 @@ use asn1_types::{
 };
 use asn1_values::Integer;
 
-/// How many certificates of authorities may be between one and the last. That it is not negative is the caller's to see.
+/// The greatest number of certificates of authorities between one and the last. The caller ensures that it is not negative.
 #[derive(PartialEq, Eq, Debug, Drop)]
 pub struct PathLength(pub Integer);
 

@@ -9,7 +9,7 @@ use asn1_enc::{Encode, EncodeError, Encoder};
 use asn1_types::{AsnType, Class, Constraints, Identifier, Tag, TypeTable};
 use asn1_values::VisibleString;
 
-/// A day. That its text is one is left to whoever makes it.
+/// A day. The caller ensures that its text is one.
 #[derive(PartialEq, Eq, Debug, Drop)]
 pub struct Date(pub VisibleString);
 

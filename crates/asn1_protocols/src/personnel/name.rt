@@ -14,7 +14,7 @@ use asn1_types::{
 use asn1_values::VisibleString;
 use std::alloc::Global;
 
-/// What someone is called.
+/// The name of a person.
 #[derive(PartialEq, Eq, Debug, Drop)]
 pub struct Name {
     /// `givenName VisibleString`

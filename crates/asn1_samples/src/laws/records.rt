@@ -1,4 +1,4 @@
-//! What a value of each sample type is to every codec: its records, which `specs/SampleRecords` writes out.
+//! The records of a value of each sample type, the same for every codec. `specs/SampleRecords` writes them out.
 ghost use Rattle.asn1_samples.specs.SampleRecords.{badge_records, color_records, corner_records, envelope_records, gauge_records, labelled_records, notice_records, pair_records, person_records, plate_records, profile_records, settings_records, shape_records, ticket_records, visit_records};
 ghost use Rattle.asn1_types.specs.Words.{lines, own_records};
 ghost use Rattle.std.specs.Prelude.{◌≡◌};

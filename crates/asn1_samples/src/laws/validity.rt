@@ -1,4 +1,4 @@
-//! Which values of the sample types are valid. Each type's own file says that it is well tagged.
+//! The valid values of the sample types. Each type's own file states that it is well tagged.
 ghost use Rattle.asn1_samples.specs.declared.contact.Contact.{Contact};
 ghost use Rattle.asn1_samples.specs.declared.corner.Corner.TheVariants.{Left, Right};
 ghost use Rattle.asn1_samples.specs.declared.shape.Shape.TheVariants.{Dot, Inner, Ring};

@@ -102,59 +102,59 @@ pub read_alternative-returns-in-PRESENT-clause-read : goal.read_alternative-retu
 read_alternative-returns-in-PRESENT-clause-read g t c =
     chosen_read g.D.Decoder.reader filter_alternatives filter_pick ghosts.eq Present (value_meaning (tagged (context 7) octet_string)) (λ w. refl) c.args.tag (of_number 7 c.args.tag (omega arith)) _ _ _ (λ w rest outer of_type valid at. moved_as g.D.Decoder.reader (c.in_ok-decode_with_tag-in-PRESENT.ensures.read w (Some (codes "OCTET_STRING")) rest outer refl of_type valid (inl tt) at) (present_equal c.in_ok-decode_with_tag-in-PRESENT.field-0 w))
 
-pub read_alternative-returns-in_err-said-in-EQUALITY_MATCH-clause-read : goal.read_alternative-returns-in_err-said-in-EQUALITY_MATCH-clause-read
-read_alternative-returns-in_err-said-in-EQUALITY_MATCH-clause-read g t c = λ v rest outer distinct can.
-    let p = err_from_is_err_and c.from_residual-in_err-said-in-EQUALITY_MATCH.result c.from_residual-in_err-said-in-EQUALITY_MATCH.ensures.1 in
-    rw (p.1, p.2) (chosen_not_read g.D.Decoder.reader filter_alternatives filter_pick ghosts.eq EqualityMatch (value_meaning (tagged (context 3) assertion.meaning)) (λ w. refl) c.args.tag (of_number 3 c.args.tag (omega arith)) _ c.args.decoder.now (λ w rest outer of_type valid. c.in_err-said-in-EQUALITY_MATCH.ensures.read w (Some (codes "AttributeValueAssertion")) rest outer can.1.1.1.0.0.1 of_type valid (inl can.1.1.1.0.0.0)) v rest outer distinct can)
+pub read_alternative-returns-in_err-value-in-EQUALITY_MATCH-clause-read : goal.read_alternative-returns-in_err-value-in-EQUALITY_MATCH-clause-read
+read_alternative-returns-in_err-value-in-EQUALITY_MATCH-clause-read g t c = λ v rest outer distinct can.
+    let p = err_from_is_err_and c.from_residual-in_err-value-in-EQUALITY_MATCH.result c.from_residual-in_err-value-in-EQUALITY_MATCH.ensures.1 in
+    rw (p.1, p.2) (chosen_not_read g.D.Decoder.reader filter_alternatives filter_pick ghosts.eq EqualityMatch (value_meaning (tagged (context 3) assertion.meaning)) (λ w. refl) c.args.tag (of_number 3 c.args.tag (omega arith)) _ c.args.decoder.now (λ w rest outer of_type valid. c.in_err-value-in-EQUALITY_MATCH.ensures.read w (Some (codes "AttributeValueAssertion")) rest outer can.1.1.1.0.0.1 of_type valid (inl can.1.1.1.0.0.0)) v rest outer distinct can)
 
 pub read_alternative-returns-in-EQUALITY_MATCH-clause-read : goal.read_alternative-returns-in-EQUALITY_MATCH-clause-read
 read_alternative-returns-in-EQUALITY_MATCH-clause-read g t c = λ v rest outer distinct can.
-    chosen_read g.D.Decoder.reader filter_alternatives filter_pick ghosts.eq EqualityMatch (value_meaning (tagged (context 3) assertion.meaning)) (λ w. refl) c.args.tag (of_number 3 c.args.tag (omega arith)) _ _ _ (λ w rest outer of_type valid at. moved_as g.D.Decoder.reader (c.in_ok-said-in-EQUALITY_MATCH.ensures.read w (Some (codes "AttributeValueAssertion")) rest outer can.1.1.1.0.0.1 of_type valid (inl can.1.1.1.0.0.0) at) (equality_equal c.in_ok-said-in-EQUALITY_MATCH.said w)) v rest outer distinct can
+    chosen_read g.D.Decoder.reader filter_alternatives filter_pick ghosts.eq EqualityMatch (value_meaning (tagged (context 3) assertion.meaning)) (λ w. refl) c.args.tag (of_number 3 c.args.tag (omega arith)) _ _ _ (λ w rest outer of_type valid at. moved_as g.D.Decoder.reader (c.in_ok-value-in-EQUALITY_MATCH.ensures.read w (Some (codes "AttributeValueAssertion")) rest outer can.1.1.1.0.0.1 of_type valid (inl can.1.1.1.0.0.0) at) (equality_equal c.in_ok-value-in-EQUALITY_MATCH.value w)) v rest outer distinct can
 
-pub read_alternative-returns-in_err-said-in-SUBSTRINGS-clause-read : goal.read_alternative-returns-in_err-said-in-SUBSTRINGS-clause-read
-read_alternative-returns-in_err-said-in-SUBSTRINGS-clause-read g t c = λ v rest outer distinct can.
-    let p = err_from_is_err_and c.from_residual-in_err-said-in-SUBSTRINGS.result c.from_residual-in_err-said-in-SUBSTRINGS.ensures.1 in
-    rw (p.1, p.2) (chosen_not_read g.D.Decoder.reader filter_alternatives filter_pick ghosts.eq Substrings (value_meaning (tagged (context 4) substring_filter.meaning)) (λ w. refl) c.args.tag (of_number 4 c.args.tag (omega arith)) _ c.args.decoder.now (λ w rest outer of_type valid. c.in_err-said-in-SUBSTRINGS.ensures.read w (Some (codes "SubstringFilter")) rest outer can.1.1.1.1.0.0.1 of_type valid (inl can.1.1.1.1.0.0.0)) v rest outer distinct can)
+pub read_alternative-returns-in_err-value-in-SUBSTRINGS-clause-read : goal.read_alternative-returns-in_err-value-in-SUBSTRINGS-clause-read
+read_alternative-returns-in_err-value-in-SUBSTRINGS-clause-read g t c = λ v rest outer distinct can.
+    let p = err_from_is_err_and c.from_residual-in_err-value-in-SUBSTRINGS.result c.from_residual-in_err-value-in-SUBSTRINGS.ensures.1 in
+    rw (p.1, p.2) (chosen_not_read g.D.Decoder.reader filter_alternatives filter_pick ghosts.eq Substrings (value_meaning (tagged (context 4) substring_filter.meaning)) (λ w. refl) c.args.tag (of_number 4 c.args.tag (omega arith)) _ c.args.decoder.now (λ w rest outer of_type valid. c.in_err-value-in-SUBSTRINGS.ensures.read w (Some (codes "SubstringFilter")) rest outer can.1.1.1.1.0.0.1 of_type valid (inl can.1.1.1.1.0.0.0)) v rest outer distinct can)
 
 pub read_alternative-returns-in-SUBSTRINGS-clause-read : goal.read_alternative-returns-in-SUBSTRINGS-clause-read
 read_alternative-returns-in-SUBSTRINGS-clause-read g t c = λ v rest outer distinct can.
-    chosen_read g.D.Decoder.reader filter_alternatives filter_pick ghosts.eq Substrings (value_meaning (tagged (context 4) substring_filter.meaning)) (λ w. refl) c.args.tag (of_number 4 c.args.tag (omega arith)) _ _ _ (λ w rest outer of_type valid at. moved_as g.D.Decoder.reader (c.in_ok-said-in-SUBSTRINGS.ensures.read w (Some (codes "SubstringFilter")) rest outer can.1.1.1.1.0.0.1 of_type valid (inl can.1.1.1.1.0.0.0) at) (substrings_equal c.in_ok-said-in-SUBSTRINGS.said w)) v rest outer distinct can
+    chosen_read g.D.Decoder.reader filter_alternatives filter_pick ghosts.eq Substrings (value_meaning (tagged (context 4) substring_filter.meaning)) (λ w. refl) c.args.tag (of_number 4 c.args.tag (omega arith)) _ _ _ (λ w rest outer of_type valid at. moved_as g.D.Decoder.reader (c.in_ok-value-in-SUBSTRINGS.ensures.read w (Some (codes "SubstringFilter")) rest outer can.1.1.1.1.0.0.1 of_type valid (inl can.1.1.1.1.0.0.0) at) (substrings_equal c.in_ok-value-in-SUBSTRINGS.value w)) v rest outer distinct can
 
-pub read_alternative-returns-in_err-said-in-GREATER_OR_EQUAL-clause-read : goal.read_alternative-returns-in_err-said-in-GREATER_OR_EQUAL-clause-read
-read_alternative-returns-in_err-said-in-GREATER_OR_EQUAL-clause-read g t c = λ v rest outer distinct can.
-    let p = err_from_is_err_and c.from_residual-in_err-said-in-GREATER_OR_EQUAL.result c.from_residual-in_err-said-in-GREATER_OR_EQUAL.ensures.1 in
-    rw (p.1, p.2) (chosen_not_read g.D.Decoder.reader filter_alternatives filter_pick ghosts.eq GreaterOrEqual (value_meaning (tagged (context 5) assertion.meaning)) (λ w. refl) c.args.tag (of_number 5 c.args.tag (omega arith)) _ c.args.decoder.now (λ w rest outer of_type valid. c.in_err-said-in-GREATER_OR_EQUAL.ensures.read w (Some (codes "AttributeValueAssertion")) rest outer can.1.1.1.1.1.0.0.1 of_type valid (inl can.1.1.1.1.1.0.0.0)) v rest outer distinct can)
+pub read_alternative-returns-in_err-value-in-GREATER_OR_EQUAL-clause-read : goal.read_alternative-returns-in_err-value-in-GREATER_OR_EQUAL-clause-read
+read_alternative-returns-in_err-value-in-GREATER_OR_EQUAL-clause-read g t c = λ v rest outer distinct can.
+    let p = err_from_is_err_and c.from_residual-in_err-value-in-GREATER_OR_EQUAL.result c.from_residual-in_err-value-in-GREATER_OR_EQUAL.ensures.1 in
+    rw (p.1, p.2) (chosen_not_read g.D.Decoder.reader filter_alternatives filter_pick ghosts.eq GreaterOrEqual (value_meaning (tagged (context 5) assertion.meaning)) (λ w. refl) c.args.tag (of_number 5 c.args.tag (omega arith)) _ c.args.decoder.now (λ w rest outer of_type valid. c.in_err-value-in-GREATER_OR_EQUAL.ensures.read w (Some (codes "AttributeValueAssertion")) rest outer can.1.1.1.1.1.0.0.1 of_type valid (inl can.1.1.1.1.1.0.0.0)) v rest outer distinct can)
 
 pub read_alternative-returns-in-GREATER_OR_EQUAL-clause-read : goal.read_alternative-returns-in-GREATER_OR_EQUAL-clause-read
 read_alternative-returns-in-GREATER_OR_EQUAL-clause-read g t c = λ v rest outer distinct can.
-    chosen_read g.D.Decoder.reader filter_alternatives filter_pick ghosts.eq GreaterOrEqual (value_meaning (tagged (context 5) assertion.meaning)) (λ w. refl) c.args.tag (of_number 5 c.args.tag (omega arith)) _ _ _ (λ w rest outer of_type valid at. moved_as g.D.Decoder.reader (c.in_ok-said-in-GREATER_OR_EQUAL.ensures.read w (Some (codes "AttributeValueAssertion")) rest outer can.1.1.1.1.1.0.0.1 of_type valid (inl can.1.1.1.1.1.0.0.0) at) (greater_equal c.in_ok-said-in-GREATER_OR_EQUAL.said w)) v rest outer distinct can
+    chosen_read g.D.Decoder.reader filter_alternatives filter_pick ghosts.eq GreaterOrEqual (value_meaning (tagged (context 5) assertion.meaning)) (λ w. refl) c.args.tag (of_number 5 c.args.tag (omega arith)) _ _ _ (λ w rest outer of_type valid at. moved_as g.D.Decoder.reader (c.in_ok-value-in-GREATER_OR_EQUAL.ensures.read w (Some (codes "AttributeValueAssertion")) rest outer can.1.1.1.1.1.0.0.1 of_type valid (inl can.1.1.1.1.1.0.0.0) at) (greater_equal c.in_ok-value-in-GREATER_OR_EQUAL.value w)) v rest outer distinct can
 
-pub read_alternative-returns-in_err-said-in-LESS_OR_EQUAL-clause-read : goal.read_alternative-returns-in_err-said-in-LESS_OR_EQUAL-clause-read
-read_alternative-returns-in_err-said-in-LESS_OR_EQUAL-clause-read g t c = λ v rest outer distinct can.
-    let p = err_from_is_err_and c.from_residual-in_err-said-in-LESS_OR_EQUAL.result c.from_residual-in_err-said-in-LESS_OR_EQUAL.ensures.1 in
-    rw (p.1, p.2) (chosen_not_read g.D.Decoder.reader filter_alternatives filter_pick ghosts.eq LessOrEqual (value_meaning (tagged (context 6) assertion.meaning)) (λ w. refl) c.args.tag (of_number 6 c.args.tag (omega arith)) _ c.args.decoder.now (λ w rest outer of_type valid. c.in_err-said-in-LESS_OR_EQUAL.ensures.read w (Some (codes "AttributeValueAssertion")) rest outer can.1.1.1.1.1.1.0.0.1 of_type valid (inl can.1.1.1.1.1.1.0.0.0)) v rest outer distinct can)
+pub read_alternative-returns-in_err-value-in-LESS_OR_EQUAL-clause-read : goal.read_alternative-returns-in_err-value-in-LESS_OR_EQUAL-clause-read
+read_alternative-returns-in_err-value-in-LESS_OR_EQUAL-clause-read g t c = λ v rest outer distinct can.
+    let p = err_from_is_err_and c.from_residual-in_err-value-in-LESS_OR_EQUAL.result c.from_residual-in_err-value-in-LESS_OR_EQUAL.ensures.1 in
+    rw (p.1, p.2) (chosen_not_read g.D.Decoder.reader filter_alternatives filter_pick ghosts.eq LessOrEqual (value_meaning (tagged (context 6) assertion.meaning)) (λ w. refl) c.args.tag (of_number 6 c.args.tag (omega arith)) _ c.args.decoder.now (λ w rest outer of_type valid. c.in_err-value-in-LESS_OR_EQUAL.ensures.read w (Some (codes "AttributeValueAssertion")) rest outer can.1.1.1.1.1.1.0.0.1 of_type valid (inl can.1.1.1.1.1.1.0.0.0)) v rest outer distinct can)
 
 pub read_alternative-returns-in-LESS_OR_EQUAL-clause-read : goal.read_alternative-returns-in-LESS_OR_EQUAL-clause-read
 read_alternative-returns-in-LESS_OR_EQUAL-clause-read g t c = λ v rest outer distinct can.
-    chosen_read g.D.Decoder.reader filter_alternatives filter_pick ghosts.eq LessOrEqual (value_meaning (tagged (context 6) assertion.meaning)) (λ w. refl) c.args.tag (of_number 6 c.args.tag (omega arith)) _ _ _ (λ w rest outer of_type valid at. moved_as g.D.Decoder.reader (c.in_ok-said-in-LESS_OR_EQUAL.ensures.read w (Some (codes "AttributeValueAssertion")) rest outer can.1.1.1.1.1.1.0.0.1 of_type valid (inl can.1.1.1.1.1.1.0.0.0) at) (less_equal c.in_ok-said-in-LESS_OR_EQUAL.said w)) v rest outer distinct can
+    chosen_read g.D.Decoder.reader filter_alternatives filter_pick ghosts.eq LessOrEqual (value_meaning (tagged (context 6) assertion.meaning)) (λ w. refl) c.args.tag (of_number 6 c.args.tag (omega arith)) _ _ _ (λ w rest outer of_type valid at. moved_as g.D.Decoder.reader (c.in_ok-value-in-LESS_OR_EQUAL.ensures.read w (Some (codes "AttributeValueAssertion")) rest outer can.1.1.1.1.1.1.0.0.1 of_type valid (inl can.1.1.1.1.1.1.0.0.0) at) (less_equal c.in_ok-value-in-LESS_OR_EQUAL.value w)) v rest outer distinct can
 
-pub read_alternative-returns-in_err-said-in-APPROX_MATCH-clause-read : goal.read_alternative-returns-in_err-said-in-APPROX_MATCH-clause-read
-read_alternative-returns-in_err-said-in-APPROX_MATCH-clause-read g t c = λ v rest outer distinct can.
-    let p = err_from_is_err_and c.from_residual-in_err-said-in-APPROX_MATCH.result c.from_residual-in_err-said-in-APPROX_MATCH.ensures.1 in
-    rw (p.1, p.2) (chosen_not_read g.D.Decoder.reader filter_alternatives filter_pick ghosts.eq ApproxMatch (value_meaning (tagged (context 8) assertion.meaning)) (λ w. refl) c.args.tag (of_number 8 c.args.tag (omega arith)) _ c.args.decoder.now (λ w rest outer of_type valid. c.in_err-said-in-APPROX_MATCH.ensures.read w (Some (codes "AttributeValueAssertion")) rest outer can.1.1.1.1.1.1.1.1.0.0.1 of_type valid (inl can.1.1.1.1.1.1.1.1.0.0.0)) v rest outer distinct can)
+pub read_alternative-returns-in_err-value-in-APPROX_MATCH-clause-read : goal.read_alternative-returns-in_err-value-in-APPROX_MATCH-clause-read
+read_alternative-returns-in_err-value-in-APPROX_MATCH-clause-read g t c = λ v rest outer distinct can.
+    let p = err_from_is_err_and c.from_residual-in_err-value-in-APPROX_MATCH.result c.from_residual-in_err-value-in-APPROX_MATCH.ensures.1 in
+    rw (p.1, p.2) (chosen_not_read g.D.Decoder.reader filter_alternatives filter_pick ghosts.eq ApproxMatch (value_meaning (tagged (context 8) assertion.meaning)) (λ w. refl) c.args.tag (of_number 8 c.args.tag (omega arith)) _ c.args.decoder.now (λ w rest outer of_type valid. c.in_err-value-in-APPROX_MATCH.ensures.read w (Some (codes "AttributeValueAssertion")) rest outer can.1.1.1.1.1.1.1.1.0.0.1 of_type valid (inl can.1.1.1.1.1.1.1.1.0.0.0)) v rest outer distinct can)
 
 pub read_alternative-returns-in-APPROX_MATCH-clause-read : goal.read_alternative-returns-in-APPROX_MATCH-clause-read
 read_alternative-returns-in-APPROX_MATCH-clause-read g t c = λ v rest outer distinct can.
-    chosen_read g.D.Decoder.reader filter_alternatives filter_pick ghosts.eq ApproxMatch (value_meaning (tagged (context 8) assertion.meaning)) (λ w. refl) c.args.tag (of_number 8 c.args.tag (omega arith)) _ _ _ (λ w rest outer of_type valid at. moved_as g.D.Decoder.reader (c.in_ok-said-in-APPROX_MATCH.ensures.read w (Some (codes "AttributeValueAssertion")) rest outer can.1.1.1.1.1.1.1.1.0.0.1 of_type valid (inl can.1.1.1.1.1.1.1.1.0.0.0) at) (approx_equal c.in_ok-said-in-APPROX_MATCH.said w)) v rest outer distinct can
+    chosen_read g.D.Decoder.reader filter_alternatives filter_pick ghosts.eq ApproxMatch (value_meaning (tagged (context 8) assertion.meaning)) (λ w. refl) c.args.tag (of_number 8 c.args.tag (omega arith)) _ _ _ (λ w rest outer of_type valid at. moved_as g.D.Decoder.reader (c.in_ok-value-in-APPROX_MATCH.ensures.read w (Some (codes "AttributeValueAssertion")) rest outer can.1.1.1.1.1.1.1.1.0.0.1 of_type valid (inl can.1.1.1.1.1.1.1.1.0.0.0) at) (approx_equal c.in_ok-value-in-APPROX_MATCH.value w)) v rest outer distinct can
 
-pub read_alternative-returns-in_err-said-in-EXTENSIBLE_MATCH-clause-read : goal.read_alternative-returns-in_err-said-in-EXTENSIBLE_MATCH-clause-read
-read_alternative-returns-in_err-said-in-EXTENSIBLE_MATCH-clause-read g t c = λ v rest outer distinct can.
-    let p = err_from_is_err_and c.from_residual-in_err-said-in-EXTENSIBLE_MATCH.result c.from_residual-in_err-said-in-EXTENSIBLE_MATCH.ensures.1 in
-    rw (p.1, p.2) (chosen_not_read g.D.Decoder.reader filter_alternatives filter_pick ghosts.eq ExtensibleMatch (value_meaning (tagged (context 9) matching_rule.meaning)) (λ w. refl) c.args.tag (of_number 9 c.args.tag (omega arith)) _ c.args.decoder.now (λ w rest outer of_type valid. c.in_err-said-in-EXTENSIBLE_MATCH.ensures.read w (Some (codes "MatchingRuleAssertion")) rest outer can.1.1.1.1.1.1.1.1.1.0.0.1 of_type valid (inl can.1.1.1.1.1.1.1.1.1.0.0.0)) v rest outer distinct can)
+pub read_alternative-returns-in_err-value-in-EXTENSIBLE_MATCH-clause-read : goal.read_alternative-returns-in_err-value-in-EXTENSIBLE_MATCH-clause-read
+read_alternative-returns-in_err-value-in-EXTENSIBLE_MATCH-clause-read g t c = λ v rest outer distinct can.
+    let p = err_from_is_err_and c.from_residual-in_err-value-in-EXTENSIBLE_MATCH.result c.from_residual-in_err-value-in-EXTENSIBLE_MATCH.ensures.1 in
+    rw (p.1, p.2) (chosen_not_read g.D.Decoder.reader filter_alternatives filter_pick ghosts.eq ExtensibleMatch (value_meaning (tagged (context 9) matching_rule.meaning)) (λ w. refl) c.args.tag (of_number 9 c.args.tag (omega arith)) _ c.args.decoder.now (λ w rest outer of_type valid. c.in_err-value-in-EXTENSIBLE_MATCH.ensures.read w (Some (codes "MatchingRuleAssertion")) rest outer can.1.1.1.1.1.1.1.1.1.0.0.1 of_type valid (inl can.1.1.1.1.1.1.1.1.1.0.0.0)) v rest outer distinct can)
 
 pub read_alternative-returns-in-EXTENSIBLE_MATCH-clause-read : goal.read_alternative-returns-in-EXTENSIBLE_MATCH-clause-read
 read_alternative-returns-in-EXTENSIBLE_MATCH-clause-read g t c = λ v rest outer distinct can.
-    chosen_read g.D.Decoder.reader filter_alternatives filter_pick ghosts.eq ExtensibleMatch (value_meaning (tagged (context 9) matching_rule.meaning)) (λ w. refl) c.args.tag (of_number 9 c.args.tag (omega arith)) _ _ _ (λ w rest outer of_type valid at. moved_as g.D.Decoder.reader (c.in_ok-said-in-EXTENSIBLE_MATCH.ensures.read w (Some (codes "MatchingRuleAssertion")) rest outer can.1.1.1.1.1.1.1.1.1.0.0.1 of_type valid (inl can.1.1.1.1.1.1.1.1.1.0.0.0) at) (extensible_equal c.in_ok-said-in-EXTENSIBLE_MATCH.said w)) v rest outer distinct can
+    chosen_read g.D.Decoder.reader filter_alternatives filter_pick ghosts.eq ExtensibleMatch (value_meaning (tagged (context 9) matching_rule.meaning)) (λ w. refl) c.args.tag (of_number 9 c.args.tag (omega arith)) _ _ _ (λ w rest outer of_type valid at. moved_as g.D.Decoder.reader (c.in_ok-value-in-EXTENSIBLE_MATCH.ensures.read w (Some (codes "MatchingRuleAssertion")) rest outer can.1.1.1.1.1.1.1.1.1.0.0.1 of_type valid (inl can.1.1.1.1.1.1.1.1.1.0.0.0) at) (extensible_equal c.in_ok-value-in-EXTENSIBLE_MATCH.value w)) v rest outer distinct can
 
 pub read_alternative-returns-in_err-read_set-in-AND-clause-unknown : goal.read_alternative-returns-in_err-read_set-in-AND-clause-unknown
 read_alternative-returns-in_err-read_set-in-AND-clause-unknown g t c =
@@ -184,8 +184,8 @@ pub read_alternative-returns-in-NOT-clause-unknown : goal.read_alternative-retur
 read_alternative-returns-in-NOT-clause-unknown g t c =
     let is : c.args.tag ≡ context 2 = search rules in λ lacks. absurd (lacks.1.1.0 (is_had 2 c.args.tag is))
 
-pub read_alternative-returns-in_err-said-in-EQUALITY_MATCH-clause-unknown : goal.read_alternative-returns-in_err-said-in-EQUALITY_MATCH-clause-unknown
-read_alternative-returns-in_err-said-in-EQUALITY_MATCH-clause-unknown g t c =
+pub read_alternative-returns-in_err-value-in-EQUALITY_MATCH-clause-unknown : goal.read_alternative-returns-in_err-value-in-EQUALITY_MATCH-clause-unknown
+read_alternative-returns-in_err-value-in-EQUALITY_MATCH-clause-unknown g t c =
     let is : c.args.tag ≡ context 3 = search rules in λ lacks. absurd (lacks.1.1.1.0 (is_had 3 c.args.tag is))
 
 pub read_alternative-returns-in-EQUALITY_MATCH-clause-unknown : goal.read_alternative-returns-in-EQUALITY_MATCH-clause-unknown
@@ -202,13 +202,13 @@ read_alternative-returns-clause-read g t c =
       | And' shape filters ↦ search rules
       | Or' shape filters ↦ search rules
       | Not' place inner ↦ search rules
-      | EqualityMatch said ↦ search rules
-      | Substrings said ↦ search rules
-      | GreaterOrEqual said ↦ search rules
-      | LessOrEqual said ↦ search rules
+      | EqualityMatch value ↦ search rules
+      | Substrings value ↦ search rules
+      | GreaterOrEqual value ↦ search rules
+      | LessOrEqual value ↦ search rules
       | Present name ↦ search rules
-      | ApproxMatch said ↦ search rules
-      | ExtensibleMatch said ↦ search rules
+      | ApproxMatch value ↦ search rules
+      | ExtensibleMatch value ↦ search rules
     ]
 
 pub read_set-returns-in_err-filters-clause-read : goal.read_set-returns-in_err-filters-clause-read
