@@ -1,6 +1,6 @@
 //! The bytes of worked values, which were made by hand. The lines of `test_vectors` have those of every type; here is what no
 //! line says, since no bytes are read as such a value.
-use crate::cases::writes;
+use crate::cases::assert_bytes;
 use asn1_bench::BenchRules;
 use asn1_enc::Encode;
 use asn1_rules::Rules;
@@ -74,7 +74,7 @@ fn out_of_reach() -> Profile {
 #[test]
 fn a_group_of_nothing_is_written_as_absent(rt: HostRuntime) {
     let alloc = rt.alloc();
-    writes(&rt, &BenchRules::new(alloc), &out_of_reach(), PROFILE);
+    assert_bytes(&rt, &BenchRules::new(alloc), &out_of_reach(), PROFILE);
     let tags = TagRules::new(alloc);
-    writes(&rt, &tags, &out_of_reach(), PROFILE_WITHOUT_MARKS);
+    assert_bytes(&rt, &tags, &out_of_reach(), PROFILE_WITHOUT_MARKS);
 }

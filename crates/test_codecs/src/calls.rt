@@ -1,5 +1,5 @@
 //! Each call of the encoder and of the decoder, over the packed codec and over the tag form.
-use crate::cases::passes;
+use crate::cases::assert_passes;
 use asn1_bench::{ItemDecoder, ItemEncoder, PackedDecoder, PackedEncoder};
 use asn1_bounds::Codec;
 use asn1_dec::{Decode, DecodeError, Decoder};
@@ -67,8 +67,8 @@ impl CallRules for TagCalls {
 }
 
 fn calls_come_back_over<R: CallRules>(rt: &impl Abort, alloc: Global, rules: &R) {
-    passes(rt, "calls", calls::each_call_comes_back(rules, alloc));
-    passes(
+    assert_passes(rt, "calls", calls::each_call_comes_back(rules, alloc));
+    assert_passes(
         rt,
         "calls of samples",
         each_sample_call_comes_back(rules, alloc),

@@ -2,7 +2,7 @@
 //!
 //! `rt try --test --fail-alloc N` refuses the Nth growth of each test. Each case runs twice, so that one of the two has all its
 //! memory.
-use crate::der_cases::passes;
+use crate::cases::assert_passes;
 use crate::der_streams::ANN;
 use crate::rules::NULL;
 use asn1_der::{DerReader, DerRules};
@@ -19,7 +19,7 @@ fn a_refused_growth_is_told_of_each_type(rt: HostRuntime) {
     let rules = DerRules::new(alloc);
     let first = each_type_comes_back(&rules, alloc, NULL);
     let second = each_type_comes_back(&rules, alloc, NULL);
-    passes(&rt, "types", one_passes(first, second));
+    assert_passes(&rt, "types", one_passes(first, second));
 }
 
 #[test]
@@ -29,7 +29,7 @@ fn a_refused_growth_is_told_of_each_sample_type(rt: HostRuntime) {
     let case = ComesBack(&rules);
     let first = each_sample_passes(&case, alloc, NULL);
     let second = each_sample_passes(&case, alloc, NULL);
-    passes(&rt, "samples", one_passes(first, second));
+    assert_passes(&rt, "samples", one_passes(first, second));
 }
 
 /// Whether two persons are written one after another.
@@ -44,7 +44,7 @@ fn two_are_written(alloc: Global) -> Result<(), Failure> {
 #[test]
 fn a_refused_growth_is_told_of_a_list(rt: HostRuntime) {
     let first = two_are_written(rt.alloc());
-    passes(&rt, "list", one_passes(first, two_are_written(rt.alloc())));
+    assert_passes(&rt, "list", one_passes(first, two_are_written(rt.alloc())));
 }
 
 /// Whether a person is read from the front of its bytes.
@@ -59,5 +59,5 @@ fn front_is_read(alloc: Global) -> Result<(), Failure> {
 #[test]
 fn a_refused_growth_is_told_of_a_front(rt: HostRuntime) {
     let first = front_is_read(rt.alloc());
-    passes(&rt, "front", one_passes(first, front_is_read(rt.alloc())));
+    assert_passes(&rt, "front", one_passes(first, front_is_read(rt.alloc())));
 }

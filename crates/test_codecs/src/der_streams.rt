@@ -1,5 +1,5 @@
 //! Persons one after another, in DER that comes in pieces.
-use crate::der_cases::writes;
+use crate::cases::assert_der;
 use asn1_der::{DerReader, DerRules};
 use asn1_rules::{read_pieces, write_list};
 use asn1_samples::Person;
@@ -45,7 +45,7 @@ fn assert_read_cut(rt: &impl Abort, alloc: Global, persons: &[Person], bytes: &[
 #[test]
 fn a_person_is_ten_bytes(rt: HostRuntime) {
     let ann = person(&rt, rt.alloc(), 30, "Ann");
-    writes(&rt, rt.alloc(), &ann, ANN);
+    assert_der(&rt, rt.alloc(), &ann, ANN);
 }
 
 #[test]

@@ -23,8 +23,6 @@ mod cases;
 #[cfg(test)]
 mod depth;
 #[cfg(test)]
-mod der_cases;
-#[cfg(test)]
 mod der_memory;
 #[cfg(test)]
 mod der_streams;

@@ -2,7 +2,7 @@
 //!
 //! `rt try --test --fail-alloc N` refuses the Nth growth of each test. All is done twice, so that one of the two has its memory.
 use crate::bytes::{NULL, PLATE, written};
-use crate::cases::passes;
+use crate::cases::assert_passes;
 use asn1_bench::{BenchRules, ItemDecoder, PackedDecoder};
 use asn1_dec::{Decode, DecodeError, Decoder};
 use asn1_rules::Rules;
@@ -76,13 +76,13 @@ fn tells_of_refused_growths<R: Rules>(rt: &impl Abort, alloc: Global, rules: &R)
     let case = ComesBack(rules);
     let first = case.try_made(letters(alloc, b"AB").map(Plate));
     let second = case.try_made(letters(alloc, b"AB").map(Plate));
-    passes(rt, "plate", one_passes(first, second));
+    assert_passes(rt, "plate", one_passes(first, second));
     let first = each_type_comes_back(rules, alloc, NULL);
     let second = each_type_comes_back(rules, alloc, NULL);
-    passes(rt, "types", one_passes(first, second));
+    assert_passes(rt, "types", one_passes(first, second));
     let first = each_sample_passes(&case, alloc, NULL);
     let second = each_sample_passes(&case, alloc, NULL);
-    passes(rt, "samples", one_passes(first, second));
+    assert_passes(rt, "samples", one_passes(first, second));
 }
 
 #[test]

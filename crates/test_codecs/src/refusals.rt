@@ -1,6 +1,6 @@
 //! Bytes that are damaged, begun or told to be long. The lines of `test_vectors` say which bytes are refused, and by which error.
 use crate::bytes::{BADGE, OPEN, PERSON, PROFILE, PROFILE_WITHOUT_MARKS};
-use crate::cases::why_not_read;
+use crate::cases::read_error;
 use asn1_bench::{BenchReader, BenchRules, PackedDecoder};
 use asn1_dec::{Decode, DecodeError, Needed};
 use asn1_open::Open;
@@ -37,7 +37,7 @@ fn assert_too_short<T: Decode, R: Rules<Output = Vec<u8>>>(
     rules: &R,
     bytes: &[u8],
 ) {
-    let error = why_not_read::<T, R>(rt, alloc, rules, bytes);
+    let error = read_error::<T, R>(rt, alloc, rules, bytes);
     assert!(rt; matches!(error, Some(DecodeError::Incomplete(Needed::Size(_)))));
 }
 
@@ -46,7 +46,7 @@ fn assert_begun<T: Decode>(rt: &impl Abort, alloc: Global, bytes: &[u8]) {
     let rules = BenchRules::new(alloc);
     assert_too_short::<T, BenchRules>(rt, alloc, &rules, bytes);
     let front: Result<(T, usize), _> = BenchReader::new(alloc, 4).read_front(bytes);
-    assert!(rt; front.err() == why_not_read::<T, BenchRules>(rt, alloc, &rules, bytes));
+    assert!(rt; front.err() == read_error::<T, BenchRules>(rt, alloc, &rules, bytes));
 }
 
 fn assert_each_beginning<T: Decode>(rt: &impl Abort, alloc: Global, bytes: &[u8]) {

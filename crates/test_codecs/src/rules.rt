@@ -1,5 +1,5 @@
 //! The cases of every codec, over DER; and from DER to the packed codec and to the tag form, and back.
-use crate::der_cases::passes;
+use crate::cases::assert_passes;
 use asn1_bench::BenchRules;
 use asn1_der::{DerDecoder, DerEncoder, DerRules};
 use asn1_enc::EncodeError;
@@ -19,13 +19,13 @@ pub(crate) const NULL: &[u8] = &[5, 0];
 #[test]
 fn values_of_each_type_come_back(rt: HostRuntime) {
     let rules = DerRules::new(rt.alloc());
-    passes(&rt, "types", each_type_comes_back(&rules, rt.alloc(), NULL));
+    assert_passes(&rt, "types", each_type_comes_back(&rules, rt.alloc(), NULL));
 }
 
 #[test]
 fn values_of_the_sample_types_come_back(rt: HostRuntime) {
     let rules = DerRules::new(rt.alloc());
-    passes(&rt, "samples", samples_come_back(&rules, rt.alloc(), NULL));
+    assert_passes(&rt, "samples", samples_come_back(&rules, rt.alloc(), NULL));
 }
 
 /// The encoder and the decoder of DER.
@@ -59,8 +59,8 @@ impl CallRules for DerCalls {
 fn calls_come_back(rt: HostRuntime) {
     let alloc = rt.alloc();
     let rules = DerCalls { alloc };
-    passes(&rt, "calls", each_call_comes_back(&rules, alloc));
-    passes(
+    assert_passes(&rt, "calls", each_call_comes_back(&rules, alloc));
+    assert_passes(
         &rt,
         "calls of samples",
         each_sample_call_comes_back(&rules, alloc),
@@ -73,7 +73,7 @@ fn samples_go_to<R: Rules>(rt: &impl Abort, alloc: Global, there: &R) {
         here: &DerRules::new(alloc),
         there,
     };
-    passes(
+    assert_passes(
         rt,
         "there and back",
         each_closed_sample_passes(&case, alloc),

@@ -1,6 +1,6 @@
 //! The sample types, over the packed codec and over the tag form, and from one to the other.
 use crate::bytes::NULL;
-use crate::cases::passes;
+use crate::cases::assert_passes;
 use asn1_bench::BenchRules;
 use asn1_dec::DecodeError;
 use asn1_rules::{RecodeError, Rules};
@@ -11,7 +11,7 @@ use test_calls::made::list;
 use test_calls::{is_not_recoded, samples};
 
 fn samples_come_back_over<R: Rules>(rt: &impl Abort, alloc: Global, rules: &R) {
-    passes(
+    assert_passes(
         rt,
         "samples",
         samples::samples_come_back(rules, alloc, NULL),
@@ -32,7 +32,7 @@ fn samples_come_back_without_presence_marks(rt: HostRuntime) {
 fn samples_go_to_the_other_codec_and_back(rt: HostRuntime) {
     let packed = BenchRules::new(rt.alloc());
     let tagged = TagRules::new(rt.alloc());
-    passes(
+    assert_passes(
         &rt,
         "there and back",
         samples::samples_go_there_and_back(&packed, &tagged, rt.alloc(), NULL),
@@ -48,7 +48,7 @@ fn assert_not_recoded<A: Rules<Output = Vec<u8>>, B: Rules>(
 ) {
     let bytes = list(alloc, &[8]).expect(rt, "memory");
     let error = RecodeError::Read(DecodeError::Custom("bad item"));
-    passes(
+    assert_passes(
         rt,
         "no BOOLEAN",
         is_not_recoded::<bool, A, B>(here, &bytes, there, error),

@@ -1,5 +1,5 @@
 //! Values that hold others.
-use crate::der_cases::{rejects, writes};
+use crate::cases::{assert_der, assert_no_der};
 use asn1_buffers::{MarkKind, RecordBuffer, ScopeKind, WriteError};
 use asn1_der::DerBuffer;
 use asn1_items::Content;
@@ -19,7 +19,7 @@ fn set_of(rt: &impl Abort, alloc: Global, elements: &[i32]) -> SetOf<i32> {
 fn the_elements_of_a_set_rise_by_their_encodings(rt: HostRuntime) {
     let alloc = rt.alloc();
     let numbers = set_of(&rt, alloc, &[300, -1, 2, 0, 2]);
-    writes(
+    assert_der(
         &rt,
         alloc,
         &numbers,
@@ -27,7 +27,7 @@ fn the_elements_of_a_set_rise_by_their_encodings(rt: HostRuntime) {
             0x31, 16, 2, 1, 0, 2, 1, 2, 2, 1, 2, 2, 1, 0xff, 2, 2, 0x01, 0x2c,
         ],
     );
-    writes(&rt, alloc, &set_of(&rt, alloc, &[]), &[0x31, 0]);
+    assert_der(&rt, alloc, &set_of(&rt, alloc, &[]), &[0x31, 0]);
 }
 
 /// Appends a NULL under a tag.
@@ -99,11 +99,11 @@ fn open_type(rt: &impl Abort, alloc: Global, bytes: &[u8]) -> Any {
 fn an_open_type_is_one_element(rt: HostRuntime) {
     let alloc = rt.alloc();
     let text = "an open type is not one element";
-    writes(&rt, alloc, &open_type(&rt, alloc, &[5, 0]), &[5, 0]);
-    rejects(&rt, alloc, &open_type(&rt, alloc, &[]), text);
-    rejects(&rt, alloc, &open_type(&rt, alloc, &[5]), text);
-    rejects(&rt, alloc, &open_type(&rt, alloc, &[5, 0, 5, 0]), text);
-    rejects(&rt, alloc, &open_type(&rt, alloc, &[5, 0x81, 0]), text);
+    assert_der(&rt, alloc, &open_type(&rt, alloc, &[5, 0]), &[5, 0]);
+    assert_no_der(&rt, alloc, &open_type(&rt, alloc, &[]), text);
+    assert_no_der(&rt, alloc, &open_type(&rt, alloc, &[5]), text);
+    assert_no_der(&rt, alloc, &open_type(&rt, alloc, &[5, 0, 5, 0]), text);
+    assert_no_der(&rt, alloc, &open_type(&rt, alloc, &[5, 0x81, 0]), text);
 }
 
 #[test]
@@ -124,7 +124,7 @@ fn a_component_that_is_its_default_has_no_bytes(rt: HostRuntime) {
         name: None,
         paid: false,
     };
-    writes(&rt, alloc, &ticket, &[0x31, 3, 0x80, 1, 5]);
+    assert_der(&rt, alloc, &ticket, &[0x31, 3, 0x80, 1, 5]);
     ticket.paid = true;
-    writes(&rt, alloc, &ticket, &[0x31, 6, 0x80, 1, 5, 0x82, 1, 0xff]);
+    assert_der(&rt, alloc, &ticket, &[0x31, 6, 0x80, 1, 5, 0x82, 1, 0xff]);
 }

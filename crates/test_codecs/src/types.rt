@@ -1,6 +1,6 @@
 //! A value of each type, and what no codec reads, over the packed codec and over the tag form.
 use crate::bytes::NULL;
-use crate::cases::passes;
+use crate::cases::assert_passes;
 use asn1_bench::BenchRules;
 use asn1_rules::Rules;
 use asn1_tagform::TagRules;
@@ -9,7 +9,7 @@ use std::process::Abort;
 use test_calls::types::each_type_comes_back;
 
 fn values_come_back_over<R: Rules>(rt: &impl Abort, alloc: Global, rules: &R) {
-    passes(rt, "types", each_type_comes_back(rules, alloc, NULL));
+    assert_passes(rt, "types", each_type_comes_back(rules, alloc, NULL));
 }
 
 #[test]
