@@ -23,21 +23,21 @@ index_of (constraint.Size part) = 1
 index_of (constraint.PermittedAlphabet part) = 2
 index_of constraint.Extensible = 3
 
--- its part on values, where it is of that kind
+-- its part on values, if it is of that kind
 abbrev pub value_of : Constraint → Option (Extensible Value)
 value_of (constraint.Value part) = Some part
 value_of (constraint.Size part) = None
 value_of (constraint.PermittedAlphabet part) = None
 value_of constraint.Extensible = None
 
--- its part on lengths, where it is of that kind
+-- its part on lengths, if it is of that kind
 abbrev pub size_of : Constraint → Option (Extensible Size)
 size_of (constraint.Value part) = None
 size_of (constraint.Size part) = Some part
 size_of (constraint.PermittedAlphabet part) = None
 size_of constraint.Extensible = None
 
--- its part on characters, where it is of that kind
+-- its part on characters, if it is of that kind
 abbrev pub alphabet_of : Constraint → Option (Extensible PermittedAlphabet)
 alphabet_of (constraint.Value part) = None
 alphabet_of (constraint.Size part) = None

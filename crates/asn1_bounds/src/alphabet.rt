@@ -31,7 +31,7 @@ impl Model for PermittedAlphabet {
 impl PermittedAlphabet {
     ghost use Rattle.asn1_bounds.specs.Admitted.{IsPermitted, is_permitted, common_characters};
 
-    /// The constraint to these characters. Fails only where the allocator refuses room for them.
+    /// The constraint to these characters. Fails only if the allocator refuses room for them.
     pub fn new(alloc: Global, alphabet: &[u32]) -> Result<Self, AllocError>
         ensures { IfOk result (λ permitted. permitted ≡ alphabet.now) }
     {
@@ -55,7 +55,7 @@ impl PermittedAlphabet {
         self.characters.contains(&character)
     }
 
-    /// The same alphabet once more. Fails only where the allocator refuses room for it.
+    /// The same alphabet once more. Fails only if the allocator refuses room for it.
     pub fn try_clone(&self, alloc: Global) -> Result<Self, AllocError>
         ensures { IfOk result (λ copy. copy ≡ self.now) }
     {
@@ -63,7 +63,7 @@ impl PermittedAlphabet {
     }
 
     /// The constraint to the characters of both: those of this one that are in the other, in this one's order and as
-    /// often as they are in it. Fails only where the allocator refuses room for them.
+    /// often as they are in it. Fails only if the allocator refuses room for them.
     pub fn intersect(&self, alloc: Global, other: &Self) -> Result<Self, AllocError>
         ensures shape { IfOk result (λ both. both ≡ common_characters self.now other.now) }
         ensures members { IfOk result (λ both. (character : _) → IsPermitted both character ↔

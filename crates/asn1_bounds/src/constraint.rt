@@ -104,7 +104,7 @@ impl<'a> Constraint<'a> {
         }
     }
 
-    /// The same constraint once more. Fails only where it is of characters and the allocator refuses room for them.
+    /// The same constraint once more. Fails only if it is of characters and the allocator refuses room for them.
     pub fn try_clone(&self, alloc: Global) -> Result<Self, AllocError>
         ensures copy { IfOk result (λ copy. copy ≡ self.now) }
         ensures without_alphabet { IsNone (alphabet_of self.now) → IsOk result }

@@ -13,7 +13,7 @@ use std::alloc::{AllocError, Global};
 
 /// The constraints of a type: at most one part of each kind, and the extension marker.
 ///
-/// A call that makes a set fails only where the allocator refuses room for a permitted alphabet. If no argument has
+/// A call that makes a set fails only if the allocator refuses room for a permitted alphabet. If no argument has
 /// one, it takes no memory and succeeds.
 #[derive(Debug, Drop)]
 pub struct Constraints<'a> {

@@ -14,7 +14,7 @@ use std::alloc::{AllocError, Global};
 pub struct Extensible<'a, T> {
     /// The constraint of the extension root.
     pub constraint: T,
-    /// The additions of an extensible constraint; `None` where it is not extensible.
+    /// The additions of an extensible constraint; `None` if it is not extensible.
     pub extensible: Option<&'a [T]>,
 }
 
@@ -102,7 +102,7 @@ impl Extensible<'_, PermittedAlphabet> {
     ghost use Rattle.asn1_bounds.specs.Admitted.{common_characters};
     ghost use Rattle.asn1_bounds.specs.Sets.{part_intersection};
 
-    /// The intersection of both constraints: extensible only if both are, with the additions of this one. Fails only where
+    /// The intersection of both constraints: extensible only if both are, with the additions of this one. Fails only if
     /// the allocator refuses room for the characters.
     pub fn intersect(&self, alloc: Global, other: &Self) -> Result<Self, AllocError>
         ensures { IfOk result (λ both. both ≡
@@ -114,7 +114,7 @@ impl Extensible<'_, PermittedAlphabet> {
         })
     }
 
-    /// The same constraint once more, with the same additions. Fails only where the allocator refuses room for the
+    /// The same constraint once more, with the same additions. Fails only if the allocator refuses room for the
     /// characters.
     pub fn try_clone(&self, alloc: Global) -> Result<Self, AllocError>
         ensures { IfOk result (λ copy. copy ≡ self.now) }

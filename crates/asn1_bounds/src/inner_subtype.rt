@@ -21,7 +21,7 @@ pub trait InnerSubtypeConstraint: Sized {
     /// The value, where the constraint admits it. With a codec, what components contain in that codec's bytes is decoded
     /// and has to meet the constraint too; without one it is not looked at.
     ///
-    /// [`InnerSubtypeConstraintError::Memory`] comes only where memory was needed and there was none.
+    /// [`InnerSubtypeConstraintError::Memory`] comes only if memory was needed and there was none.
     fn validate_and_decode_containing(
         self,
         alloc: Global,

@@ -27,7 +27,7 @@ pub struct ConstraintTable<'a> {
 struct AlphabetTable<'a> {
     // The characters of the extension root.
     root: &'a [u32],
-    // The additions of an extensible part; `None` where it is not extensible.
+    // The additions of an extensible part; `None` if it is not extensible.
     extensible: Option<&'a [PermittedAlphabet]>,
 }
 
@@ -109,7 +109,7 @@ impl<'a> ConstraintTable<'a> {
         }
     }
 
-    /// The set of the constraints. Takes memory only for a permitted alphabet, and fails only where the allocator
+    /// The set of the constraints. Takes memory only for a permitted alphabet, and fails only if the allocator
     /// refuses it.
     #[inline(always)]
     pub fn to_constraints(&self, alloc: Global) -> Result<Constraints<'a>, AllocError>

@@ -85,7 +85,7 @@ impl<T: FitsI128> From<Bounded<T>> for Value {
     }
 }
 
-// The end as an `i128`, where there is one.
+// The end as an `i128`, if there is one.
 fn widened<T: FitsI128>(end: Option<T>) -> Option<i128>
     ensures { result ≡ option_map T.number end }
 {

@@ -45,7 +45,7 @@ abbrev pub trees_of : List Alternative → Trees
 trees_of [] = none
 trees_of (a ∷ alts) = more a.type.tree (trees_of alts)
 
--- the same of those after the extension marker, where there is one
+-- the same of those after the extension marker, if there is one
 abbrev pub added_trees_of : Alternatives → Option Trees
 added_trees_of (closed root) = None
 added_trees_of (extensible root added) = Some (trees_of added)

@@ -84,17 +84,17 @@ abbrev pub has_marker : {V : Type 0} → Extension V → Bool
 has_marker no_marker = false
 has_marker (marker additions) = true
 
--- the additions, none where there is no marker
+-- the additions, none if there is no marker
 abbrev pub additions_of : {V : Type 0} → Extension V → List (ComponentType V)
 additions_of no_marker = []
 additions_of (marker additions) = additions
 
--- how many components come before the extension marker, where there is one
+-- how many components come before the extension marker, if there is one
 abbrev pub index_of_marker : {V : Type 0} → Extension V → ℕ → Option ℕ
 index_of_marker no_marker k = None
 index_of_marker (marker additions) k = Some k
 
--- these lines after the extension marker, where there is one
+-- these lines after the extension marker, if there is one
 abbrev pub after_marker : {V : Type 0} → Extension V → List Line → Option (List Line)
 after_marker no_marker lines = None
 after_marker (marker additions) lines = Some lines
@@ -105,7 +105,7 @@ split_at_marker ls None = record { root = ls; additions = None }
 split_at_marker ls (Some k) = record { root = take k ls; additions = Some (drop k ls) }
 
 module _ {V : Type 0} (components : Components V) where
-  -- the additions, none where there is no extension marker
+  -- the additions, none if there is no extension marker
   abbrev pub added : List (ComponentType V)
   added = additions_of components.extension
 
@@ -132,7 +132,7 @@ module _ {V : Type 0} (components : Components V) where
   abbrev pub lines : Table Line
   lines = record { root = map line_of root_entries; additions = after_marker components.extension (map line_of added_entries) }
 
-  -- how many components come before the extension marker, where there is one
+  -- how many components come before the extension marker, if there is one
   abbrev pub extension_index : Option ℕ
   extension_index = index_of_marker components.extension (length components.root)
 

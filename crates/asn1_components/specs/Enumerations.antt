@@ -26,7 +26,7 @@ closed root = record { root = root; additions = None }
 abbrev pub extensible : {V : Type 0} → List (Item V) → List (Item V) → Enumeration V
 extensible root additions = record { root = root; additions = Some additions }
 
--- the items after the extension marker, none where there is no marker
+-- the items after the extension marker, none if there is no marker
 abbrev pub added : {V : Type 0} → Enumeration V → List (Item V)
 added e = unwrap_or e.additions []
 

@@ -4,7 +4,7 @@ use Rattle.std.specs.Option.{option_map}
 use Rattle.asn1_model.specs.RecordTables.{Label, Table}
 use Rattle.asn1_components.specs.Enumerations.{Enumeration, Item}
 
--- the labels of the items of the root, and where there is an extension marker, of those after the marker
+-- the labels of the items of the root, and if there is an extension marker, of those after the marker
 abbrev pub Labels : Type 0
 Labels = Table Label
 
@@ -15,7 +15,7 @@ label_of i = record { number = i.number; name = i.name }
 abbrev pub labels_of : {V : Type 0} → Enumeration V → Labels
 labels_of e = record { root = map label_of e.root; additions = option_map (map label_of) e.additions }
 
--- the labels after the extension marker, none where there is no marker
+-- the labels after the extension marker, none if there is no marker
 abbrev pub added_labels : Labels → List Label
 added_labels ls = unwrap_or ls.additions []
 

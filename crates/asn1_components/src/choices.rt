@@ -25,7 +25,7 @@ pub trait Choice {
     fn variants() -> &'static [TagTree<'static>]
         ensures { shapes result.now ≡ trees_of (root_of alternatives) };
 
-    /// The trees of the alternatives after the extension marker; `None` where there is no marker.
+    /// The trees of the alternatives after the extension marker; `None` if there is no marker.
     fn extended_variants() -> Option<&'static [TagTree<'static>]>
         ensures { option_map shapes (option_copied result) ≡ added_trees_of alternatives };
 
@@ -76,7 +76,7 @@ pub fn the_chosen_tag_identifies_the_alternative<T: ChoiceType>()
 {}
 
 /// The table that records have of a CHOICE is what the calls of the type answer: the trees of the root are those of `variants`
-/// (`root`), where there is an extension marker those after it are those of `extended_variants` (`additions`), the names are
+/// (`root`), if there is an extension marker those after it are those of `extended_variants` (`additions`), the names are
 /// those of `identifiers` (`names`), and no alternative may be absent (`always_there`).
 pub fn alternatives_are_as_in_records<T: Choice>()
     ensures root { trees_in (table_of T.alternatives).root ≡ trees_of (root_of T.alternatives) }

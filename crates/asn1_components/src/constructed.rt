@@ -33,7 +33,7 @@ pub trait Constructed<const RL: usize, const EL: usize>: FieldTable {
         Fields::from_slice(Self::root_fields()).unwrap()
     }
 
-    /// The additions, as a table; `None` where there is no extension marker.
+    /// The additions, as a table; `None` if there is no extension marker.
     final fn extended_fields() -> Option<Fields<'static, EL>>
         ensures { MatchOption result (has_marker Self.components.extension ≡ false)
             (λ table. (has_marker Self.components.extension ≡ true) ×
@@ -52,7 +52,7 @@ pub trait Constructed<const RL: usize, const EL: usize>: FieldTable {
     ghost additions_length: { length (added_entries Self.components) ≡ EL };
 }
 
-/// The field at an index of two tables, the root's and that of the additions; `None` where there is none. For the
+/// The field at an index of two tables, the root's and that of the additions; `None` if there is none. For the
 /// `field_at` of a type that has them.
 pub fn field_in(
     root: &[Field<'static>],

@@ -26,7 +26,7 @@ pub trait Enumerated: AsnType + EnumeratedItems {
         VariantIter::new(Self::items())
     }
 
-    /// The values after the extension marker, in order, `None` where there is no marker: rasn's `EXTENDED_VARIANTS`.
+    /// The values after the extension marker, in order, `None` if there is no marker: rasn's `EXTENDED_VARIANTS`.
     final fn extended_variants<'a>() -> Option<VariantIter<'a, Self>>
         ensures { option_map variants_left result ≡ option_map values Self.enumeration.additions }
     {
@@ -40,7 +40,7 @@ pub trait Enumerated: AsnType + EnumeratedItems {
         DiscriminantIter::new(Self::items())
     }
 
-    /// The values after the extension marker with their numbers, in order, `None` where there is no marker: rasn's
+    /// The values after the extension marker with their numbers, in order, `None` if there is no marker: rasn's
     /// `EXTENDED_DISCRIMINANTS`.
     final fn extended_discriminants<'a>() -> Option<DiscriminantIter<'a, Self>>
         ensures { option_map discriminants_left result ≡ option_map numbers Self.enumeration.additions }
@@ -113,7 +113,7 @@ pub trait Enumerated: AsnType + EnumeratedItems {
         }
     }
 
-    /// The value of that number; `None` where no value has it.
+    /// The value of that number; `None` if no value has it.
     final fn from_discriminant(discriminant: isize) -> Option<Self>
         ensures back { (v : Self) → number_of Self.eq Self.enumeration v ≡ discriminant →
             result ≡ Some v }
@@ -122,21 +122,21 @@ pub trait Enumerated: AsnType + EnumeratedItems {
         with_number(discriminant, Self::items(), added_lines::<Self>())
     }
 
-    /// The value at that index of the root; `None` where there is none.
+    /// The value at that index of the root; `None` if there is none.
     final fn from_enumeration_index(index: usize) -> Option<Self>
         ensures { result ≡ slice_get (values Self.enumeration.root) index }
     {
         value_at(Self::items(), index)
     }
 
-    /// The value at that index after the extension marker; `None` where there is none.
+    /// The value at that index after the extension marker; `None` if there is none.
     final fn from_extended_enumeration_index(index: usize) -> Option<Self>
         ensures { result ≡ slice_get (values (added Self.enumeration)) index }
     {
         value_at(added_lines::<Self>(), index)
     }
 
-    /// The value of that name; `None` where no value has it.
+    /// The value of that name; `None` if no value has it.
     final fn from_identifier(identifier: &str) -> Option<Self>
         ensures back { (v : Self) → name_of Self.eq Self.enumeration v ≡ identifier.now →
             result ≡ Some v }
@@ -164,7 +164,7 @@ pub fn written_number<T: Enumerated>(value: &T) -> isize
     value.discriminant()
 }
 
-// The items after the extension marker, none where there is no marker.
+// The items after the extension marker, none if there is no marker.
 pub(crate) fn added_lines<T: EnumeratedItems>() -> &'static [EnumerationItem<T>]
     ensures { table_items result.now ≡ added T.enumeration }
 {
@@ -230,7 +230,7 @@ fn index_in<T: Eq>(value: &T, table: &[EnumerationItem<T>]) -> Option<usize>
     table.iter().position(|line| line.value == *value)
 }
 
-// The value at an index of a table; `None` where there is none.
+// The value at an index of a table; `None` if there is none.
 fn value_at<T: Copy>(table: &[EnumerationItem<T>], index: usize) -> Option<T>
     ensures { result ≡ option_map (λ l. l.value) (slice_get table.now index) }
 {

@@ -16,7 +16,7 @@ pub trait EnumeratedItems: Sized + Copy + Eq + 'static {
     fn items() -> &'static [EnumerationItem<Self>]
         ensures { table_items result.now ≡ enumeration.root };
 
-    /// The items after the extension marker; `None` where there is no marker.
+    /// The items after the extension marker; `None` if there is no marker.
     fn added_items() -> Option<&'static [EnumerationItem<Self>]>
         ensures { option_map table_items (option_copied result) ≡ enumeration.additions };
 }

@@ -19,32 +19,32 @@ pub trait EnumeratedTable {
     fn root_count() -> usize
         ensures { result ≡ length labels.root };
 
-    /// How many items there are after the extension marker; `None` where there is no marker.
+    /// How many items there are after the extension marker; `None` if there is no marker.
     fn added_count() -> Option<usize>
         ensures { result ≡ option_map length labels.additions };
 
-    /// The number of the item at that index of the root; `None` where there is none.
+    /// The number of the item at that index of the root; `None` if there is none.
     fn root_number(index: usize) -> Option<isize>
         ensures { result ≡ slice_get (numbers_in labels.root) index };
 
-    /// The number of the item at that index after the extension marker; `None` where there is none.
+    /// The number of the item at that index after the extension marker; `None` if there is none.
     fn added_number(index: usize) -> Option<isize>
         ensures { result ≡ slice_get (numbers_in (added_labels labels)) index };
 
-    /// The index in the root of the item of that number; `None` where there is none.
+    /// The index in the root of the item of that number; `None` if there is none.
     fn root_index(number: isize) -> Option<usize>
         ensures { result ≡ position (λ n. int_eq n number) (numbers_in labels.root) };
 
-    /// The index after the extension marker of the item of that number; `None` where there is none.
+    /// The index after the extension marker of the item of that number; `None` if there is none.
     fn added_index(number: isize) -> Option<usize>
         ensures { result ≡ position (λ n. int_eq n number) (numbers_in (added_labels labels)) };
 
-    /// The name of the item of that number; `None` where there is none.
+    /// The name of the item of that number; `None` if there is none.
     fn name_of_number(number: isize) -> Option<&'static str>
         ensures { option_map (λ name. name.now) result ≡
             option_map (λ l. l.name) (find (λ l. int_eq l.number number) (all_labels labels)) };
 
-    /// The number of the item of that name; `None` where there is none.
+    /// The number of the item of that name; `None` if there is none.
     fn number_of_name(name: &str) -> Option<isize>
         ensures { result ≡
             option_map (λ l. l.number) (find (λ l. bytes_eq l.name name.now) (all_labels labels)) };
@@ -93,7 +93,7 @@ impl<E: Enumerated> EnumeratedTable for E {
     }
 }
 
-// The number at an index of a table; `None` where there is none.
+// The number at an index of a table; `None` if there is none.
 fn number_at<T>(table: &[EnumerationItem<T>], index: usize) -> Option<isize>
     ensures { result ≡ option_map (λ l. l.number) (slice_get table.now index) }
 {

@@ -19,11 +19,11 @@ pub trait FieldTable {
     fn field_count() -> usize
         ensures { result ≡ length (table components) };
 
-    /// The field at an index of the table; `None` where there is none.
+    /// The field at an index of the table; `None` if there is none.
     fn field_at(index: usize) -> Option<Field<'static>>
         ensures { option_map entry_of result ≡ slice_get (table components) index };
 
-    /// How many fields come before the extension marker, which are those of the root; `None` where there is no marker.
+    /// How many fields come before the extension marker, which are those of the root; `None` if there is no marker.
     fn extension_index() -> Option<usize>
         ensures { result ≡ extension_index components };
 }

@@ -46,8 +46,6 @@ test-from_IsCanonical (a ∷ (b ∷ cs)) h =
     (test-from_IsCanonical (b ∷ cs)
     (λ k c d e f. h (suc k) c d e (ap (slice_get (a ∷ (b ∷ cs))) (add-one (suc k)) ∙ (sym (ap (slice_get (b ∷ cs)) (add-one k)) ∙ f))))
 
-pub ruleset canonical_tests = (IsCanonical-from_test, test-from_IsCanonical)
-
 -- Values of any kind, each seen as a component.
 module _ {X : Type 0} (seen : X → Component) where
   -- neighbours that are all in order

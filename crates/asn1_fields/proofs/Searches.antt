@@ -70,9 +70,6 @@ abbrev pub IsLeft : (Component → List Component → List Component) → List F
 IsLeft others fs i = first_clash others (components fs) ≡ shifted i (first_clash others (components (drop i fs)))
 
 module _ (others : Component → List Component → List Component) (fs : List Field) where
-  pub search_starts : IsLeft others fs 0
-  search_starts = shifted-zero (first_clash others (components fs))
-
   pub search_ends : (i : ℕ) → length fs ≤ i → IsLeft others fs i → first_clash others (components fs) ≡ None
   search_ends i past left = left ∙ ap (λ gs. shifted i (first_clash others (components gs))) (drop_all i fs past)
 

@@ -6,7 +6,7 @@ ghost use Rattle.asn1_fields.specs.Entries.{component_of, components, entry_of, 
 
 use crate::field::Field;
 
-/// The least pair of indices whose fields share a tag although a SEQUENCE forbids it; `None` where there is
+/// The least pair of indices whose fields share a tag although a SEQUENCE forbids it; `None` if there is
 /// no such pair (X.680, 25.6 and 25.6.1).
 ///
 /// The first of the two may be absent. The second is after it, up to and including the next field that is always
@@ -25,7 +25,7 @@ pub fn first_sequence_clash(fields: &[Field<'_>]) -> Option<(usize, usize)>
 }
 
 /// The least pair of indices whose fields have a tag in common, which no two components of a SET may have; `None`
-/// where there is no such pair (X.680, 27.3).
+/// if there is no such pair (X.680, 27.3).
 pub fn first_set_clash(fields: &[Field<'_>]) -> Option<(usize, usize)>
     ensures least { IsLeast (IsSetClash (components fields.now)) result }
     ensures report { result ≡ set_clash (components fields.now) }

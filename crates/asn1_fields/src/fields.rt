@@ -34,7 +34,7 @@ impl<'a, const N: usize> Fields<'a, N> {
         }
     }
 
-    /// The table of the fields in a slice, and `None` where these are not `N`.
+    /// The table of the fields in a slice, and `None` if these are not `N`.
     pub fn from_slice(fields: &'a [Field<'a>]) -> Option<Self>
         ensures counted { IsSome result ↔ (length fields.now ≡ N) }
         ensures table { IfSome result (λ table. fields_of table ≡ fields.now) }

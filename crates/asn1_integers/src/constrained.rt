@@ -77,14 +77,6 @@ impl<L: Limits> LimitedInteger<L> {
         }
     }
 
-    /// The number, if it is within the limits.
-    pub fn from_i64(number: i64) -> Option<Self>
-        ensures within { IsSome result ↔ ((L.start ≤ℤ number) × (number ≤ℤ L.end)) }
-        ensures same { IfSome result (λ limited. limited ≡ number) }
-    {
-        Self::new(Integer::from(number))
-    }
-
     /// The number.
     pub fn get(&self) -> &Integer
         ensures same { result.now ≡ self.now }

@@ -51,7 +51,7 @@ impl Integer {
     }
 
     /// The number of a sign and a magnitude, whose bytes go from the most significant to the least.
-    /// Leading zeros count for nothing, and a negative zero is 0. Memory is taken only where the number
+    /// Leading zeros count for nothing, and a negative zero is 0. Memory is taken only if the number
     /// is no `i128`.
     pub fn from_sign_magnitude(
         alloc: Global,
@@ -127,7 +127,7 @@ impl Integer {
 
     /// The same number again.
     ///
-    /// Fails only where the allocator refuses room for it; a number of an `i128` takes none.
+    /// Fails only if the allocator refuses room for it; a number of an `i128` takes none.
     #[inline(always)]
     pub fn try_clone(&self, alloc: Global) -> Result<Self, AllocError>
         ensures number { IfOk result (λ copy. copy ≡ self.now) }

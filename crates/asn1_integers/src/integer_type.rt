@@ -29,7 +29,7 @@ pub trait IntegerType: Sized {
     fn is_negative(&self) -> bool
         ensures { IsTrue result ↔ (number self.now <ℤ pos 0) };
 
-    /// The number as an [`Integer`], which takes memory only where the number is no `i128`.
+    /// The number as an [`Integer`], which takes memory only if the number is no `i128`.
     fn to_integer(&self, alloc: Global) -> Result<Integer, AllocError>
         ensures same_number { IfOk result (λ integer. integer ≡ number self.now) }
         ensures fitting { fits (number self.now) }

@@ -25,9 +25,9 @@
 //! - An `Integer` is written as `integer_text` of `specs/Text.antt`: in decimal what an `i128` holds, else in hexadecimal.
 //! - `IntegerType::try_from_integer` answers if and only if the number fits the type (`fitting`), and with
 //!   the value of that number (`same_number`). Two values with one number are equal (`injective`).
-//! - `LimitedInteger::new` and `from_i64` succeed if and only if the number is within the limits (`within`).
+//! - `LimitedInteger::new` succeeds if and only if the number is within the limits (`within`).
 //!
-//! Calls that take memory take the allocator, and fail only where there is none: `from_sign_magnitude`,
+//! Calls that take memory take the allocator, and fail only if memory runs out: `from_sign_magnitude`,
 //! `sign_magnitude`, `try_clone` and `to_integer`. All but the second take none for a number of 128 bits
 //! (`succeeds`).
 #![tactic(auto)]

@@ -148,9 +148,6 @@ same-marks_alone (r ∷ rs) (s ∷ ss) all =
     let both = SameAll-cons all in
     ap (λ b. b && presence_marks_alone rs) (same-mark both.0) ∙ ap (λ b. is_presence_mark s && b) (same-marks_alone rs ss both.1)
 
-pub same-highest : (rs ss : List Record) → SameAll (held rs) (held ss) → highest rs ≡ highest ss
-same-highest rs ss all = sym (inner_height-held rs) ∙ (same-inner_height all ∙ inner_height-held ss)
-
 -- and begin with the same tags
 pub same-first_tags : (rs ss : List Record) → SameRecords rs ss → first_tags rs ≡ first_tags ss
 same-first_tags [] [] all = refl

@@ -66,7 +66,7 @@ option_records side t (Some rs) = presence_mark (present side t) ∷ rs
 abbrev pub default_records : Side → Bool → Tag → List Record → List Record
 default_records side is_default t rs = option_records side t (if is_default then None else Some rs)
 
--- An extension addition group is between two presence marks. It is absent where there is none, and where its components are
+-- An extension addition group is between two presence marks. It is absent if there is none, and where its components are
 -- marks alone, as PER has it (X.691, 19.9).
 abbrev pub group_records : Table Line → Option (List Record) → List Record
 group_records table None = presence_mark group_absent ∷ []

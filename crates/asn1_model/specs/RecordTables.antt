@@ -15,7 +15,7 @@ pub record Label : Type 0 where
   pub number : ℤ
   pub name : List ℕ
 
--- A table: what is in the root, and where there is an extension marker, what comes after it (X.680,
+-- A table: what is in the root, and if there is an extension marker, what comes after it (X.680,
 -- 25.1, 29.1 and 20.1).
 pub record Table (L : Type 0) : Type 0 where
   pub root : List L

@@ -9,7 +9,7 @@ use Rattle.asn1_model.specs.RecordTables.{Label, Line, Table}
 abbrev pub Name : Type 0
 Name = Option (List ℕ)
 
--- the name, or the type's own where there is none
+-- the name, or the type's own if there is none
 abbrev pub name_or : Name → Name → Name
 name_or None own = own
 name_or (Some text) own = Some text

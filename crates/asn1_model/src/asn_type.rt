@@ -74,7 +74,7 @@ pub trait AsnType {
         Self::table().identifier
     }
 
-    /// The type's constraints. Takes memory only where a permitted alphabet is among them, and fails only where the
+    /// The type's constraints. Takes memory only if a permitted alphabet is among them, and fails only if the
     /// allocator refuses it.
     #[inline(always)]
     final fn constraints(alloc: Global) -> Result<Constraints<'static>, AllocError>

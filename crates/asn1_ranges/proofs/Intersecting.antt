@@ -139,7 +139,7 @@ module _ {T : Type 0} (number : T → ℤ) where
   intersection-members (bounded.Range s e) (bounded.Single w) = common-members (bounded.Range s e) (bounded.Single w)
   intersection-members (bounded.Range s e) (bounded.Range s' e') = common-members (bounded.Range s e) (bounded.Range s' e')
 
-  -- where there is no intersection, nothing is in common
+  -- if there is no intersection, nothing is in common
   pub intersection-disjoint : (a b : Bounded T) → IfNone (intersection number a b) ((n : ℤ) → IsMember number a n → IsMember number b n → ⊥)
   intersection-disjoint bounded.None b = tt
   intersection-disjoint (bounded.Single v) bounded.None = tt

@@ -1,5 +1,5 @@
 -- The comparison and the hash of bounds, and the promises of derived comparisons and copies.
-use Rattle.std.specs.Prelude.{◌≡◌, ◌↔◌, ℕ, pos, Bool, true, false, ◌&&◌, IsTrue, List, ◌++◌, Option}
+use Rattle.std.specs.Prelude.{◌≡◌, ◌↔◌, ℕ, pos, Bool, true, false, ◌&&◌, IsTrue, List, ◌++◌}
 use Rattle.std.specs.Hash as fed
 use Rattle.std.specs.Option.{option_eq, option_cmp}
 use Rattle.std.specs.Ordering.{ordering_then}

@@ -6,7 +6,7 @@ abbrev pub at_least_zero : ℤ → ℕ
 at_least_zero (pos n) = n
 at_least_zero (negsuc n) = 0
 
--- how many whole numbers there are from the first to the last: none where the first is above the last
+-- how many whole numbers there are from the first to the last: none if the first is above the last
 abbrev pub numbers_between : ℤ → ℤ → ℕ
 numbers_between first last = at_least_zero (last -ℤ first +ℤ pos 1)
 

@@ -18,7 +18,7 @@ module _ {T : Type 0} (number : T → ℤ) where
   lesser_end (Some x) None = Some x
   lesser_end (Some x) (Some y) = Some (if int_lt (number y) (number x) then y else x)
 
-  -- the bound between two ends, a single or a range, and none where the start is above the end
+  -- the bound between two ends, a single or a range, and none if the start is above the end
   abbrev pub bound_between : Bool → Option T → Option T → Option (Bounded T)
   bound_between single (Some s) (Some e) =
       if int_lt (number e) (number s) then None else Some (if single then bounded.Single s else bounded.Range (Some s) (Some e))

@@ -8,11 +8,11 @@ use Rattle.asn1_ranges.specs.declared.bounded.Bounded.TheVariants.{None, Single,
 use Rattle.asn1_ranges.specs.Ends.{start_of, end_of}
 
 module _ {T : Type 0} (number : T → ℤ) where
-  -- not below the start, where there is one
+  -- not below the start, if there is one
   abbrev pub IsFrom : Option T → ℤ → Type 0
   IsFrom start n = MatchOption start ⊤ (λ s. number s ≤ℤ n)
 
-  -- not above the end, where there is one
+  -- not above the end, if there is one
   abbrev pub IsUpTo : Option T → ℤ → Type 0
   IsUpTo end n = MatchOption end ⊤ (λ e. n ≤ℤ number e)
 

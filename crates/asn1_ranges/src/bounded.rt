@@ -64,7 +64,7 @@ impl<T> Bounded<T> {
         }
     }
 
-    /// The start, where there is one. A single is its own start.
+    /// The start, if there is one. A single is its own start.
     pub fn as_start(&self) -> Option<&T>
         ensures { option_copied result ≡ start_of self.now }
     {
@@ -75,7 +75,7 @@ impl<T> Bounded<T> {
         }
     }
 
-    /// The end, where there is one. A single is its own end.
+    /// The end, if there is one. A single is its own end.
     pub fn as_end(&self) -> Option<&T>
         ensures { option_copied result ≡ end_of self.now }
     {
@@ -182,7 +182,7 @@ impl<T: WholeNumber> Bounded<T> {
     }
 }
 
-// Whether the number is not below the start, where there is one.
+// Whether the number is not below the start, if there is one.
 fn is_from<T: WholeNumber>(start: Option<T>, element: T) -> bool
     ensures { IsTrue result ↔ IsFrom T.number start (T.number element) }
 {
@@ -192,7 +192,7 @@ fn is_from<T: WholeNumber>(start: Option<T>, element: T) -> bool
     }
 }
 
-// Whether the number is not above the end, where there is one.
+// Whether the number is not above the end, if there is one.
 fn is_up_to<T: WholeNumber>(end: Option<T>, element: T) -> bool
     ensures { IsTrue result ↔ IsUpTo T.number end (T.number element) }
 {

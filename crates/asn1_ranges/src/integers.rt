@@ -7,7 +7,7 @@ use crate::bounded::Bounded;
 use asn1_values::IntegerType;
 
 impl<T: IntegerType + Copy> Bounded<T> {
-    /// The start, where there is one, and else 0. A single is its own start.
+    /// The start, if there is one, and else 0. A single is its own start.
     pub fn minimum(&self) -> T
         ensures start { IfSome (start_of self.now) (λ start. result ≡ start) }
         ensures zero { IfNone (start_of self.now) (T.number result ≡ pos 0) }
@@ -32,7 +32,7 @@ impl Bounded<i128> {
     }
 }
 
-// Whether the number is not below the start, where there is one.
+// Whether the number is not below the start, if there is one.
 fn is_from<I: IntegerType>(element: &I, start: Option<i128>) -> bool
     ensures { IsTrue result ↔ IsFrom (λ n. n) start (I.number element.now) }
 {
@@ -42,7 +42,7 @@ fn is_from<I: IntegerType>(element: &I, start: Option<i128>) -> bool
     }
 }
 
-// Whether the number is not above the end, where there is one.
+// Whether the number is not above the end, if there is one.
 fn is_up_to<I: IntegerType>(element: &I, end: Option<i128>) -> bool
     ensures { IsTrue result ↔ IsUpTo (λ n. n) end (I.number element.now) }
 {

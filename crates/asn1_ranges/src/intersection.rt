@@ -9,7 +9,7 @@ use crate::bounded::Bounded;
 use crate::number::WholeNumber;
 
 impl<T: WholeNumber> Bounded<T> {
-    /// The bound whose members are those of both, or `None` where they have none in common.
+    /// The bound whose members are those of both, or `None` if they have none in common.
     ///
     /// No bound keeps the other side unchanged, also if that is inverted. An inverted range with anything else is
     /// `None`.
@@ -63,7 +63,7 @@ fn lesser_end<T: WholeNumber>(a: Option<&T>, b: Option<&T>) -> Option<T>
     }
 }
 
-// The bound between two ends, a single or a range, or `None` where the start is above the end.
+// The bound between two ends, a single or a range, or `None` if the start is above the end.
 fn bound_between<T: WholeNumber>(
     single: bool,
     start: Option<T>,

@@ -10,7 +10,7 @@
 //! The promises, by the names of the clauses:
 //!
 //! - `Bounded::contains` and its forms (`inside`) decide membership.
-//! - `Bounded::intersect` has the common members (`members`), and answers `None` only where there are none
+//! - `Bounded::intersect` has the common members (`members`), and answers `None` only if there are none
 //!   (`disjoint`), and where neither side is inverted exactly then (`inhabited`). `shape` says which bound it is, and
 //!   `single` that a single stays one.
 //! - `Bounded::in_bound` is membership for a number of any size, and `Bounded::minimum` is the start or 0 (`start`, `zero`).

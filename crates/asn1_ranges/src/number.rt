@@ -15,7 +15,7 @@ pub trait WholeNumber: Copy + Ord {
     // The greatest number of the type.
     ghost greatest: { ℤ };
 
-    /// How many whole numbers there are from this one to `last`: none where `last` is below this one, and the
+    /// How many whole numbers there are from this one to `last`: none if `last` is below this one, and the
     /// greatest number of the type where there are more than it can tell.
     fn count_to(self, last: Self) -> Self
         ensures { number result ≡

@@ -35,10 +35,6 @@ shape-Choice s =
     let row = row_of (Choice s) in
     ap choice (row_shapes_is row.0 row.1 ∙ ap shapes (items_hidden-the_row-TagTree-0 s.now))
 
--- the shapes of several trees, first and rest
-pub shapes-cons : (t : TagTree) (ts : List TagTree) → shapes (t ∷ ts) ≡ more (shape t) (shapes ts)
-shapes-cons t ts = refl
-
 -- the leaves of trees that follow one another
 pub leaves_of-append : (ts us : List TagTree) → leaves_of (shapes (ts ++ us)) ≡ leaves_of (shapes ts) ++ leaves_of (shapes us)
 leaves_of-append [] us = refl

@@ -160,17 +160,6 @@ pub record Searched (t : Tag) (table : List Entry) (start end : ℕ) (found : Op
   pub begun : count ≡ 0 → (start ≡ 0) × (end ≡ length table)
   pub room : length table < 2 ^ 64
 
-pub search_begins : (t : Tag) (table : List Entry) → length table < 2 ^ 64 → Searched t table 0 (length table) None 0
-search_begins t table room = record {
-  ordered = omega arith;
-  within = omega arith;
-  below = λ k d lt. absurd (omega arith);
-  above = λ k d past lt. absurd (omega arith);
-  few = let e : length table - 0 ≡ length table = omega arith in subst (λ n. 0 + binary_digits n ≤ binary_digits (length table)) (sym e) (omega arith);
-  begun = λ _. (refl, refl);
-  room = room;
-}
-
 -- the entry in the middle has a lesser tag
 pub search_less : (t : Tag) (table : List Entry) (start end : ℕ) (found : Option ℕ) (count : ℕ) (e : Entry) → IsStrictlySortedBy entry_cmp table →
     Searched t table start end found count → start < end →
@@ -272,12 +261,6 @@ pub room_for_one : (t : Tag) (table : List Entry) (start end : ℕ) (found : Opt
 room_for_one t table start end found count so_far left =
     let digit = digits_halve 0 (end - start) (omega arith) (omega arith) in
     omega (arith, so_far.few, so_far.room, digit, digits_within (length table))
-
--- a search that has ended compared once at least, if there was an entry
-pub some_compared : (t : Tag) (table : List Entry) (start end : ℕ) (found : Option ℕ) (count : ℕ) →
-    Searched t table start end found count → end ≤ start → 0 < length table → 0 < count
-some_compared t table start end found zero so_far done some = absurd (omega (arith, (so_far.begun refl).0, (so_far.begun refl).1))
-some_compared t table start end found (suc count) so_far done some = omega arith
 
 -- ---- what the first entry says of the list
 

@@ -44,13 +44,6 @@ IsAtMost-from_not_less s t h = by_class (nat_lt (class_number t.class) (class_nu
     by_class true e = inl (grind (arith, nat_tests, common_steps))
     by_class false e = inr (grind (arith, nat_tests, common_steps), grind (arith, nat_tests, common_steps))
 
-pub IsAtMost-total : (s t : Tag) → IsAtMost s t ⊎ IsAtMost t s
-IsAtMost-total s t = by_test (is_lt (tag_cmp s t)) refl
-  where
-    by_test : (b : Bool) → is_lt (tag_cmp s t) ≡ b → IsAtMost s t ⊎ IsAtMost t s
-    by_test true e = inl (IsAtMost-from_less s t e)
-    by_test false e = inr (IsAtMost-from_not_less s t e)
-
 -- the lesser of two tags is one of them, and at most each
 lesser-cases : (s t : Tag) → (IsAtMost t s × (lesser s t ≡ t)) ⊎ (IsAtMost s t × (lesser s t ≡ s))
 lesser-cases s t = by_test (is_lt (tag_cmp t s)) refl
@@ -101,7 +94,7 @@ IsSmallest-from_some ts t h = record {
   none = λ e. let within : h.0.0 < length ts = h.0.1 in absurd (omega (arith, ap length e));
 }
 
--- and where there is none
+-- and if there is none
 pub IsSmallest-from_none : (ts : List Tag) → IsSmallestIfAny ts None → IsSmallest ts greatest
 IsSmallest-from_none ts h = record {
   among = λ some. absurd (some h);

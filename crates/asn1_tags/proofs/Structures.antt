@@ -69,7 +69,7 @@ structures_tie ts us i d e lt lu same tied =
     rest_decides Equal p e = refl
     rest_decides Greater p e = cc
 
--- trees tie exactly where they are the same
+-- trees tie if and only if they are the same
 pub same-from_tie : (s t : Tree) → is_eq (structure_cmp s t) ≡ true → s ≡ t
 same-from_tie s t h = by_order (structure_cmp s t) refl h
   where

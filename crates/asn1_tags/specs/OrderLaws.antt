@@ -155,7 +155,7 @@ never_equal Less p e = refl
 never_equal Equal p e = sym e
 never_equal Greater p e = refl
 
--- two trees tie exactly where they have one structure
+-- two trees tie if and only if they have one structure
 pub tree_ties : (x y : TagTree) → eq_by_cmp (on shape structure_cmp) x y ≡ eq_by_cmp (on shape tree_cmp) x y
 tree_ties x y = by_structure (structure_cmp (shape x) (shape y)) refl
   where

@@ -54,7 +54,7 @@ greatest = record { class = Private; value = 4294967295 }
 abbrev pub lesser : Tag → Tag → Tag
 lesser s t = if is_lt (tag_cmp t s) then t else s
 
--- the smallest of the tags, and the greatest of all where there is none
+-- the smallest of the tags, and the greatest of all if there is none
 abbrev pub smallest : List Tag → Tag
 smallest [] = greatest
 smallest (t ∷ ts) = fold lesser t ts

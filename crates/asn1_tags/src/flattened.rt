@@ -37,7 +37,7 @@ impl Model for Variants {
 impl Variants {
     /// The leaves of the trees, and no table.
     ///
-    /// Fails only where the allocator refuses room for a leaf.
+    /// Fails only if the allocator refuses room for a leaf.
     pub fn new(alloc: Global, nodes: &[TagTree<'_>]) -> Result<Self, AllocError>
         ensures list { IfOk result (λ variants. variants.tags ≡ leaves_of (shapes nodes.now)) }
         ensures table { IfOk result (λ variants. variants.table ≡ None) }
@@ -50,7 +50,7 @@ impl Variants {
 
     /// The leaves of trees that are constants, and no table.
     ///
-    /// Fails only where the allocator refuses room for a leaf.
+    /// Fails only if the allocator refuses room for a leaf.
     pub fn from_static(
         alloc: Global,
         nodes: &'static [TagTree<'static>],
@@ -63,7 +63,7 @@ impl Variants {
 
     /// The leaves of trees that are borrowed, and no table.
     ///
-    /// Fails only where the allocator refuses room for a leaf.
+    /// Fails only if the allocator refuses room for a leaf.
     pub fn from_slice(alloc: Global, nodes: &[TagTree<'_>]) -> Result<Self, AllocError>
         ensures list { IfOk result (λ variants. variants.tags ≡ leaves_of (shapes nodes.now)) }
         ensures table { IfOk result (λ variants. variants.table ≡ None) }
@@ -118,7 +118,7 @@ impl Variants {
         &self.tags
     }
 
-    /// The first index of the tag in the list, and `None` where it is not in it.
+    /// The first index of the tag in the list, and `None` if it is not in it.
     pub fn position_of(&self, tag: &Tag) -> Option<usize>
         ensures { result ≡ position_of tag.now self.now.tags }
     {
@@ -144,7 +144,7 @@ impl Variants {
 
     /// The same list and the same table once more.
     ///
-    /// Fails only where the allocator refuses room for them.
+    /// Fails only if the allocator refuses room for them.
     pub fn try_clone(&self, alloc: Global) -> Result<Self, AllocError>
         ensures list { IfOk result (λ variants. variants.tags ≡ self.now.tags) }
         ensures table { IfOk result (λ variants. variants.table ≡ self.now.table) }

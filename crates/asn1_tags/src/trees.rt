@@ -29,7 +29,7 @@ impl TagTree<'_> {
         TagTree::Choice(&[])
     }
 
-    /// The smallest leaf in the canonical order of tags, and `Private 4294967295` where there is no leaf.
+    /// The smallest leaf in the canonical order of tags, and `Private 4294967295` if there is no leaf.
     pub fn smallest_tag(&self) -> Tag
         ensures { IsSmallest (leaves (shape self.now)) result }
     {
@@ -86,7 +86,7 @@ impl TagTree<'_> {
         walks::shares_leaf(self, slice::from_ref(other))
     }
 
-    /// How many leaves the trees have together, and `None` where the number does not fit.
+    /// How many leaves the trees have together, and `None` if the number does not fit.
     pub fn leaf_count(nodes: &[TagTree<'_>]) -> Option<usize>
         ensures { let count = length (leaves_of (shapes nodes.now)) in
             SomeIff result (count < 2 ^ 64) count }
@@ -94,7 +94,7 @@ impl TagTree<'_> {
         walks::leaf_count(nodes)
     }
 
-    /// The index of the first leaf that is the tag, counted from the left, and `None` where none is.
+    /// The index of the first leaf that is the tag, counted from the left, and `None` if none is.
     #[tactic(auto, using(crate::proofs::Positions::leaf_positions))]
     pub fn leaf_position(tag: &Tag, nodes: &[TagTree<'_>]) -> Option<usize>
         requires { length (leaves_of (shapes nodes.now)) < 2 ^ 64 }

@@ -17,7 +17,7 @@ some_where : (b : Bool) (n : ℕ) → is_some (cond b (Some n) None) ≡ b
 some_where true n = refl
 some_where false n = refl
 
--- an element passes the test exactly where there is a first index of one
+-- an element passes the test if and only if there is a first index of one
 pub list_any_by_position : {T : Type 0} (p : T → Bool) (xs : List T) → list_any p xs ≡ is_some (position p xs)
 list_any_by_position p xs =
     before_the_end p xs ∙ sym (some_where (nat_lt (position_or_len p xs) (length xs)) (position_or_len p xs))

@@ -53,7 +53,7 @@ impl Any {
         contents
     }
 
-    /// The same value once more. Fails only where the allocator refuses room for its bytes.
+    /// The same value once more. Fails only if the allocator refuses room for its bytes.
     pub fn try_clone(&self, alloc: Global) -> Result<Self, AllocError>
         ensures { IfOk result (λ any. any ≡ self.now) }
     {

@@ -65,18 +65,6 @@ pub enum AnyString {
 }
 
 impl AnyString {
-    /// The same string, borrowed.
-    pub fn as_any_str(&self) -> AnyStr<'_>
-        ensures same { content_of_str result ≡ content_of_string self.now }
-    {
-        match self {
-            AnyString::Bits(bits) => AnyStr::Bits(bits.as_slice()),
-            AnyString::Octets(kind, octets) => AnyStr::Octets(*kind, octets.as_slice()),
-            AnyString::Bmp(units) => AnyStr::Bmp(units.as_slice()),
-            AnyString::Teletex(units) => AnyStr::Teletex(units.as_slice()),
-        }
-    }
-
     /// The octets of a string of this kind.
     pub(crate) fn into_octets(self, kind: OctetKind) -> Option<Vec<u8>>
         ensures found { (list : List ℕ) → content_of_string self ≡ units (octet_kind kind) list →

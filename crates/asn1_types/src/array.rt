@@ -22,14 +22,6 @@ impl<T, const N: usize> Array<T, N> {
     {
         &self.elements
     }
-
-    /// The elements.
-    pub fn into_elements(self) -> [T; N]
-        ensures { result ≡ self.elements }
-    {
-        let Array { elements } = self;
-        elements
-    }
 }
 
 impl<T, const N: usize> From<[T; N]> for Array<T, N> {

@@ -24,7 +24,7 @@
 //!
 //! The contracts promise, in these words:
 //!
-//! - Two sets are equal exactly if some rearrangement of the second is element by element equal to the first, by the
+//! - Two sets are equal if and only if some rearrangement of the second is element by element equal to the first, by the
 //!   elements' own equality: `equal_sets_have_the_same_elements` and `SetOf::eq_slice` say so in `SameElements` of
 //!   `specs/Multisets.antt`. `==` is `same_counts`, which counts; that the two agree, and that this is an equality, is
 //!   proved in `specs/MultisetLaws.antt` (`same_counts-SameElements`, `same_counts-partial`, `same_counts-equiv`). Equal

@@ -54,7 +54,7 @@ impl<T> SetOf<T> {
         SetOf { elements }
     }
 
-    /// No elements, and room for this many, of which no contract speaks. Fails only where the allocator refuses the room.
+    /// No elements, and room for this many, of which no contract speaks. Fails only if the allocator refuses the room.
     pub fn with_capacity(alloc: Global, capacity: usize) -> Result<Self, AllocError>
         ensures empty { IfOk result (λ set. set ≡ []) }
         ensures no_room { capacity ≡ 0 → IsOk result }
@@ -64,7 +64,7 @@ impl<T> SetOf<T> {
         })
     }
 
-    /// Puts the element last. Fails only where the allocator refuses room for it, and then gives it back.
+    /// Puts the element last. Fails only if the allocator refuses room for it, and then gives it back.
     pub fn insert(&mut self, element: T) -> Result<(), T>
         ensures inserted { OnOk result (self.new ≡ self.old ++ element ∷ []) }
         ensures given_back { IfErr result (λ back. back ≡ element) }
@@ -73,7 +73,7 @@ impl<T> SetOf<T> {
         self.elements.push(element).map_err(|failed| failed.value)
     }
 
-    /// Puts the element last, as `insert` does, with an error that `?` takes. Fails only where the allocator refuses room for
+    /// Puts the element last, as `insert` does, with an error that `?` takes. Fails only if the allocator refuses room for
     /// it; the element is dropped then.
     pub fn try_insert(&mut self, element: T) -> Result<(), AllocError>
     where
@@ -110,7 +110,7 @@ impl<T> SetOf<T> {
         self.elements.iter()
     }
 
-    /// References to the elements, in the order of `iter`. Fails only where the allocator refuses room for them.
+    /// References to the elements, in the order of `iter`. Fails only if the allocator refuses room for them.
     pub fn to_vec(&self, alloc: Global) -> Result<Vec<&T>, AllocError>
         ensures { IfOk result (λ elements. map (λ element. element.now) elements.items ≡ self.now) }
     {
@@ -127,7 +127,7 @@ impl<T> SetOf<T> {
 }
 
 impl<T: Clone> SetOf<T> {
-    /// Clones of the elements of the slice, in its order. Fails only where the allocator refuses room for them, or a clone
+    /// Clones of the elements of the slice, in its order. Fails only if the allocator refuses room for them, or a clone
     /// fails.
     pub fn from_slice(alloc: Global, elements: &[T]) -> Result<Self, AllocError>
         ensures clones { IfOk result (AllZip T.is_clone elements.now) }

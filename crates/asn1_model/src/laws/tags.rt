@@ -57,7 +57,7 @@ pub fn lists_begin_with_their_tags<'a, T: AsnType + 'a, const N: usize>()
     ensures array { HasTagOfItsOwn ⟦<[T; N] as AsnType>⟧.meaning }
 {}
 
-/// A law of what holds one value: under each tag it begins with the tags of that value's type, and is a CHOICE exactly where
+/// A law of what holds one value: under each tag it begins with the tags of that value's type, and is a CHOICE if and only if
 /// that type is one.
 pub fn holders_begin_as_their_contents<'a, T: AsnType + 'a>()
     ensures option { BeginsAs ⟦<Option<T> as AsnType>⟧.meaning T.meaning }
@@ -66,7 +66,7 @@ pub fn holders_begin_as_their_contents<'a, T: AsnType + 'a>()
     ensures cow { BeginsAs ⟦<Cow<'a, T> as AsnType>⟧.meaning T.meaning }
 {}
 
-/// A law of presence: an option is there exactly where it holds a value, and a reference, a box and the like where what they
+/// A law of presence: an option is there if and only if it holds a value, and a reference, a box and the like where what they
 /// hold is there.
 pub fn holders_are_there_as_their_contents<'a, T: AsnType + 'a>(
     _reference: &'a T,

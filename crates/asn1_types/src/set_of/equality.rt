@@ -81,7 +81,7 @@ impl<T: Eq> Hash for SetOf<T> {
     }
 }
 
-/// A law of sets: two of them are equal exactly if they have the same elements, each as often, in any order.
+/// A law of sets: two of them are equal if and only if they have the same elements, each as often, in any order.
 pub fn equal_sets_have_the_same_elements<T: PartialEq>(left: &SetOf<T>, right: &SetOf<T>)
     ensures { IsTrue (⟦<SetOf<T> as PartialEq>⟧.eq left.now right.now) ↔
         SameElements T.eq left.now right.now }

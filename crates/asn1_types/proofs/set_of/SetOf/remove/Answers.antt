@@ -1,4 +1,4 @@
--- There is an equal element exactly where there is a first index of one.
+-- There is an equal element if and only if there is a first index of one.
 use Rattle.asn1_types.proofs.Positions.{list_any_by_position}
 use Rattle.asn1_types.proofs.set_of.SetOf.remove.Goals as goal
 
