@@ -3,8 +3,9 @@ use Rattle.std.proofs.Common.{◌≡◌, ℕ, Bool, true, false, List, [], ◌�
 use Rattle.asn1_bench.specs.Fronts.{IsCut, cut_within, packed_fronts}
 use Rattle.asn1_bench.specs.declared.reader.BenchReader.{BenchReader}
 use Rattle.asn1_items.proofs.Items.{IsOneItem, content_item, extend, header_at-append, one_item, scope_item}
-use Rattle.asn1_items.specs.Contents.{content_kind}
-use Rattle.asn1_items.specs.Headers.{Header, header_at, is_one_item, kind_of}
+use Rattle.asn1_items.specs.Headers.{Header, header_at, is_one_item}
+use Rattle.asn1_items.specs.Kinds.{content_byte, content_kind, kind_of}
+use Rattle.asn1_items.specs.declared.kinds.ItemKind.TheVariants as item_kind
 use Rattle.asn1_items.specs.Items.{HasBytes, HaveBytes, packed_marks, written_with}
 use Rattle.asn1_model.proofs.SameRecords.{same-mark}
 use Rattle.asn1_model.proofs.SameUpToOrder.{same_as_cons, same_as_none}
@@ -49,8 +50,8 @@ taken n own _ (equal _) well_formed = well_formed
 -- a record that is no presence mark is one item
 item_of : (r s : Record) (bytes : List ℕ) → SameRecord r s → is_presence_mark s ≡ false → IsWellFormed (λ own. is_one_item own) s → HasBytes (written_with packed_marks) r bytes → IsOneItem bytes []
 item_of (scalar t c n x) s bytes same no_mark well_formed p = record {
-  header = record { kind = 1; tag = t; content = content_kind x; size = length p.inside; body = p.inside ++ [] };
-  at = content_item t (content_kind x) p.inside bytes [] p.item;
+  header = record { kind = item_kind.Content; tag = t; content = content_byte (content_kind x); size = length p.inside; body = p.inside ++ [] };
+  at = content_item t (content_byte (content_kind x)) p.inside bytes [] p.item;
   inside = p.inside;
   body = refl;
   size = refl;

@@ -1,12 +1,17 @@
 -- Presence marks of one byte are skipped.
-use Rattle.std.proofs.Common.{◌≡◌, ℕ, ◌≤◌, Bool, true, false, List, [], ◌∷◌, ◌++◌, refl, sym, ap, subst, ◌∙◌, arith, None}
+use Rattle.std.proofs.Common.{◌≡◌, ℕ, true, false, List, [], ◌∷◌, ◌++◌, refl, sym, ap, subst, ◌∙◌, Option, None, Some}
 use Rattle.std.specs.Prelude.{if◌then◌else◌, ◌&&◌, nat_le}
-use Rattle.std.proofs.lemmas.Bool.Decides.{nat_tests}
 use Rattle.asn1_laws.specs.Reading.{marks_passed}
-use Rattle.asn1_items.specs.Headers.{from_class, is_one, is_one_item, kind_of}
+use Rattle.std.specs.Option.{option_and_then}
+use Rattle.asn1_items.proofs.Items.{kind_at-is}
+use Rattle.asn1_items.specs.Headers.{from_class, is_one, is_one_item}
+use Rattle.asn1_items.specs.Kinds.{item_byte, item_kind_at, kind_of}
 use Rattle.asn1_items.specs.Items.{HasBytes, HaveBytes, mark_byte, marks_skipped, packed_marks, read_with}
+use Rattle.asn1_items.specs.declared.kinds.ItemKind.{ItemKind}
+use Rattle.asn1_items.specs.declared.kinds.ItemKind.TheVariants as item_kind
+use Rattle.asn1_items.specs.declared.kinds.ScopeKind.TheVariants as scope_kind
 use Rattle.asn1_model.specs.Records as model
-use Rattle.asn1_model.specs.Records.{held, is_presence_mark, sequence, set, sequence_of, set_of, explicit_tag, alternative, present, absent, group_start, group_absent, group_end}
+use Rattle.asn1_model.specs.Records.{held, is_presence_mark, present, absent, group_start, group_absent, group_end}
 
 -- the bytes of a mark are skipped, and those of other records are not
 mark_skipped : (m : model.PresenceMark) (rest : List ℕ) → marks_skipped (mark_byte m ∷ rest) ≡ marks_skipped rest
@@ -16,42 +21,32 @@ mark_skipped (group_start table) rest = refl
 mark_skipped group_absent rest = refl
 mark_skipped group_end rest = refl
 
-no_mark_kind : (h : model.Head) → (nat_le 16 (kind_of h) && nat_le (kind_of h) 20) ≡ false
-no_mark_kind (sequence t table n) = refl
-no_mark_kind (set t table n) = refl
-no_mark_kind (sequence_of t c n) = refl
-no_mark_kind (set_of t c n) = refl
-no_mark_kind (explicit_tag t n) = refl
-no_mark_kind (alternative t c table n) = refl
+no_mark_kind : (kind : ItemKind) → (nat_le 16 (item_byte kind) && nat_le (item_byte kind) 20) ≡ false
+no_mark_kind item_kind.Content = refl
+no_mark_kind (item_kind.Scope scope_kind.Sequence) = refl
+no_mark_kind (item_kind.Scope scope_kind.Set) = refl
+no_mark_kind (item_kind.Scope scope_kind.SequenceOf) = refl
+no_mark_kind (item_kind.Scope scope_kind.SetOf) = refl
+no_mark_kind (item_kind.Scope scope_kind.ExplicitTag) = refl
+no_mark_kind (item_kind.Scope scope_kind.Alternative) = refl
 
 kept : (byte : ℕ) (rest : List ℕ) → (nat_le 16 byte && nat_le byte 20) ≡ false → marks_skipped (byte ∷ rest) ≡ byte ∷ rest
 kept byte rest e = ap (λ b. if b then marks_skipped rest else byte ∷ rest) e
 
-no_item : (byte : ℕ) (rest : List ℕ) → (nat_le 1 byte && nat_le byte 7) ≡ false → is_one_item (byte ∷ rest) ≡ true → ⊥
-no_item byte rest e one = let none = ap (λ b. is_one (if b then from_class byte rest else None)) e in cc
-
-low_is_no_mark : (byte : ℕ) → byte ≤ 7 → (nat_le 16 byte && nat_le byte 20) ≡ false
-low_is_no_mark byte low = by (nat_le 16 byte) refl
+item_is_no_mark : (byte : ℕ) (rest : List ℕ) → is_one_item (byte ∷ rest) ≡ true → (nat_le 16 byte && nat_le byte 20) ≡ false
+item_is_no_mark byte rest one = by (item_kind_at byte) refl one
   where
-    by : (b : Bool) → nat_le 16 byte ≡ b → (b && nat_le byte 20) ≡ false
-    by true e = absurd (grind (arith, nat_tests))
-    by false e = refl
-
-low_kind : (byte : ℕ) (rest : List ℕ) → is_one_item (byte ∷ rest) ≡ true → byte ≤ 7
-low_kind byte rest one = by (nat_le 1 byte) (nat_le byte 7) refl refl
-  where
-    by : (a b : Bool) → nat_le 1 byte ≡ a → nat_le byte 7 ≡ b → byte ≤ 7
-    by true true p q = grind (arith, nat_tests)
-    by false b p q = absurd (no_item byte rest (ap (λ a. a && nat_le byte 7) p) one)
-    by true false p q = absurd (no_item byte rest (ap (λ a. a && nat_le byte 7) p ∙ q) one)
+    by : (o : Option ItemKind) → item_kind_at byte ≡ o → is_one (option_and_then (λ kind. from_class kind rest) o) ≡ true → (nat_le 16 byte && nat_le byte 20) ≡ false
+    by None at one = cc
+    by (Some kind) at one = subst (λ b. (nat_le 16 b && nat_le b 20) ≡ false) (sym (kind_at-is byte kind at)) (no_mark_kind kind)
 
 raw_kept : (own more : List ℕ) → is_one_item own ≡ true → marks_skipped (own ++ more) ≡ own ++ more
 raw_kept [] more one = cc
-raw_kept (byte ∷ own) more one = kept byte (own ++ more) (low_is_no_mark byte (low_kind byte own one))
+raw_kept (byte ∷ own) more one = kept byte (own ++ more) (item_is_no_mark byte own one)
 
 record_kept : (r : model.Record) (first more : List ℕ) → is_presence_mark r ≡ false → HasBytes (read_with packed_marks) r first → marks_skipped (first ++ more) ≡ first ++ more
 record_kept (model.scalar t c n x) first more no_mark p = subst (λ b. marks_skipped (b ++ more) ≡ b ++ more) (sym p.item.are) refl
-record_kept (model.scope h rs) first more no_mark p = subst (λ b. marks_skipped (b ++ more) ≡ b ++ more) (sym p.item.are) (kept (kind_of h) _ (no_mark_kind h))
+record_kept (model.scope h rs) first more no_mark p = subst (λ b. marks_skipped (b ++ more) ≡ b ++ more) (sym p.item.are) (kept (item_byte (kind_of h)) _ (no_mark_kind (kind_of h)))
 record_kept (model.open_type n own) first more no_mark p = subst (λ b. marks_skipped (b ++ more) ≡ b ++ more) (sym p.0) (raw_kept own more p.1)
 record_kept (model.presence_mark m) first more no_mark p = cc
 

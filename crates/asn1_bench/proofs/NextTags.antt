@@ -4,8 +4,8 @@ use Rattle.asn1_components.specs.ComponentTypes.{ComponentType}
 use Rattle.asn1_laws.proofs.MarksPassed.{first_left, next_tag, no_next_tag}
 use Rattle.asn1_laws.specs.Reading.{IsNextTag, HasAdvanced, Outside, marks_passed}
 use Rattle.asn1_items.proofs.Items.{content_item, one_item, scope_item}
-use Rattle.asn1_items.specs.Contents.{content_kind}
 use Rattle.asn1_items.specs.Headers.{Header, header_at}
+use Rattle.asn1_items.specs.Kinds.{content_byte, content_kind}
 use Rattle.asn1_items.specs.Items.{HasBytes, HaveBytes, MarkBytes, read_with}
 use Rattle.asn1_items.specs.Slices.{left_inside}
 use Rattle.asn1_model.specs.Records as model
@@ -26,7 +26,7 @@ pub record HasTag (r : model.Record) (bytes : List ℕ) : Type 0 where
   pub has : Has (record_tags r) header.tag
 
 pub tag_at : (marks : MarkBytes) (r : model.Record) (first more : List ℕ) → is_presence_mark r ≡ false → HasBytes (read_with marks) r first → HasTag r (first ++ more)
-tag_at marks (model.scalar t c n x) first more no_mark p = record { header = _; at = content_item t (content_kind x) p.inside first more p.item; has = (0, omega arith, refl) }
+tag_at marks (model.scalar t c n x) first more no_mark p = record { header = _; at = content_item t (content_byte (content_kind x)) p.inside first more p.item; has = (0, omega arith, refl) }
 tag_at marks (model.scope h rs) first more no_mark p = record { header = _; at = scope_item h p.inside first more p.item; has = (0, omega arith, refl) }
 tag_at marks (model.open_type n own) first more no_mark p =
     let o = one_item own more p.1 in

@@ -4,8 +4,10 @@ use Rattle.std.specs.Prelude.{IsTrue, Ok, Err}
 use Rattle.asn1_laws.specs.Reading.{Advances, Outside, TellsPresence}
 use Rattle.asn1_laws.specs.declared.decode_error.DecodeError.{DecodeError}
 use Rattle.asn1_items.proofs.Items.{content_item, scope_item}
-use Rattle.asn1_items.specs.Contents.{content_kind}
-use Rattle.asn1_items.specs.Headers.{Meets, header_at, is_one_item, kind_of}
+use Rattle.asn1_items.specs.Headers.{Meets, header_at, is_one_item}
+use Rattle.asn1_items.specs.Kinds.{content_byte, content_kind, kind_of}
+use Rattle.asn1_items.specs.declared.kinds.ItemKind.{ItemKind}
+use Rattle.asn1_items.specs.declared.kinds.ItemKind.TheVariants as item_kind
 use Rattle.asn1_items.specs.Items.{HasBytes, IsItem, MarkBytes, read_with}
 use Rattle.asn1_items.specs.declared.error.ItemError.{ItemError}
 use Rattle.asn1_items.specs.declared.header.ExpectedHeader.{ExpectedHeader}
@@ -23,8 +25,8 @@ use Rattle.asn1_tags.specs.declared.tags.Tag.{Tag}
 
 -- the header of a content
 pub scalar_at : (marks : MarkBytes) (t : Tag) (c : ConstraintSet) (n : Name) (x : model.Content) (front back left : List ℕ) → (p : HasBytes (read_with marks) (model.scalar t c n x) front) → left ≡ front ++ back →
-    header_at left ≡ Some (record { kind = 1; tag = t; content = content_kind x; size = length p.inside; body = p.inside ++ back })
-scalar_at marks t c n x front back left p is = ap header_at is ∙ content_item t (content_kind x) p.inside front back p.item
+    header_at left ≡ Some (record { kind = item_kind.Content; tag = t; content = content_byte (content_kind x); size = length p.inside; body = p.inside ++ back })
+scalar_at marks t c n x front back left p is = ap header_at is ∙ content_item t (content_byte (content_kind x)) p.inside front back p.item
 
 -- the header of a record that holds others
 pub scope_at : (marks : MarkBytes) (h : model.Head) (items : List model.Record) (front back left : List ℕ) → (p : HasBytes (read_with marks) (holding h items) front) → left ≡ front ++ back →
@@ -34,12 +36,12 @@ scope_at marks h items front back left p is = ap header_at is ∙ scope_item h p
 -- the head that is wanted has the header that is wanted
 pub expected_met : (w : ExpectedHeader) (h : model.Head) (n : ℕ) (body : List ℕ) → IsExpected w h → Meets w (record { kind = kind_of h; tag = head_tag h; content = 0; size = n; body = body })
 expected_met (Content t k) h n body wrong = absurd wrong
-expected_met (Scope k t) h n body is = is
-expected_met Alternative h n body is = is
+expected_met (Scope k t) h n body is = (ap item_kind.Scope is.0, is.1)
+expected_met Alternative h n body is = ap item_kind.Scope is
 expected_met Any h n body wrong = absurd wrong
 
 -- each record takes a byte, presence marks apart
-item_long : (kind : ℕ) (t : Tag) (k inside bytes : List ℕ) → IsItem kind t k inside bytes → 1 ≤ length bytes
+item_long : (kind : ItemKind) (t : Tag) (k inside bytes : List ℕ) → IsItem kind t k inside bytes → 1 ≤ length bytes
 item_long kind t k inside bytes item = omega (arith, ap length item.are)
 
 one_long : (own : List ℕ) → IsTrue (is_one_item own) → 1 ≤ length own
@@ -47,7 +49,7 @@ one_long [] one = cc
 one_long (b ∷ own) one = omega arith
 
 record_long : (marks : MarkBytes) (r : model.Record) (bytes : List ℕ) → is_presence_mark r ≡ false → HasBytes (read_with marks) r bytes → 1 ≤ length bytes
-record_long marks (model.scalar t c n x) bytes no_mark p = item_long 1 t _ p.inside bytes p.item
+record_long marks (model.scalar t c n x) bytes no_mark p = item_long item_kind.Content t _ p.inside bytes p.item
 record_long marks (model.scope h rs) bytes no_mark p = item_long (kind_of h) (head_tag h) [] p.inside bytes p.item
 record_long marks (model.open_type n own) bytes no_mark p = omega (arith, ap length p.0, one_long own p.1)
 record_long marks (model.presence_mark m) bytes no_mark p = cc

@@ -16,7 +16,10 @@ use Rattle.asn1_items.specs.Bits.{AreBits, bits_of_octet, bits_of_octets}
 use Rattle.asn1_items.specs.Contents.{AreUnits, IsContent}
 use Rattle.asn1_items.specs.Items.{HasBytes, HaveBytes, IsItem, IsTooLong, MarkBytes, SomeTooLong, written_with}
 use Rattle.asn1_items.specs.Numbers.{AreFours, AreTwos, IsInteger, four_bytes, two_bytes}
-use Rattle.asn1_items.specs.Headers.{kind_of, tag_bytes}
+use Rattle.asn1_items.specs.Headers.{tag_bytes}
+use Rattle.asn1_items.specs.Kinds.{kind_of}
+use Rattle.asn1_items.specs.declared.kinds.ItemKind.{ItemKind}
+use Rattle.asn1_items.specs.declared.kinds.ItemKind.TheVariants as item_kind
 use Rattle.asn1_model.specs.Orders.{SameRecord, SameAll, equal, one_by_one, in_any_order, at_end, next}
 use Rattle.asn1_model.specs.Tags.{head_tag}
 use Rattle.asn1_bench.specs.Carried.{CarriesWith}
@@ -42,7 +45,7 @@ number_after_worth : (n : ℕ) (ds : List ℕ) → n * 256 ^ length ds ≤ numbe
 number_after_worth n [] = omega arith
 number_after_worth n (d ∷ ds) = rw pow-suc (omega (arith, number_after_worth (n * 256 + d) ds))
 
--- a number with no leading zero has so many digits at most, also where some are no bytes
+-- a number with no leading zero has at most the digits of its value, even if some are no bytes
 no_longer : (n : ℕ) (digits : List ℕ) → IsShortest digits → magnitude digits ≡ n → length digits ≤ length (digits_of 256 n)
 no_longer n [] shortest is = omega arith
 no_longer n (d ∷ ds) shortest is = by (cases_lt (length (digits_of 256 n)) (length (d ∷ ds)))
@@ -161,18 +164,18 @@ module _ (marks : MarkBytes) where
     AllFit none = ⊤
     AllFit (more r rs) = Fits r × AllFit rs
 
-item_length : (kind : ℕ) (t : Tag) (own inside bytes : List ℕ) → IsItem kind t own inside bytes → length bytes ≡ 10 + length own + length inside
+item_length : (kind : ItemKind) (t : Tag) (own inside bytes : List ℕ) → IsItem kind t own inside bytes → length bytes ≡ 10 + length own + length inside
 item_length kind t own inside bytes p =
     omega (arith, ap length p.are, length-append (tag_bytes t ++ own ++ four_bytes (length inside)) inside, length-append (tag_bytes t ++ own) (four_bytes (length inside)), length-append (tag_bytes t) own)
 
-inside_below : (kind : ℕ) (t : Tag) (own inside bytes : List ℕ) → IsItem kind t own inside bytes → AllBelowBase 256 bytes → AllBelowBase 256 inside
+inside_below : (kind : ItemKind) (t : Tag) (own inside bytes : List ℕ) → IsItem kind t own inside bytes → AllBelowBase 256 bytes → AllBelowBase 256 inside
 inside_below kind t own inside bytes p below =
     below_right (tag_bytes t ++ own ++ four_bytes (length inside)) inside ((subst (AllBelowBase 256) p.are below).1)
 
 module _ (marks : MarkBytes) where
   mutual
     at_most : (r : Record) (bytes : List ℕ) → HasBytes (written_with marks) r bytes → length bytes ≤ size marks r
-    at_most (scalar t c n x) bytes p = omega (arith, item_length 1 t _ p.inside bytes p.item, content_at_most x p.inside p.is)
+    at_most (scalar t c n x) bytes p = omega (arith, item_length item_kind.Content t _ p.inside bytes p.item, content_at_most x p.inside p.is)
     at_most (scope h rs) bytes p = omega (arith, item_length (kind_of h) (head_tag h) [] p.inside bytes p.item, all_at_most rs p.inside p.is)
     at_most (open_type n own) bytes p = omega (arith, ap length p.0)
     at_most (presence_mark m) bytes p = omega (arith, ap length p)
@@ -184,7 +187,7 @@ module _ (marks : MarkBytes) where
   mutual
     has_length : (r : Record) (bytes : List ℕ) → HasBytes (written_with marks) r bytes → AllBelowBase 256 bytes → length bytes ≡ size marks r
     has_length (scalar t c n x) bytes p below =
-        omega (arith, item_length 1 t _ p.inside bytes p.item, content_length x p.inside p.is (inside_below 1 t _ p.inside bytes p.item below))
+        omega (arith, item_length item_kind.Content t _ p.inside bytes p.item, content_length x p.inside p.is (inside_below item_kind.Content t _ p.inside bytes p.item below))
     has_length (scope h rs) bytes p below =
         omega (arith, item_length (kind_of h) (head_tag h) [] p.inside bytes p.item, have_length rs p.inside p.is (inside_below (kind_of h) (head_tag h) [] p.inside bytes p.item below))
     has_length (open_type n own) bytes p below = ap length p.0
@@ -196,10 +199,10 @@ module _ (marks : MarkBytes) where
         let both = subst (AllBelowBase 256) p.are below in
         omega (arith, ap length p.are, length-append p.first p.others, has_length r p.first p.is_first (below_left p.first p.others both), have_length rs p.others p.are_others (below_right p.first p.others both))
 
-  -- What has bytes fits.
+  -- Records with bytes fit.
   mutual
     fits : (r : Record) (bytes : List ℕ) → HasBytes (written_with marks) r bytes → AllBelowBase 256 bytes → Fits marks r
-    fits (scalar t c n x) bytes p below = omega (arith, content_length x p.inside p.is (inside_below 1 t _ p.inside bytes p.item below), p.item.size_fits)
+    fits (scalar t c n x) bytes p below = omega (arith, content_length x p.inside p.is (inside_below item_kind.Content t _ p.inside bytes p.item below), p.item.size_fits)
     fits (scope h rs) bytes p below =
         let inner = inside_below (kind_of h) (head_tag h) [] p.inside bytes p.item below in
         (all_fit rs p.inside p.is inner, omega (arith, have_length rs p.inside p.is inner, p.item.size_fits))
@@ -212,7 +215,7 @@ module _ (marks : MarkBytes) where
         let both = subst (AllBelowBase 256) p.are below in
         (fits r p.first p.is_first (below_left p.first p.others both), all_fit rs p.others p.are_others (below_right p.first p.others both))
 
-  -- What fits is not too long.
+  -- Records that fit are not too long.
   mutual
     not_long : (r : Record) → Fits marks r → IsTooLong (written_with marks) r → ⊥
     not_long (scalar t c n x) f (content, is, long) = absurd (omega (arith, content_at_most x content is, f, long))

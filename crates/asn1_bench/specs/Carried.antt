@@ -1,4 +1,4 @@
--- What bytes of items carry.
+-- The records that bytes of items carry.
 use Rattle.std.specs.Prelude.{◌≢◌, ℕ, ⊤, List, []}
 use Rattle.asn1_buffers.specs.Encoder.{CarriesUpToOrder}
 use Rattle.asn1_items.specs.Items.{HaveBytes, MarkBytes, packed_marks, written_with}

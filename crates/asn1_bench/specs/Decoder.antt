@@ -1,15 +1,17 @@
--- What remains to be read by a decoder over items, and what it opens.
+-- The records left to a decoder over items, and the scopes that it opens.
 use Rattle.std.specs.Prelude.{◌≡◌, ℕ, false, List, ◌++◌, Some, Result, MatchResult, length}
 use Rattle.asn1_laws.specs.ReadingUpToOrder.{up_to_order}
 use Rattle.asn1_laws.specs.Reading.{Reader, Remaining}
 use Rattle.asn1_laws.specs.ReadingTypes.{ReadsContent}
 use Rattle.asn1_laws.specs.declared.decode_error.DecodeError.{DecodeError}
 use Rattle.asn1_items.specs.Contents.{LooksLike}
-use Rattle.asn1_items.specs.Headers.{Header, Meets, header_at, is_one_item, kind_of}
+use Rattle.asn1_items.specs.Headers.{Header, Meets, header_at, is_one_item}
+use Rattle.asn1_items.specs.Kinds.{kind_of_scope}
 use Rattle.asn1_items.specs.Items.{HasBytes, HaveBytes, MarkBytes, read_with}
 use Rattle.asn1_items.specs.Slices.{IsTaken, left_inside}
 use Rattle.asn1_items.specs.declared.header.ExpectedHeader.{ExpectedHeader}
 use Rattle.asn1_items.specs.declared.header.ExpectedHeader.TheVariants.{Content, Scope, Alternative, Any}
+use Rattle.asn1_items.specs.declared.kinds.ScopeKind.TheVariants as scope_kind
 use Rattle.asn1_items.specs.declared.slices.Item.{Item}
 use Rattle.asn1_model.specs.ConstraintSets.{ConstraintSet}
 use Rattle.asn1_model.specs.Records as model
@@ -42,15 +44,15 @@ module _ {P : Type 0} (marks : MarkBytes) where
   abbrev pub Remains : ItemDecoder P → Remaining → Type 0
   Remains d remaining = item_reader.remains d remaining
 
--- The head is what is wanted.
+-- The head has the expected header.
 abbrev pub IsExpected : ExpectedHeader → Head → Type 0
 IsExpected (Content t k) h = ⊥
-IsExpected (Scope k t) h = (kind_of h ≡ k) × (head_tag h ≡ t)
-IsExpected Alternative h = kind_of h ≡ 7
+IsExpected (Scope k t) h = (kind_of_scope h ≡ k) × (head_tag h ≡ t)
+IsExpected Alternative h = kind_of_scope h ≡ scope_kind.Alternative
 IsExpected Any h = ⊥
 
--- A call that takes the next item. Where no call has failed and the bytes that are left begin with the item of a header that is
--- what is wanted, it is taken, and what follows it is left.
+-- A call that takes the next item. If no call has failed and the bytes left begin with an item of the expected header, it takes
+-- that item and leaves the bytes after it.
 abbrev pub TakesItem : ExpectedHeader → DecodeState → DecodeState → Result Item DecodeError → Type 0
 TakesItem expected old new result =
     (h : Header) (inside back : List ℕ) → old.failed ≡ false → header_at (left_inside old.slices) ≡ Some h →

@@ -18,6 +18,6 @@ pub record IsCut (bytes : List ℕ) (n : ℕ) : Type 0 where
 pub cut_within : (bytes : List ℕ) (n : ℕ) → IsCut bytes n → n ≤ length bytes
 cut_within bytes n cut = omega (arith, cut.all_there, cut.long)
 
--- What a reader says of itself, for a type of this meaning and equality.
+-- The description of a reader, for a type of this meaning and equality.
 abbrev pub packed_fronts : {V : Type 0} → Meaning V → (V → V → Bool) → Fronts BenchReader V
 packed_fronts m eq = item_fronts IsCut Carries (λ own. is_one_item own) (λ reader. reader.depth) m eq

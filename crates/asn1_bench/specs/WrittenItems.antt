@@ -1,4 +1,4 @@
--- What a buffer of items has written, and what it does not take.
+-- The records that a buffer of items has written, and those that it rejects.
 use Rattle.std.specs.Prelude.{◌≡◌, Bool, true, false, ◌&&◌, List, [], ◌∷◌, ◌++◌, refl}
 use Rattle.std.proofs.Common.{inl, inr}
 use Rattle.asn1_buffers.specs.Buffers.{BufferForm}
@@ -51,7 +51,7 @@ module _ {P : Type 0} (marks : MarkBytes) where
   abbrev pub item_writer : Writer (BufferEncoder (ItemBuffer P))
   item_writer = buffer_writer written_items
 
-  -- What is too long stays so, whatever is written before it, after it and around it; and presence marks alone are not too long.
+  -- Records that are too long stay so with others before, after and around them; and presence marks alone are not too long.
   pub rejects_by_parts : RejectsByParts (in_one_order written_items)
   rejects_by_parts = record {
     part = λ before rs after t. too_long_after marks before (rs ++ after) (too_long_before marks rs after t);

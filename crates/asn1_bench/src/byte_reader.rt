@@ -7,7 +7,7 @@ use asn1_rules::FrontReader;
 
 /// Reads one byte as a value: the first byte of the input, with length 1.
 ///
-/// Where the input is empty the error is [`DecodeError::Incomplete`], with one byte that is missing.
+/// The error is [`DecodeError::Incomplete`] if the input is empty: one byte is missing.
 #[derive(Clone, Copy, Debug, Drop)]
 pub struct ByteReader;
 

@@ -4,7 +4,9 @@ use asn1_bounds::{Codec, Constraints};
 use asn1_buffers::WholeDecoder;
 use asn1_components::{Choice, EnumeratedTable, FieldTable};
 use asn1_dec::{DecodeError, Decoder};
-use asn1_items::{BAD_ITEM, DecodeState, ExpectedHeader, FromContent, Item, Opened, StringOf};
+use asn1_items::{
+    BAD_ITEM, DecodeState, ExpectedHeader, FromContent, Item, Opened, ScopeKind, StringOf,
+};
 use asn1_tags::{Tag, TagTree};
 use asn1_types::{Any, CodecString};
 use asn1_values::{Integer, IntegerType, ObjectIdentifier};
@@ -12,11 +14,10 @@ use std::alloc::Global;
 use std::marker::PhantomData;
 
 /// A decoder that reads from the bytes of items. It borrows them, and copies none but those of the values that it answers.
-/// `P` says how what may be absent is told.
+/// `P` defines how presence is written.
 ///
-/// Where bytes are missing outside all scopes the error is [`DecodeError::Incomplete`], with the number of bytes that are missing
-/// of the part that is read; where the bytes are not those that are asked for it is [`DecodeError::Custom`], with the text
-/// `bad item`.
+/// The error is [`DecodeError::Incomplete`] if bytes are missing outside all scopes, with the number of bytes that are missing of the
+/// part that is read; and [`DecodeError::Custom`], with the text `bad item`, if the bytes are not those that are asked for.
 #[derive(Drop)]
 pub struct ItemDecoder<'a, P> {
     alloc: Global,
@@ -69,7 +70,7 @@ impl<'a, P: Presence> ItemDecoder<'a, P> {
         self.state.finish()
     }
 
-    /// Takes the next item, which is to be what is wanted.
+    /// Takes the next item, which must have the expected header.
     #[inline(always)]
     fn take(&mut self, expected: ExpectedHeader) -> Result<Item<'a>, DecodeError>
         ensures took { TakesItem expected self.old.state self.new.state result }
@@ -134,7 +135,7 @@ impl<'a, P: Presence> ItemDecoder<'a, P> {
         self.state.open(item.tag, item.body)
     }
 
-    /// Opens a scope in which the order of the records means something.
+    /// Opens a scope whose records have a fixed order.
     fn open_in_order(&mut self, expected: ExpectedHeader) -> Result<(), DecodeError>
         ensures read { ReadsExpectedHead (item_reader P.mark_bytes) (IsExpected expected) (λ _ _. ⊤)
             self.old self.new result }
@@ -273,11 +274,11 @@ impl<'a, P: Presence> Decoder for ItemDecoder<'a, P> {
     }
 
     fn open_sequence<C: FieldTable>(&mut self, tag: Tag) -> Result<(), DecodeError> {
-        self.open_in_order(ExpectedHeader::Scope(2, tag))
+        self.open_in_order(ExpectedHeader::Scope(ScopeKind::Sequence, tag))
     }
 
     fn open_set<C: FieldTable>(&mut self, tag: Tag) -> Result<usize, DecodeError> {
-        self.open_list(ExpectedHeader::Scope(3, tag))
+        self.open_list(ExpectedHeader::Scope(ScopeKind::Set, tag))
     }
 
     fn next_component<C: FieldTable>(&mut self) -> Result<Option<Tag>, DecodeError> {
@@ -300,7 +301,7 @@ impl<'a, P: Presence> Decoder for ItemDecoder<'a, P> {
         tag: Tag,
         _constraints: &Constraints<'_>,
     ) -> Result<usize, DecodeError> {
-        self.open_list(ExpectedHeader::Scope(4, tag))
+        self.open_list(ExpectedHeader::Scope(ScopeKind::SequenceOf, tag))
     }
 
     fn open_set_of(
@@ -308,11 +309,11 @@ impl<'a, P: Presence> Decoder for ItemDecoder<'a, P> {
         tag: Tag,
         _constraints: &Constraints<'_>,
     ) -> Result<usize, DecodeError> {
-        self.open_list(ExpectedHeader::Scope(5, tag))
+        self.open_list(ExpectedHeader::Scope(ScopeKind::SetOf, tag))
     }
 
     fn open_explicit_prefix(&mut self, tag: Tag) -> Result<(), DecodeError> {
-        self.open_in_order(ExpectedHeader::Scope(6, tag))
+        self.open_in_order(ExpectedHeader::Scope(ScopeKind::ExplicitTag, tag))
     }
 
     fn open_choice<T: Choice>(

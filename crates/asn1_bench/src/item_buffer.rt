@@ -1,20 +1,17 @@
 //! The bytes of items, as an encoder writes them.
 ghost use Rattle.asn1_buffers.specs.declared.error.WriteError.TheVariants.{Memory};
-ghost use Rattle.asn1_buffers.specs.MarksAndScopes.{kind_of_scope};
-ghost use Rattle.asn1_items.specs.Headers.{kind_of};
 ghost use Rattle.asn1_items.specs.declared.error.BufferError.TheVariants as buffer_error;
-ghost use Rattle.asn1_model.specs.Records.{Head};
 ghost use Rattle.std.specs.Prelude.{◌≡◌, ◌↔◌};
 
 use crate::presence::Presence;
 use asn1_bounds::Codec;
-use asn1_buffers::{MarkKind, RecordBuffer, ScopeKind, WriteError};
-use asn1_items::{Buffer, BufferError, Content};
+use asn1_buffers::{MarkKind, RecordBuffer, WriteError};
+use asn1_items::{Buffer, BufferError, Content, ScopeKind};
 use asn1_tags::Tag;
 use std::alloc::Global;
 use std::marker::PhantomData;
 
-/// A buffer of the bytes of items. `P` says how what may be absent is told.
+/// A buffer of the bytes of items. `P` defines how presence is written.
 ///
 /// It does not take the records that are too long, with 2^32 bytes or more inside an item: [`WriteError::Rejected`], with the text
 /// `item too long`.
@@ -72,7 +69,7 @@ impl<P: Presence> RecordBuffer for ItemBuffer<P> {
 
     #[inline(always)]
     fn begin_scope(&mut self, kind: ScopeKind, tag: Tag) -> Result<(), WriteError> {
-        match self.items.open_scope(number_of(kind), tag) {
+        match self.items.open_scope(kind, tag) {
             Ok(()) => Ok(()),
             Err(error) => Err(write_error_of(error)),
         }
@@ -122,20 +119,5 @@ fn write_error_of(error: BufferError) -> WriteError
         BufferError::Memory => WriteError::Memory,
         BufferError::TooLong => WriteError::Rejected("item too long"),
         BufferError::NotOpen => WriteError::Rejected("nothing is open"),
-    }
-}
-
-/// The number of a kind of scope, by which a header tells it.
-#[inline(always)]
-fn number_of(kind: ScopeKind) -> u8
-    ensures { (h : Head) → kind_of_scope h ≡ kind → kind_of h ≡ result }
-{
-    match kind {
-        ScopeKind::Sequence => 2,
-        ScopeKind::Set => 3,
-        ScopeKind::SequenceOf => 4,
-        ScopeKind::SetOf => 5,
-        ScopeKind::ExplicitTag => 6,
-        ScopeKind::Alternative => 7,
     }
 }

@@ -1,6 +1,7 @@
 //! Laws of what no other contract names: what the codec and its reader come to, and what derives give.
 ghost use Rattle.asn1_bench.specs.Outputs.{AreTooLong};
 ghost use Rattle.asn1_items.specs.Headers.{is_one_item};
+ghost use Rattle.asn1_items.specs.Items.{packed_marks};
 ghost use Rattle.asn1_model.specs.Meaning.{IsWellTagged, own_records};
 ghost use Rattle.asn1_model.specs.Records.{Record, highest};
 ghost use Rattle.asn1_bench.specs.Carried.{Carries, CarriesWith};
@@ -25,7 +26,7 @@ pub fn the_codec_rejects_what_is_too_long(output: &Vec<u8>)
     ensures accepts { (bytes : List ℕ) →
         ⟦<BenchRules as Rules>⟧.format.accepts bytes ≡ is_one_item bytes }
     ensures rejects { (rs : List Record) → ⟦<BenchRules as Rules>⟧.format.rejects rs ↔
-        AreTooLong rs }
+        AreTooLong packed_marks rs }
 {}
 
 /// A law of each form of items, whatever the bytes of its presence marks are: what is too long, and so rejected, has no output.

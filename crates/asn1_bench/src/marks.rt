@@ -60,7 +60,7 @@ impl Presence for PresenceMarks {
 
 /// Whether something is there, by one of two presence marks.
 fn tell(slices: &mut Slices<'_>, there: u8, away: u8) -> Result<bool, ItemError>
-    ensures told { (p a : PresenceMark) (own : Tags) → mark_byte p ≡ there → mark_byte a ≡ away →
+    ensures found { (p a : PresenceMark) (own : Tags) → mark_byte p ≡ there → mark_byte a ≡ away →
         there ≢ away → FindsPresence packed_marks p a own slices.old slices.new result }
     ensures keeps_outside { KeepsOutside slices.old slices.new }
 {

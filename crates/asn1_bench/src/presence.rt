@@ -1,6 +1,6 @@
-//! How what may be absent is told.
+//! Presence and absence in the bytes of items.
 ghost use Rattle.asn1_bounds.specs.declared.codec.Codec.{Codec};
-ghost use Rattle.asn1_buffers.specs.MarksAndScopes.{kind_of_mark};
+ghost use Rattle.asn1_buffers.specs.MarksAndContents.{kind_of_mark};
 ghost use Rattle.asn1_laws.specs.Reading.{marks_passed};
 ghost use Rattle.asn1_components.specs.ComponentLists.{trees_of};
 ghost use Rattle.asn1_components.specs.Components.{all_components, lines};
@@ -40,7 +40,7 @@ pub trait Presence {
     /// # Errors
     /// [`ItemError::Missing`] where the bytes end before this is known, and [`ItemError::Malformed`] where they do not say it.
     fn component(slices: &mut Slices<'_>, tree: TagTree<'static>) -> Result<bool, ItemError>
-        ensures told { (side : Side) (t : Tag) → FindsPresence mark_bytes (present side t)
+        ensures found { (side : Side) (t : Tag) → FindsPresence mark_bytes (present side t)
             (absent side t) (tree_tags (shape tree.entry)) slices.old slices.new result }
         ensures keeps_outside { KeepsOutside slices.old slices.new };
 
@@ -50,7 +50,7 @@ pub trait Presence {
     /// # Errors
     /// As `component`.
     fn group<C: FieldTable>(slices: &mut Slices<'_>) -> Result<bool, ItemError>
-        ensures told { FindsPresence mark_bytes (group_start (lines C.components)) group_absent
+        ensures found { FindsPresence mark_bytes (group_start (lines C.components)) group_absent
             (tree_tags (choice (trees_of (all_components C.components))))
             slices.old slices.new result }
         ensures keeps_outside { KeepsOutside slices.old slices.new };

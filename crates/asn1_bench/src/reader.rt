@@ -11,10 +11,9 @@ use std::alloc::Global;
 
 /// Reads values from the front of packed bytes, each with at most this many nested scopes.
 ///
-/// The item with which an input begins is found by its header, and is read as a whole. Where not all of it is there, or the
-/// input does not begin with an item, the bytes are read as they are, and the error is that of `read_value` of
-/// [`BenchRules`](crate::BenchRules); or [`DecodeError::Custom`] with the text `bad item`, where they are a value of a type that
-/// is no item, as an `Option` that is absent.
+/// The reader finds the first item of an input by its header, and reads it as a whole. If the item is not complete, or the input does
+/// not begin with an item, the error is that of `read_value` of [`BenchRules`](crate::BenchRules) for all of the input; or
+/// [`DecodeError::Custom`] with the text `bad item`, if the input is a value of a type that is no item, as an absent `Option`.
 #[derive(Clone, Copy, Debug, Drop)]
 pub struct BenchReader {
     alloc: Global,
@@ -44,7 +43,7 @@ impl BenchReader {
         read_whole(decoder)
     }
 
-    /// Why bytes are not read that begin with no whole item.
+    /// The error for an input that begins with no complete item.
     fn refusal<D: Decode>(&self, input: &[u8]) -> DecodeError {
         match self.read::<D>(input) {
             Ok(_no_item) => DecodeError::Custom("bad item"),

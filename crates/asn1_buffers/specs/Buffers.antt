@@ -1,4 +1,4 @@
--- What a buffer says of itself, and what a call of it does.
+-- The description of a buffer, and the effect of its calls.
 use Rattle.std.specs.Prelude.{◌≡◌, ◌≢◌, ℕ, List, [], ◌∷◌, MatchResult, OnOk, Result, Some}
 use Rattle.asn1_buffers.specs.declared.error.WriteError.{WriteError}
 use Rattle.asn1_buffers.specs.declared.error.WriteError.TheVariants.{Memory}
@@ -8,8 +8,8 @@ use Rattle.asn1_model.specs.Orders.{SameRecord}
 use Rattle.asn1_model.specs.Records.{Head, Record, holding}
 use Rattle.asn1_model.specs.RecordTables.{Line, Table}
 
--- What a buffer says of itself: what has been written in it, in the very order of the records; which records it does not take;
--- and which bytes are those of records.
+-- The description of a buffer: the records that it has written, in their very order; the records that it rejects; and the bytes of
+-- records.
 pub record BufferForm (B : Type 0) : Type 1 where
   pub wrote : B → Written → Type 0
   pub rejects : List Record → Type 0

@@ -1,4 +1,4 @@
--- What an encoder over a buffer has written, and what it rejects.
+-- The records that an encoder over a buffer has written, and those that it rejects.
 use Rattle.std.specs.Prelude.{◌≡◌, ℕ, suc, ◌+◌, List}
 use Rattle.asn1_buffers.specs.Buffers.{BufferForm}
 use Rattle.asn1_buffers.specs.declared.encoder.BufferEncoder.{BufferEncoder}

@@ -1,5 +1,5 @@
 pub mod Buffers
 pub mod Encoder
 pub mod Format
-pub mod MarksAndScopes
+pub mod MarksAndContents
 pub mod CompleteInput

@@ -2,10 +2,11 @@
 ghost use Rattle.asn1_bounds.specs.declared.codec.Codec.{Codec};
 ghost use Rattle.asn1_buffers.specs.Buffers.{AppendsRecord, BeginsGroup, BeginsScope, BufferForm, EndsGroup, EndsScope};
 ghost use Rattle.asn1_buffers.specs.Encoder.{in_one_order};
-ghost use Rattle.asn1_buffers.specs.MarksAndScopes.{kind_of_mark, kind_of_scope, unlabelled};
+ghost use Rattle.asn1_buffers.specs.MarksAndContents.{kind_of_mark, unlabelled};
 ghost use Rattle.asn1_laws.specs.Writing.{outermost};
 ghost use Rattle.asn1_laws.specs.WritingUpToOrder.{RejectsByParts};
 ghost use Rattle.asn1_items.specs.Contents.{content_of};
+ghost use Rattle.asn1_items.specs.Kinds.{kind_of_scope};
 ghost use Rattle.asn1_model.specs.ConstraintSets.{ConstraintSet};
 ghost use Rattle.asn1_model.specs.Records as model;
 ghost use Rattle.asn1_model.specs.Records.{Head, Name, PresenceMark, Record, open_type, presence_mark, scalar};
@@ -14,9 +15,9 @@ ghost use Rattle.asn1_model.specs.Tags.{head_tag};
 ghost use Rattle.std.specs.Prelude.{◌≡◌, [], List};
 
 use crate::error::WriteError;
-use crate::kinds::{MarkKind, ScopeKind};
+use crate::kinds::MarkKind;
 use asn1_bounds::Codec;
-use asn1_items::Content;
+use asn1_items::{Content, ScopeKind};
 use asn1_tags::Tag;
 use std::alloc::Global;
 
@@ -26,7 +27,7 @@ use std::alloc::Global;
 /// [`WriteError::Rejected`] comes only for records that have no bytes, and where a scope or a group is ended and no such is
 /// innermost.
 pub trait RecordBuffer: Drop + Sized {
-    // What has been written, which records are not taken, and which bytes records have.
+    // The records that have been written, the records that are rejected, and the bytes of records.
     ghost form: { BufferForm Self };
 
     // The name of the codec.

@@ -3,11 +3,11 @@ ghost use Rattle.std.specs.Prelude.{◌≤◌};
 
 use crate::buffer::RecordBuffer;
 use crate::error::WriteError;
-use crate::kinds::{MarkKind, ScopeKind};
+use crate::kinds::MarkKind;
 use asn1_bounds::{Codec, Constraints};
 use asn1_components::{Choice, EnumeratedTable, FieldTable};
 use asn1_enc::{EncodeError, Encoder};
-use asn1_items::Content;
+use asn1_items::{Content, ScopeKind};
 use asn1_tags::{Identifier, Tag};
 use asn1_types::{Any, CodecString};
 use asn1_values::IntegerType;
@@ -30,7 +30,8 @@ pub struct BufferEncoder<B> {
 
 impl<B: RecordBuffer> BufferEncoder<B> {
     ghost use Rattle.asn1_buffers.specs.Encoder.{CarriesUpToOrder, buffer_writer, scopes_in};
-    ghost use Rattle.asn1_buffers.specs.MarksAndScopes.{kind_of_mark, kind_of_scope, unlabelled};
+    ghost use Rattle.asn1_buffers.specs.MarksAndContents.{kind_of_mark, unlabelled};
+    ghost use Rattle.asn1_items.specs.Kinds.{kind_of_scope};
     ghost use Rattle.asn1_buffers.specs.declared.error.WriteError.TheVariants as write_error;
     ghost use Rattle.asn1_laws.specs.Writing.{WritesEnd, ClosesGroup, IsRejection, WritesHead, OpensGroup, IsOutOfMemory, Writes, Written, outermost};
     ghost use Rattle.asn1_laws.specs.declared.encode_error.EncodeError.TheVariants.{Depth, Failed, Memory};

@@ -1,4 +1,4 @@
-//! The kinds of presence marks and of scopes.
+//! The kinds of presence marks.
 
 /// A kind of presence mark.
 #[derive(Clone, Copy, Debug)]
@@ -13,21 +13,4 @@ pub enum MarkKind {
     GroupAbsent,
     /// A group of additions ends.
     GroupEnd,
-}
-
-/// A kind of scope.
-#[derive(Clone, Copy, Debug)]
-pub enum ScopeKind {
-    /// A SEQUENCE.
-    Sequence,
-    /// A SET.
-    Set,
-    /// A SEQUENCE OF.
-    SequenceOf,
-    /// A SET OF.
-    SetOf,
-    /// What follows an explicit tag.
-    ExplicitTag,
-    /// The chosen alternative of a CHOICE.
-    Alternative,
 }

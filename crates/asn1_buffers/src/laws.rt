@@ -7,7 +7,7 @@ ghost use Rattle.std.specs.Prelude.{◌↔◌, List};
 
 use crate::buffer::RecordBuffer;
 use crate::encoder::BufferEncoder;
-use crate::kinds::{MarkKind, ScopeKind};
+use crate::kinds::MarkKind;
 use asn1_enc::Encoder;
 
 /// A law of the encoder: what types see that it has written (`wrote`) and rejects (`rejects`).
@@ -22,6 +22,4 @@ pub fn the_encoder_writes_in_its_buffer<B: RecordBuffer>(encoder: &BufferEncoder
 pub fn clones_are_their_sources()
     ensures kinds_of_marks { ClonesAll ⟦<MarkKind as Clone>⟧.is_clone
         ⟦<MarkKind as Clone>⟧.is_infallible }
-    ensures kinds_of_scopes { ClonesAll ⟦<ScopeKind as Clone>⟧.is_clone
-        ⟦<ScopeKind as Clone>⟧.is_infallible }
 {}

@@ -6,14 +6,14 @@
 //! | [`BufferEncoder`] | the encoder over it |
 //! | [`write_whole`], [`read_whole`] | write a value to bytes, and read one of all bytes |
 //! | [`WholeDecoder`] | a decoder of a whole input |
-//! | [`MarkKind`], [`ScopeKind`] | the kinds of presence marks and of scopes, by which a buffer is told them |
+//! | [`MarkKind`], [`ScopeKind`] | the kinds of presence marks and of scopes |
 //! | [`WriteError`] | why something was not written |
 //! | [`laws`] | what types see of the encoder, and what the derives give |
 //!
 //! A buffer says what has been written in it, in the order of the records (`BufferForm` of `specs/Buffers.antt`), and nothing of
 //! the depth, of what follows an error, or of orders that mean the same; these are the encoder's.
 //!
-//! What the contracts promise, and the words that they use:
+//! Promises, and the words of the contracts:
 //!
 //! - The encoder keeps the laws of every encoder (`Encoder`). It has written what its buffer has; as types see it, the order
 //!   inside sets means nothing (`buffer_writer` of `specs/Encoder.antt`). It rejects the records that the buffer rejects, up to
@@ -35,8 +35,9 @@ mod kinds;
 pub mod laws;
 mod whole;
 
+pub use asn1_items::ScopeKind;
 pub use buffer::RecordBuffer;
 pub use encoder::BufferEncoder;
 pub use error::WriteError;
-pub use kinds::{MarkKind, ScopeKind};
+pub use kinds::MarkKind;
 pub use whole::{WholeDecoder, read_whole, write_whole};

@@ -42,9 +42,9 @@ pub trait WholeDecoder: Decoder + Drop + Sized {
 /// Reads the value of which a decoder has the whole input, with no trailing bytes.
 ///
 /// # Errors
-/// Where the own records of a valid value of a well-tagged type remain, [`DecodeError::Depth`] only where these are nested deeper
-/// than the depth left, and else [`DecodeError::Memory`]. Where records remain that the type refuses, the error of the type, or
-/// one of these two in the same way. Before others, the error of the decoder.
+/// If the own records of a valid value of a well-tagged type remain, [`DecodeError::Depth`] only if they are nested deeper than the
+/// depth left, and else [`DecodeError::Memory`]. If records remain that the type refuses, the error of the type, or one of these
+/// two in the same way. If others remain, the error of the decoder.
 pub fn read_whole<T: Decode, D: WholeDecoder>(mut decoder: D) -> Result<T, DecodeError>
     ensures read { ReadsOwnRecords D.reader T.meaning T.eq decoder result }
     ensures refuses { RefusesAsItsType D.reader T.meaning T.refusals decoder result }

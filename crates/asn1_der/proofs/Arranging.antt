@@ -22,7 +22,7 @@ map-swap f (d ∷ xs) i j =
     ∙ ap (λ l. set l j (f (get_or ys i d))) (map-set f ys i (get_or ys j d) ∙ ap (λ y. set (map f ys) i y) (sym (get_or-map f ys j d)))
     ∙ ap (λ y. set (set (map f ys) i (get_or (map f ys) j (f d))) j y) (sym (get_or-map f ys i d))
 
--- What a rearrangement of the images of a list is made of.
+-- A rearrangement of the images of a list is the image of a rearrangement.
 record IsMovedBelow {X Y : Type 0} (f : X → Y) (xs : List X) (ys : List Y) : Type 0 where
   order : List X
   moved : IsPermutation xs order
@@ -109,7 +109,7 @@ pub record AreRearranged (rs : List Record) (sorted : List (List ℕ)) : Type 0 
   pub moved : IsPermutation order rs
   pub have_der : HaveDer (held order) (flat_map (λ e. e) sorted)
 
--- What is inside a set: elements, by whose order the records can be rearranged.
+-- The elements inside a set, by whose order the records can be rearranged.
 pub record CanBeRearranged (rs : List Record) (inside : List ℕ) : Type 0 where
   pub elements : List (List ℕ)
   pub joined : AreJoined elements inside

@@ -38,7 +38,7 @@ none_below ByEncoding [] = refl
 none_below ByEncoding (b ∷ own) = refl
 none_below Chosen own = refl
 
--- elements in order rise one after another
+-- sorted elements ascend one after another
 later : {X : Type 0} (lt : X → X → Bool) (x : X) (xs : List X) → IsSortedBy lt (x ∷ xs) → IsSortedBy lt xs
 later lt x xs sorted k d low high =
     let next : k + 1 ≡ suc k = omega arith in
@@ -55,7 +55,7 @@ ascend : (content_order : ContentOrder) (xs : List (List ℕ)) → IsSortedBy (p
 ascend content_order [] sorted = tt
 ascend content_order (x ∷ xs) sorted = (none_below content_order x, ascend_after content_order x xs sorted)
 
--- and elements that rise one after another are in order
+-- and elements that ascend one after another are sorted
 with_first : {X : Type 0} (lt : X → X → Bool) (x y : X) (ys : List X) → lt y x ≡ false → IsSortedBy lt (y ∷ ys) → IsSortedBy lt (x ∷ y ∷ ys)
 with_first lt x y ys above sorted zero d low high = above
 with_first lt x y ys above sorted (suc k) d low high =
@@ -122,7 +122,7 @@ next_found content_order before left a some never =
     let n = next_element content_order before left a some in
     is_found n.element n.own n.back left n.alone n.is never
 
--- What was found is not below the one before it, and the others are after it.
+-- The next element is not below the one before it, and the others are after it.
 pub record Goes (content_order : ContentOrder) (before own rest : List ℕ) : Type 0 where
   pub above : precedes content_order own before ≡ false
   pub after : AreAfter content_order own rest
@@ -140,8 +140,8 @@ goes content_order before left found a some at =
       after = subst (λ l. AreAfter content_order l found.rest) (sym whole) (subst (AreAfter content_order n.own) (sym behind) n.after);
     }
 
--- What was found has the tag that was found, and where it is not below the one before it, and the others are after it, all of
--- them are after that one.
+-- The next element has its tag; and if it is not below the one before it, and the others are after it, all of them are after that
+-- one.
 pub record IsFound (content_order : ContentOrder) (left : List ℕ) (tag : Tag) (own rest : List ℕ) : Type 0 where
   pub its_tag : tag ≡ tag_of own
   pub with_others : (before : List ℕ) → precedes content_order own before ≡ false → AreAfter content_order own rest → AreAfter content_order before left

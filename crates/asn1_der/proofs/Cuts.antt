@@ -36,7 +36,7 @@ one_cut bytes m n a b =
     let same : a.element ≡ b.element = cc in
     omega (arith, a.long, b.long, ap (λ (e : Element). length e.rest) same)
 
--- What is cut off is one element, and one element is cut off.
+-- A cut is one element, and one element is a cut.
 abbrev IsElementLong : List ℕ → ℕ → Type 0
 IsElementLong bytes n = (n ≤ length bytes) × IsTrue (is_one_element (take n bytes))
 

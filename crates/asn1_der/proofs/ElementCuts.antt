@@ -33,7 +33,7 @@ found_in_front own back is =
 pub is_found : (own back bytes : List ℕ) (P : Type 0) → IsTrue (is_one_element own) → bytes ≡ own ++ back → ((e : Element) → element_at bytes ≡ Some e → P) → P
 is_found own back bytes P one is f = let found = found_in_front own back one in f found.element (ap element_at is ∙ found.at)
 
--- What was cut off.
+-- The element that was cut off.
 pub record IsCutOff (own back front rest : List ℕ) (tag : Tag) : Type 0 where
   pub front_is : front ≡ own
   pub rest_is : rest ≡ back

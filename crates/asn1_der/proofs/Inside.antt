@@ -1,4 +1,4 @@
--- What is inside a record that holds others.
+-- The contents of a record that holds others.
 use Rattle.std.proofs.Common.{◌≡◌, ℕ, true, List, [], Ok, Err, refl, subst, sym, ◌∙◌}
 use Rattle.std.specs.Prelude.{Option, Some, None, IfOk, IfSome, OnOk, Result}
 use Rattle.asn1_laws.specs.declared.decode_error.DecodeError.{DecodeError}
@@ -7,7 +7,7 @@ use Rattle.asn1_der_items.specs.Bytes.{HasDer, HaveDer, HoldsInOrder}
 use Rattle.asn1_der_items.specs.Series.{IsAlone}
 use Rattle.asn1_der_items.specs.declared.content_order.ContentOrder.{ContentOrder}
 use Rattle.asn1_der_items.specs.declared.content_order.ContentOrder.TheVariants.{AsDefined, ByTag, ByEncoding, Chosen}
-use Rattle.asn1_der.specs.Decoder.{AreInOrder, IsInside, IsParsed, IsExpected}
+use Rattle.asn1_der.specs.Decoder.{AreInOrder, BeginWithScope, HoldsOthers, IsExpected, IsFirstOf, IsInside, IsParsed}
 use Rattle.asn1_der.specs.declared.parsed_element.ParsedElement.{ParsedElement}
 use Rattle.asn1_der_items.specs.Elements.{Element}
 use Rattle.asn1_items.specs.Slices.{left_inside}
@@ -57,7 +57,7 @@ inside_of Chosen t rs own p =
     let o = one_of t own p.1 in
     record { element = o.element; alone = o.alone; tag = o.tag; inside = own; is = refl; have = p.0 }
 
--- what is inside a record whose head is what is wanted
+-- the contents of a record with the expected head
 pub inside_expected : (content_order : ContentOrder) (tag : Option Tag) (h : model.Head) (items : List model.Record) (own : List ℕ) → IsExpected content_order tag h → HasDer (holding h items) own →
     Inside content_order (head_tag h) (held items) own
 inside_expected content_order tag h items own expected has = inside_of content_order (head_tag h) (held items) own (subst (λ f. HoldsInOrder f (head_tag h) (HaveDer (held items)) own) expected.has_order has)
@@ -81,3 +81,23 @@ opened_in_order content_order parsed inside old new tag (Err e) is opened = tt
 opened_in_order content_order parsed inside old new tag (Ok w) is opened =
     let e : Element = record { tag = parsed.tag; constructed = parsed.constructed; contents = parsed.contents.now; rest = [] } in
     subst (AreInOrder content_order) (sym opened.inside_is) (in_order content_order e parsed.bytes.now inside (is e parsed.bytes.now (record { tag = refl; constructed = refl; contents = refl; bytes = refl })))
+
+-- an element that was opened holds others
+holds_others : (content_order : ContentOrder) (e : Element) (own inside : List ℕ) → IsInside content_order e own inside → HoldsOthers content_order e
+holds_others AsDefined e own inside is = is.constructed
+holds_others ByTag e own inside is = is.0.constructed
+holds_others ByEncoding e own inside is = is.0.constructed
+holds_others Chosen e own inside is = tt
+
+-- and it is the first one
+pub begin_with_scope : (content_order : ContentOrder) (tag : Option Tag) (parsed : ParsedElement) (inside bytes : List ℕ) (result : Result Opened DecodeError) → IsFirstOf parsed bytes → IfSome tag (λ t. parsed.tag ≡ t) →
+    ((e : Element) (own : List ℕ) → IsParsed parsed e own → IsInside content_order e own inside) → OnOk result (BeginWithScope content_order tag bytes)
+begin_with_scope content_order tag parsed inside bytes (Err e) first under is = tt
+begin_with_scope content_order tag parsed inside bytes (Ok w) first under is =
+    let e : Element = record { tag = parsed.tag; constructed = parsed.constructed; contents = parsed.contents.now; rest = first.rest } in
+    record {
+      element = e;
+      at = first.at;
+      has_tag = under;
+      holds_others = holds_others content_order e parsed.bytes.now inside (is e parsed.bytes.now (record { tag = refl; constructed = refl; contents = refl; bytes = refl }));
+    }

@@ -1,4 +1,4 @@
--- What was found is the element that is next.
+-- The element that was found is the next one.
 use Rattle.std.proofs.Common.{◌≡◌, ℕ, ◌-◌, List, ◌++◌, Some, length, length-append, take, refl, sym, ap, ◌∙◌, arith}
 use Rattle.std.proofs.Math.Seq.{take-append_seam}
 use Rattle.asn1_der_items.specs.Series.{IsAlone}

@@ -86,7 +86,7 @@ all_cut order elements pieces left none so_far = by so_far.todo so_far.are so_fa
     by (own ∷ todo) are joined =
         absurd (nothing_is_no_element own (flat_map (λ e. e) todo) (All-head (λ e. IsTrue (is_one_element e)) own todo joined.each) (sym joined.are ∙ none))
 
--- What is in order as it is: no element, and one.
+-- No element and one element are in order.
 none_sorted : (order : Order) → AreSorted order [] []
 none_sorted Tags = record { sorted = []; moved = IsPermutation-refl []; in_order = λ k d low high. absurd (omega (arith, high)); are = refl }
 none_sorted Encodings = record { sorted = []; moved = IsPermutation-refl []; in_order = λ k d low high. absurd (omega (arith, high)); are = refl }

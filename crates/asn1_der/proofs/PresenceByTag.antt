@@ -1,4 +1,4 @@
--- What the tag of the next element tells: whether something is there, and whose the next record of a SET is.
+-- A component is present if the next tag is one of its own; and the next component of a SET is the one with the next tag.
 use Rattle.std.proofs.Common.{◌≡◌, ℕ, Bool, true, false, List, [], ◌∷◌, Option, None, Some, Ok, Err, refl, ap, sym, subst, ◌∙◌, arith}
 use Rattle.std.specs.Prelude.{◌↔◌, IsTrue, MatchResult, OnOk, Result}
 use Rattle.asn1_laws.proofs.MarksPassed.{first_left, none_left}
@@ -94,9 +94,9 @@ false_of false h = refl
 
 module _ (d e : DerDecoder) (there away : model.PresenceMark) (own : Tags) where
   -- an element is next: the component is there if and only if its tag is one of the component's
-  pub told : (t : Tag) (b : Bool) (next : Option Tag) → next ≡ Some t → e.state.failed ≡ false → e.state.slices ≡ d.state.slices → ((rs : List model.Record) → d.state.failed ≡ false → AreLeft rs d.state.slices → IsNext rs next) → IsTrue b ↔ Has own t →
+  pub found : (t : Tag) (b : Bool) (next : Option Tag) → next ≡ Some t → e.state.failed ≡ false → e.state.slices ≡ d.state.slices → ((rs : List model.Record) → d.state.failed ≡ false → AreLeft rs d.state.slices → IsNext rs next) → IsTrue b ↔ Has own t →
       TellsPresence in_one_order d e there away own (Ok b)
-  told t b next is no_failure same tells has = record {
+  found t b next is no_failure same tells has = record {
     there = λ rest outer begins at.
         let left = without_mark there rest (left_inside d.state.slices) at.inside in
         record {
@@ -114,25 +114,25 @@ module _ (d e : DerDecoder) (there away : model.PresenceMark) (own : Tags) where
   }
 
   -- none is next: it is absent
-  pub told_none : (next : Option Tag) → next ≡ None → e.state.failed ≡ false → e.state.slices ≡ d.state.slices → ((rs : List model.Record) → d.state.failed ≡ false → AreLeft rs d.state.slices → IsNext rs next) →
+  pub none_found : (next : Option Tag) → next ≡ None → e.state.failed ≡ false → e.state.slices ≡ d.state.slices → ((rs : List model.Record) → d.state.failed ≡ false → AreLeft rs d.state.slices → IsNext rs next) →
       TellsPresence in_one_order d e there away own (Ok false)
-  told_none next is no_failure same tells = record {
+  none_found next is no_failure same tells = record {
     there = λ rest outer begins at.
         let wrong = sym begins.some ∙ (tells rest at.no_failure (without_mark there rest (left_inside d.state.slices) at.inside)).none is in cc;
     away = λ rest outer apart at. record { answer = refl; at = past_mark d.state e.state away rest outer no_failure same at; within_depth_left = omega arith };
   }
 
-  -- where records are left, it is told
-  pub not_told : (result : Result Bool DecodeError) (error : DecodeError) → result ≡ Err error → ((rs : List model.Record) → d.state.failed ≡ false → AreLeft rs d.state.slices → ⊥) → TellsPresence in_one_order d e there away own result
-  not_told result error is never = record {
+  -- if records are left, a component is present or absent
+  pub not_found : (result : Result Bool DecodeError) (error : DecodeError) → result ≡ Err error → ((rs : List model.Record) → d.state.failed ≡ false → AreLeft rs d.state.slices → ⊥) → TellsPresence in_one_order d e there away own result
+  not_found result error is never = record {
     there = λ rest outer begins at. absurd (never rest at.no_failure (without_mark there rest (left_inside d.state.slices) at.inside));
     away = λ rest outer apart at. absurd (never rest at.no_failure (without_mark away rest (left_inside d.state.slices) at.inside));
   }
 
 -- the tag of the next record of a SET
-pub next_told : {V : Type 0} (cs : List (ComponentType V)) (d e : DerDecoder) (items : List model.Record) (outer : Outside) (next : Option Tag) → e.state.failed ≡ false → e.state.slices ≡ d.state.slices → IsNext items next →
+pub next_found : {V : Type 0} (cs : List (ComponentType V)) (d e : DerDecoder) (items : List model.Record) (outer : Outside) (next : Option Tag) → e.state.failed ≡ false → e.state.slices ≡ d.state.slices → IsNext items next →
     RemainsExactly der_form d.state (items, outer) → HasAdvanced in_one_order d e 0 (marks_passed items, outer) (IsNextTag cs items next)
-next_told cs d e items outer next no_failure same is at = record {
+next_found cs d e items outer next no_failure same is at = record {
   answer = record { none = is.none; some = λ t found. (t, (is.some t found, selects_itself cs (first_tags items) t (is.some t found))) };
   at = record {
     no_failure = no_failure;
@@ -142,8 +142,8 @@ next_told cs d e items outer next no_failure same is at = record {
   within_depth_left = omega arith;
 }
 
-pub next_tag_told : {V : Type 0} (cs : List (ComponentType V)) (d e : DerDecoder) (items : List model.Record) (outer : Outside) (result : Result (Option Tag) DecodeError) →
+pub next_tag_found : {V : Type 0} (cs : List (ComponentType V)) (d e : DerDecoder) (items : List model.Record) (outer : Outside) (result : Result (Option Tag) DecodeError) →
     ((rs : List model.Record) → d.state.failed ≡ false → AreLeft rs d.state.slices → MatchResult result (IsNext rs) (λ _. ⊥)) → OnOk result (e.state.slices ≡ d.state.slices) → OnOk result (e.state.failed ≡ false) →
     Advances in_one_order d e 0 (items, outer) (marks_passed items, outer) (IsNextTag cs items) result
-next_tag_told cs d e items outer (Ok next) told same no_failure at = next_told cs d e items outer next no_failure same (told items at.no_failure at.inside) at
-next_tag_told cs d e items outer (Err error) told same no_failure at = absurd (told items at.no_failure at.inside)
+next_tag_found cs d e items outer (Ok next) found same no_failure at = next_found cs d e items outer next no_failure same (found items at.no_failure at.inside) at
+next_tag_found cs d e items outer (Err error) found same no_failure at = absurd (found items at.no_failure at.inside)

@@ -1,4 +1,4 @@
--- What remains of a decoder of DER: presence marks have no bytes, and a record is not the end.
+-- The elements left to a decoder of DER: presence marks have no bytes, and a record is not the end.
 use Rattle.std.proofs.Common.{◌≡◌, ◌∙◌, false, List, [], ◌∷◌, refl, sym, subst}
 use Rattle.asn1_laws.proofs.RemainingRecords.{same_as_record}
 use Rattle.asn1_laws.specs.Reading.{Outside}

@@ -1,9 +1,9 @@
--- What a buffer of DER has written, from call to call.
+-- The elements that a buffer of DER has written, from call to call.
 use Rattle.std.proofs.Common.{◌≡◌, ℕ, Bool, true, false, List, [], ◌∷◌, ◌++◌, append_assoc, append-nil, length, refl, sym, ap, subst, ◌∙◌, inr}
 use Rattle.std.proofs.lemmas.List.{reverse-append}
 use Rattle.std.proofs.lemmas.List.Sorted.{All-permutation}
 use Rattle.std.specs.Prelude.{All, IsTrue, Some, reverse, if◌then◌else◌}
-use Rattle.asn1_buffers.specs.MarksAndScopes.{unlabelled}
+use Rattle.asn1_buffers.specs.MarksAndContents.{unlabelled}
 use Rattle.asn1_laws.specs.Writing.{Written, outermost, in_scope, in_group, followed_by}
 use Rattle.asn1_der_items.specs.Bytes.{CannotHold, HasDer, HasNoDer, HaveDer, HoldsInOrder, content_order_of}
 use Rattle.asn1_der_items.specs.declared.content_order.ContentOrder.{ContentOrder}
@@ -153,7 +153,7 @@ in_order order AreInOrder elements bytes each sorted rise = record {
   are = sorted.are;
 }
 
--- the form in which elements are in an order
+-- the content order of a sorting order
 abbrev pub content_order_for : Order → ContentOrder
 content_order_for Tags = ByTag
 content_order_for Encodings = ByEncoding
@@ -162,7 +162,7 @@ unordered_in : (order : Order) (h : Head) → content_order_for order ≡ conten
 unordered_in Tags h is = unordered_by_tag h is
 unordered_in Encodings h is = unordered_by_encoding h is
 
--- sorted elements, in the words of the form
+-- sorted elements, in the words of the content order
 in_content_order : (order : Order) (t : Tag) (elements : List (List ℕ)) (IsInside : List ℕ → Type 0) (own : List ℕ) → All (λ e. IsTrue (is_one_element e)) elements → (holds : HoldsContents (AreSorted order elements) t true own) → IsInside holds.contents →
     HoldsInOrder (content_order_for order) t IsInside own
 in_content_order Tags t elements IsInside own each holds inside = record {

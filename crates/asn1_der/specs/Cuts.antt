@@ -15,10 +15,10 @@ pub record IsCut (bytes : List ℕ) (n : ℕ) : Type 0 where
   pub at : element_at bytes ≡ Some element
   pub long : n + length element.rest ≡ length bytes
 
--- so many bytes are there
+-- the bytes of a cut are there
 pub cut_within : (bytes : List ℕ) (n : ℕ) → IsCut bytes n → n ≤ length bytes
 cut_within bytes n cut = omega (arith, cut.long)
 
--- What a reader says of itself, for a type of this meaning and equality.
+-- The description of a reader, for a type of this meaning and equality.
 abbrev pub der_fronts : {V : Type 0} → Meaning V → (V → V → Bool) → Fronts DerReader V
 der_fronts m eq = item_fronts IsCut Carries (λ own. is_one_element own) (λ reader. reader.depth) m eq

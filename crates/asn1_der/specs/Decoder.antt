@@ -1,5 +1,5 @@
--- What remains to be read by a decoder of DER, and what it opens.
-use Rattle.std.specs.Prelude.{◌≡◌, ℕ, ⊤, true, List, Option, IfSome}
+-- The records left to a decoder of DER, and the scopes that it opens.
+use Rattle.std.specs.Prelude.{◌≡◌, ℕ, ⊤, false, true, List, Option, Some, IfSome}
 use Rattle.asn1_laws.specs.ReadingUpToOrder.{up_to_order}
 use Rattle.asn1_laws.specs.Reading.{Reader, Remaining}
 use Rattle.asn1_der_items.specs.Bytes.{HasDer, HaveDer, content_order_of}
@@ -7,7 +7,7 @@ use Rattle.asn1_der_items.specs.declared.content_order.ContentOrder.{ContentOrde
 use Rattle.asn1_der_items.specs.declared.content_order.ContentOrder.TheVariants.{AsDefined, ByTag, ByEncoding, Chosen}
 use Rattle.asn1_der.specs.declared.decoder.DerDecoder.{DerDecoder}
 use Rattle.asn1_der.specs.declared.parsed_element.ParsedElement.{ParsedElement}
-use Rattle.asn1_der_items.specs.Elements.{Element}
+use Rattle.asn1_der_items.specs.Elements.{Element, element_at}
 use Rattle.asn1_der_items.specs.Series.{AreElements, AscendByEncoding, AscendByTag, is_one_element}
 use Rattle.asn1_items.specs.Slices.{left_inside}
 use Rattle.asn1_items.specs.declared.slices.Slices.{Slices}
@@ -40,19 +40,24 @@ der_reader = up_to_order in_one_order
 abbrev pub Remains : DerDecoder → Remaining → Type 0
 Remains d remaining = der_reader.remains d remaining
 
--- What was taken is this element, of these bytes.
+-- The parsed element is this one, of these bytes.
 pub record IsParsed (parsed : ParsedElement) (e : Element) (own : List ℕ) : Type 0 where
   pub tag : parsed.tag ≡ e.tag
   pub constructed : parsed.constructed ≡ e.constructed
   pub contents : parsed.contents.now ≡ e.contents
   pub bytes : parsed.bytes.now ≡ own
 
--- It was taken, and what follows is left.
+-- The parsed element is the one with which these bytes begin.
+pub record IsFirstOf (parsed : ParsedElement) (bytes : List ℕ) : Type 0 where
+  pub rest : List ℕ
+  pub at : element_at bytes ≡ Some (record { tag = parsed.tag; constructed = parsed.constructed; contents = parsed.contents.now; rest = rest })
+
+-- It was taken, and the bytes after it are left.
 pub record IsTaken (parsed : ParsedElement) (e : Element) (own back : List ℕ) (new : Slices) : Type 0 where
   pub seen : IsParsed parsed e own
   pub left : left_inside new ≡ back
 
--- The head is what is wanted: it holds records in this form, under this tag, where one is asked for.
+-- The head is the expected one: it holds records in this order, under this tag, if one is asked for.
 pub record IsExpected (content_order : ContentOrder) (tag : Option Tag) (h : Head) : Type 0 where
   pub has_order : content_order_of h ≡ content_order
   pub has_tag : IfSome tag (λ t. head_tag h ≡ t)
@@ -62,15 +67,34 @@ pub record IsHolding (e : Element) (inside : List ℕ) : Type 0 where
   pub constructed : e.constructed ≡ true
   pub contents : e.contents ≡ inside
 
--- What is inside an element of these bytes that holds records in this form.
+-- The contents of an element of these bytes that holds records in this order.
 abbrev pub IsInside : ContentOrder → Element → List ℕ → List ℕ → Type 0
 IsInside AsDefined e own inside = IsHolding e inside
 IsInside ByTag e own inside = IsHolding e inside × AreElements AscendByTag inside
 IsInside ByEncoding e own inside = IsHolding e inside × AreElements AscendByEncoding inside
 IsInside Chosen e own inside = own ≡ inside
 
--- The bytes are in the order that a form has: elements by their tags in a SET, and by their encodings in a SET OF.
+-- The bytes have the order: elements ascend by their tags in a SET, and by their encodings in a SET OF.
 abbrev pub AreInOrder : ContentOrder → List ℕ → Type 0
 AreInOrder ByTag inside = AreElements AscendByTag inside
 AreInOrder ByEncoding inside = AreElements AscendByEncoding inside
 AreInOrder _ inside = ⊤
+
+-- The bytes begin with a primitive element of this tag.
+pub record BeginWithPrimitive (tag : Tag) (bytes : List ℕ) : Type 0 where
+  pub element : Element
+  pub at : element_at bytes ≡ Some element
+  pub has_tag : element.tag ≡ tag
+  pub primitive : element.constructed ≡ false
+
+-- The element holds others, if a scope of this order is opened. The alternative of a CHOICE may be primitive.
+abbrev pub HoldsOthers : ContentOrder → Element → Type 0
+HoldsOthers Chosen e = ⊤
+HoldsOthers _ e = e.constructed ≡ true
+
+-- The bytes begin with an element that can be opened in this order: it has this tag, if one is asked for, and is constructed.
+pub record BeginWithScope (order : ContentOrder) (tag : Option Tag) (bytes : List ℕ) : Type 0 where
+  pub element : Element
+  pub at : element_at bytes ≡ Some element
+  pub has_tag : IfSome tag (λ t. element.tag ≡ t)
+  pub holds_others : HoldsOthers order element

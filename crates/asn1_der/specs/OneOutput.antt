@@ -1,4 +1,4 @@
--- Of which records DER has one output alone, whatever the order inside sets.
+-- The records with one output in DER, whatever the order inside sets.
 use Rattle.std.specs.Prelude.{◌≡◌, ⊤, ℕ, List}
 use Rattle.std.specs.Int.Digits.{AllBelowBase}
 use Rattle.asn1_der.specs.Format.{Carries}

@@ -1,4 +1,4 @@
--- Which records have no output.
+-- The records without an output.
 use Rattle.std.specs.Prelude.{List}
 use Rattle.asn1_der_items.specs.Bytes.{SomeHasNoDer}
 use Rattle.asn1_model.specs.Orders.{SameRecords}

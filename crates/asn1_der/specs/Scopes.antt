@@ -1,4 +1,4 @@
--- What the calls do that end a scope: the bytes from a place on are what is inside, and become one record.
+-- The calls that end a scope: the bytes from an index on are its contents, and become one record.
 use Rattle.std.specs.Prelude.{◌≡◌, ◌≢◌, ℕ, List, ◌++◌, MatchResult, Result, length, true}
 use Rattle.asn1_buffers.specs.declared.error.WriteError.{WriteError}
 use Rattle.asn1_buffers.specs.declared.error.WriteError.TheVariants.{Memory}

@@ -1,4 +1,4 @@
--- What a buffer of DER has written, and what it does not take.
+-- The records that a buffer of DER has written, and those that it rejects.
 use Rattle.std.specs.Prelude.{◌≡◌, ℕ, Bool, true, false, ◌&&◌, List, [], ◌∷◌, ◌++◌, length, refl, reverse}
 use Rattle.std.proofs.Common.{inl, inr}
 use Rattle.asn1_buffers.specs.Buffers.{BufferForm}
@@ -19,7 +19,7 @@ use Rattle.asn1_model.specs.Records.{Head, Record, held, holding, is_presence_ma
 use Rattle.asn1_model.specs.Tags.{head_tag}
 use Rattle.asn1_tags.specs.declared.tags.Tag.{Tag}
 
--- What a scope begins with: the identifier octets of its element, and an octet in the place of its length; of a CHOICE nothing.
+-- The front of a scope: the identifier octets of its element, and an octet in the place of its length; a CHOICE has none.
 abbrev pub IsFront : ContentOrder → Tag → List ℕ → Type 0
 IsFront AsDefined t front = IsBegun t true front
 IsFront ByTag t front = IsBegun t true front
@@ -39,7 +39,7 @@ pub record IsOpenScope (IsOutside : List ℕ → Type 0) (h : Head) (rs : List R
   pub content_order : f.content_order ≡ content_order_of h
   pub have_der : HaveDer (held rs) inside
 
--- What has been written, where the frames come innermost first. A group that is open leaves no trace: its records follow those
+-- The records that have been written, with the frames innermost first. An open group leaves no trace: its records follow those
 -- outside it.
 abbrev pub IsWritten : Written → List Frame → List ℕ → Type 0
 IsWritten (outermost rs) [] bytes = HaveDer (held rs) bytes

@@ -1,5 +1,5 @@
 //! The bytes of DER, as an encoder writes them.
-ghost use Rattle.asn1_buffers.specs.MarksAndScopes.{kind_of_scope};
+ghost use Rattle.asn1_items.specs.Kinds.{kind_of_scope};
 ghost use Rattle.asn1_buffers.specs.declared.error.WriteError.TheVariants.{Memory};
 ghost use Rattle.asn1_der_items.specs.Bytes.{content_order_of};
 ghost use Rattle.asn1_der_items.specs.declared.error.ElementError.TheVariants as element_error;

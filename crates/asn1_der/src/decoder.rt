@@ -21,9 +21,9 @@ use std::alloc::Global;
 /// A component that may be absent is there if and only if an element follows in the scope whose tag is one of its own. A CHOICE
 /// has no element of its own: to open one is to go inside the element of its alternative, as a list of one element.
 ///
-/// Where bytes are missing outside all scopes the error is [`DecodeError::Incomplete`], with the number of bytes that are missing
-/// of the part that is read; where the bytes are not those that are asked for it is [`DecodeError::Custom`], with the text
-/// `bad item`. So it is where DER has another spelling: of a length, of a number, and of the order in a SET or a SET OF.
+/// The error is [`DecodeError::Incomplete`] if bytes are missing outside all scopes, with the number of bytes that are missing of the
+/// part that is read; and [`DecodeError::Custom`], with the text `bad item`, if the bytes are not those that are asked for, or not
+/// in DER: a length, a number, or the order in a SET or a SET OF.
 #[derive(Drop)]
 pub struct DerDecoder<'a> {
     alloc: Global,
@@ -38,7 +38,7 @@ impl<'a> DerDecoder<'a> {
     ghost use Rattle.asn1_der_items.specs.Bytes.{HaveDer};
     ghost use Rattle.asn1_der_items.specs.Series.{IsAlone};
     ghost use Rattle.asn1_der_items.specs.declared.content_order.ContentOrder.TheVariants.{AsDefined};
-    ghost use Rattle.asn1_der.specs.Decoder.{AreInOrder, AreLeft, IsTaken, IsExpected, Remains, der_reader, in_one_order};
+    ghost use Rattle.asn1_der.specs.Decoder.{AreInOrder, AreLeft, BeginWithPrimitive, BeginWithScope, IsFirstOf, IsTaken, IsExpected, Remains, der_reader, in_one_order};
     ghost use Rattle.asn1_der.specs.UnreadBytes.{unread};
     ghost use Rattle.asn1_items.specs.DecodeStates.{IsWithinBound, OpensExpected, ReadsExpectedHead, ReadsExpectedSet};
     ghost use Rattle.asn1_der_items.specs.Contents.{HasOctetsOf};
@@ -51,7 +51,7 @@ impl<'a> DerDecoder<'a> {
     ghost use Rattle.asn1_model.specs.Records.{PresenceMark, held};
     ghost use Rattle.asn1_model.specs.Tags.{tree_tags};
     ghost use Rattle.asn1_tags.specs.Trees.{shape};
-    ghost use Rattle.std.specs.Prelude.{◌≡◌, ◌≢◌, ◌↔◌, ◌++◌, ◌<◌, ◌^◌, [], ⊤, Err, IfErr, IsOk, List, MatchResult, OnOk, Some, codes, false, ℕ, true};
+    ghost use Rattle.std.specs.Prelude.{◌≡◌, ◌≢◌, ◌↔◌, ◌++◌, ◌<◌, ◌^◌, [], ⊤, Err, IfErr, IfOk, IsOk, List, MatchResult, OnOk, Some, codes, false, ℕ, true};
 
     /// A decoder that is before these bytes, and may open this many nested scopes.
     pub fn new(alloc: Global, bytes: &'a [u8], depth: usize) -> DerDecoder<'a>
@@ -79,8 +79,8 @@ impl<'a> DerDecoder<'a> {
         self.state.finish()
     }
 
-    /// How many bytes have not been read, in all scopes that are open. Where a call has failed, the bytes before these are those that
-    /// were read until then, with the element that was refused.
+    /// How many bytes have not been read, in all scopes that are open. After a failed call, the bytes before these were
+    /// read until then, with the element that was refused.
     pub fn unread(self) -> usize
         ensures { unread self.entry < 2 ^ 64 → result ≡ unread self.entry }
     {
@@ -95,6 +95,8 @@ impl<'a> DerDecoder<'a> {
             IsAlone e own → left_inside self.old.state.slices ≡ own ++ back →
             MatchResult result (λ parsed. IsTaken parsed e own back self.new.state.slices)
             (λ _. ⊥) }
+        ensures only { IfOk result (λ parsed.
+            IsFirstOf parsed (left_inside self.old.state.slices)) }
         ensures outside { OnOk result
             (left_outside self.new.state.slices ≡ left_outside self.old.state.slices) }
         ensures opens_nothing { OpensNothing der_reader self.old self.new result }
@@ -121,7 +123,7 @@ impl<'a> DerDecoder<'a> {
     /// The tag of the next element, which stays where it is, if one is left.
     #[inline(always)]
     fn next_tag(&mut self) -> Result<Option<Tag>, DecodeError>
-        ensures told { (rs : List model.Record) → self.old.state.failed ≡ false →
+        ensures found { (rs : List model.Record) → self.old.state.failed ≡ false →
             AreLeft rs self.old.state.slices → MatchResult result (IsNext rs) (λ _. ⊥) }
         ensures same_bytes { OnOk result (self.new.state.slices ≡ self.old.state.slices) }
         ensures opens_nothing { OpensNothing der_reader self.old self.new result }
@@ -143,6 +145,8 @@ impl<'a> DerDecoder<'a> {
         ensures read { (content : V.Value → model.Content) →
             ((x : V.Value) → HasOctetsOf (content x) (V.content x)) → (c : ConstraintSet) →
             ReadsContent der_reader tag c content V.IsOfType V.Is self.old self.new result }
+        ensures only { OnOk result
+            (BeginWithPrimitive tag (left_inside self.old.state.slices)) }
         ensures opens_nothing { OpensNothing der_reader self.old self.new result }
     {
         let element = self.take()?;
@@ -171,6 +175,8 @@ impl<'a> DerDecoder<'a> {
     /// Opens a scope whose contents have this order, under this tag, where one is asked for.
     fn open(&mut self, order: ContentOrder, tag: Option<Tag>) -> Result<Opened, DecodeError>
         ensures read { OpensExpected in_one_order (IsExpected order tag) self.old self.new result }
+        ensures only { OnOk result
+            (BeginWithScope order tag (left_inside self.old.state.slices)) }
         ensures in_order { OnOk result (AreInOrder order (left_inside self.new.state.slices)) }
         ensures takes_depth { TakesDepth der_reader self.old self.new result }
     {
@@ -190,7 +196,7 @@ impl<'a> DerDecoder<'a> {
         self.state.open(element.tag, inside)
     }
 
-    /// Opens a scope in which the order of the records means something.
+    /// Opens a scope whose records have a fixed order.
     fn open_in_order(&mut self, tag: Tag) -> Result<(), DecodeError>
         ensures read { ReadsExpectedHead der_reader (IsExpected AsDefined (Some tag)) (λ _ _. ⊤)
             self.old self.new result }

@@ -5,7 +5,7 @@ use asn1_tags::Tag;
 /// A scope that is open.
 #[derive(Clone, Copy, Drop)]
 pub(crate) struct Frame {
-    /// Where the bytes inside begin.
+    /// The index at which the bytes inside begin.
     pub(crate) start: usize,
     /// Its tag; of a CHOICE that of the alternative.
     pub(crate) tag: Tag,

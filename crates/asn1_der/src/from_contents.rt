@@ -1,4 +1,4 @@
-//! What is read from the contents octets of an element that holds no others.
+//! Types that are read from the contents octets of a primitive element.
 ghost use Rattle.asn1_der_items.specs.Contents.{HasContents};
 ghost use Rattle.asn1_items.specs.declared.error.ItemError.TheVariants.{Memory};
 ghost use Rattle.asn1_model.specs.Records as model;
@@ -15,18 +15,18 @@ use std::alloc::{AllocError, Global};
 
 /// A type that is read from the contents octets of an element.
 pub(crate) trait FromContents: Sized {
-    // What the contents are of that are read as the type, and the content of each.
+    // The values whose contents are read as the type, and the content of each.
     ghost Value: { Type 0 };
 
     ghost content: { Value → model.Content };
 
-    // Which of it is of the type.
+    // The values that are of the type.
     ghost IsOfType: { Value → Type 0 };
 
-    // What was read.
+    // The value that was read.
     ghost Is: { Self → Value → Type 0 };
 
-    /// What is read from these octets, if they are contents of the kind.
+    /// Reads a value from the contents octets of the kind.
     ///
     /// # Errors
     /// [`ItemError::Memory`], and [`ItemError::Malformed`] where the octets are no contents of the kind, or not of the type.

@@ -48,7 +48,7 @@
 //!   of [`DerDecoder::new`]). [`DerDecoder::finish`] succeeds if and only if all has been read (`all_read`), and says else that a
 //!   call has failed (`failed`) or that trailing bytes are left (`bad_item`).
 //! - [`DerDecoder::unread`] answers how many bytes have not been read, of all scopes that are open (`unread` of
-//!   `specs/UnreadBytes.antt`), if so many can be counted.
+//!   `specs/UnreadBytes.antt`), if the number is below 2^64.
 //! - A SET whose elements are ascending by their tags is opened, and a SET OF whose elements are ascending by their encodings
 //!   (`IsAscending` of `specs/Ascending.antt`), and no others (`in_order` of `open_set` and `open_set_of`).
 //!

@@ -1,4 +1,4 @@
-//! An element that was taken, and what is inside.
+//! An element that was parsed, and its contents.
 ghost use Rattle.asn1_der.specs.Decoder.{IsInside, IsParsed};
 ghost use Rattle.asn1_der_items.specs.Elements.{Element};
 ghost use Rattle.std.specs.Prelude.{◌≡◌, IfSome, IsSome, IsSomeAnd, List, ℕ, false, true};
@@ -7,7 +7,7 @@ use crate::ascending::is_ascending;
 use asn1_der_items::ContentOrder;
 use asn1_tags::Tag;
 
-/// An element that was taken, and all of its bytes.
+/// An element that was parsed, and all of its bytes.
 #[derive(Clone, Copy)]
 pub(crate) struct ParsedElement<'a> {
     pub(crate) tag: Tag,
@@ -17,7 +17,7 @@ pub(crate) struct ParsedElement<'a> {
 }
 
 impl<'a> ParsedElement<'a> {
-    /// What is inside, if and only if the element is one that holds records in this form.
+    /// The bytes inside, if and only if the element holds records in this order.
     pub(crate) fn inside(self, order: ContentOrder) -> Option<&'a [u8]>
         ensures found { (e : Element) (own inside : List ℕ) → IsParsed self.entry e own →
             IsInside order e own inside → IsSomeAnd result (λ bytes. bytes.now ≡ inside) }

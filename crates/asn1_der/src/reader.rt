@@ -11,10 +11,10 @@ use std::alloc::Global;
 
 /// Reads values from the front of bytes of DER, each with at most this many nested scopes.
 ///
-/// The element with which an input begins is found by its identifier and its length, and is read as a whole. Where not all of it
-/// is there, or the input does not begin with an element, the bytes are read as they are, and the error is that of `read_value`
-/// of [`DerRules`](crate::DerRules); or [`DecodeError::Custom`] with the text `bad item`, where they are a value of a type that is
-/// no element, as an `Option` that is absent.
+/// The reader finds the first element of an input by its identifier and its length, and reads it as a whole. If the element is not
+/// complete, or the input does not begin with an element, the error is that of `read_value` of [`DerRules`](crate::DerRules) for all
+/// of the input; or [`DecodeError::Custom`] with the text `bad item`, if the input is a value of a type that is no element, as an
+/// absent `Option`.
 #[derive(Clone, Copy, Debug, Drop)]
 pub struct DerReader {
     alloc: Global,
@@ -44,7 +44,7 @@ impl DerReader {
         read_whole(decoder)
     }
 
-    /// Why bytes are not read that begin with no whole element.
+    /// The error for an input that begins with no complete element.
     fn refusal<D: Decode>(&self, input: &[u8]) -> DecodeError {
         match self.read::<D>(input) {
             Ok(_no_element) => DecodeError::Custom("bad item"),

@@ -1,4 +1,4 @@
-//! What a scope holds, as a record when the scope ends.
+//! The beginning and the end of a scope.
 ghost use Rattle.asn1_der.specs.Scopes.{EndsAsWritten, EndsSorted, FinishesScope};
 ghost use Rattle.asn1_der.specs.WrittenElements.{IsFront};
 ghost use Rattle.asn1_der_items.specs.Series.{IsElementOf};
@@ -14,7 +14,7 @@ use asn1_der_items::{ContentOrder, begin_element, end_element};
 use asn1_tags::Tag;
 use std::alloc::{AllocError, Global};
 
-/// Appends what a scope begins with: the identifier of its element and an octet for its length, and of a CHOICE nothing.
+/// Appends the front of a scope: the identifier of its element and an octet for its length. A CHOICE has none.
 #[inline(always)]
 pub(crate) fn begin_scope(
     bytes: &mut Vec<u8>,

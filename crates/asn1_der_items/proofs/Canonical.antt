@@ -181,7 +181,7 @@ in_order lt ps bytes are a =
     let all : a.elements ≡ elements ps = one_list a.elements (elements ps) (ones_from a.elements a.each) (elements_are ps) (sym a.are ∙ are ∙ elements_joined ps) in
     subst (Rises lt) all (rises_from lt a.elements a.order)
 
--- What is inside a SET or a SET OF has one encoding in any order, where elements of which neither is less are one.
+-- The contents of a SET or a SET OF have one encoding in any order, if elements of which neither is less are one.
 one_in_any_order : (lt : List ℕ → List ℕ → Bool) → IsStrictWeakOrder lt → (rs qs ss : Records) → IsPermutation (listed qs) (listed ss) → (own other : List ℕ) → AllBelowBase 256 own → AllBelowBase 256 other →
     HaveDer rs own → HaveDer ss other → AreElements (IsSortedBy lt) own → AreElements (IsSortedBy lt) other → ((bytes : List ℕ) → AllBelowBase 256 bytes → HaveDer qs bytes → own ≡ bytes) →
     ((ps : List Part) → held (items ps) ≡ rs → (x y : List ℕ) → 0 < count same x (elements ps) → 0 < count same y (elements ps) → lt x y ≡ false → lt y x ≡ false → x ≡ y) → own ≡ other

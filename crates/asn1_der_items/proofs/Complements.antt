@@ -133,7 +133,7 @@ low_negative digits octets is low = record {
     short [] low = tt
     short (p ∷ octets) low = ((λ e. omega arith), λ e. omega arith)
 
--- What is read of octets whose first has bit 8 set.
+-- The number of octets whose first has bit 8 set.
 high_is : (z : ℤ) (octets : List ℕ) → 128 ≤ get_or octets 0 0 → z ≡ neg_ℤ (pos (256 ^ length octets - magnitude octets)) → twos_complement octets ≡ z
 high_is z [] high is = absurd (omega arith)
 high_is z (o ∷ octets) high is = ap (λ b. if b then pos (magnitude (o ∷ octets)) else neg_ℤ (pos (256 ^ length (o ∷ octets) - magnitude (o ∷ octets)))) (le-ltb o 128 high) ∙ sym is

@@ -90,21 +90,21 @@ identifier_read (o ∷ rest) i e = after_byte identifier_leaves identifier_at o 
     by (Some class) e = class_read (o / 32 % 2 == 1) (o % 32) rest class i e
 
 -- lengths: the length in these digits, if there are enough
-abbrev told : Bool → List ℕ → List ℕ → Option Front
-told enough digits rest = if enough && begins_with_digit digits && nat_le 128 (magnitude digits) && nat_lt (magnitude digits) (2 ^ 64)
+abbrev from_digits : Bool → List ℕ → List ℕ → Option Front
+from_digits enough digits rest = if enough && begins_with_digit digits && nat_le 128 (magnitude digits) && nat_lt (magnitude digits) (2 ^ 64)
     then Some (record { number = magnitude digits; rest = rest })
     else None
 
-record IsTold (enough : Bool) (digits rest : List ℕ) (f : Front) : Type 0 where
+record IsFromDigits (enough : Bool) (digits rest : List ℕ) (f : Front) : Type 0 where
   pub is_enough : enough ≡ true
   pub left : f.rest ≡ rest
-  pub whatever : (back : List ℕ) → told true digits back ≡ Some (number_leaving f back)
+  pub whatever : (back : List ℕ) → from_digits true digits back ≡ Some (number_leaving f back)
 
-is_told : (enough : Bool) (digits rest : List ℕ) (f : Front) → told enough digits rest ≡ Some f → IsTold enough digits rest f
-is_told false digits rest f e = cc
-is_told true digits rest f e = by (true && begins_with_digit digits && nat_le 128 (magnitude digits) && nat_lt (magnitude digits) (2 ^ 64)) refl e
+is_from_digits : (enough : Bool) (digits rest : List ℕ) (f : Front) → from_digits enough digits rest ≡ Some f → IsFromDigits enough digits rest f
+is_from_digits false digits rest f e = cc
+is_from_digits true digits rest f e = by (true && begins_with_digit digits && nat_le 128 (magnitude digits) && nat_lt (magnitude digits) (2 ^ 64)) refl e
   where
-    by : (b : Bool) → (true && begins_with_digit digits && nat_le 128 (magnitude digits) && nat_lt (magnitude digits) (2 ^ 64)) ≡ b → (if b then Some (record { number = magnitude digits; rest = rest }) else None) ≡ Some f → IsTold true digits rest f
+    by : (b : Bool) → (true && begins_with_digit digits && nat_le 128 (magnitude digits) && nat_lt (magnitude digits) (2 ^ 64)) ≡ b → (if b then Some (record { number = magnitude digits; rest = rest }) else None) ≡ Some f → IsFromDigits true digits rest f
     by true is e = record {
       is_enough = refl;
       left = sym (ap (λ (g : Front). g.rest) (some_is e));
@@ -112,7 +112,7 @@ is_told true digits rest f e = by (true && begins_with_digit digits && nat_le 12
     }
     by false is e = cc
 
--- so many bytes are there, with others behind
+-- the bytes are there, with others after them
 enough_there : (count : ℕ) (bytes back : List ℕ) → count ≤ length bytes → nat_le count (length (take count bytes ++ back)) ≡ true
 enough_there count bytes back enough = le-leb count (length (take count bytes ++ back)) (omega (arith, length-append (take count bytes) back, length-take-le count bytes enough))
 
@@ -124,15 +124,15 @@ behind_there count bytes back enough = ap (λ k. drop k (take count bytes ++ bac
 
 long_length_read : (count : ℕ) (bytes : List ℕ) (f : Front) → long_length_at count bytes ≡ Some f → IsReadOf number_leaves (long_length_at count) bytes f
 long_length_read count bytes f e =
-    let t = is_told (nat_le count (length bytes)) (take count bytes) (drop count bytes) f e in
+    let t = is_from_digits (nat_le count (length bytes)) (take count bytes) (drop count bytes) f e in
     let enough : count ≤ length bytes = leb-true count (length bytes) t.is_enough in
     record {
       front = take count bytes;
       are = sym (take-append-drop count bytes) ∙ ap (λ l. take count bytes ++ l) (sym t.left);
       whatever = λ back.
-          ap (λ b. told b (take count (take count bytes ++ back)) (drop count (take count bytes ++ back))) (enough_there count bytes back enough)
-          ∙ ap (λ l. told true l (drop count (take count bytes ++ back))) (first_there count bytes back enough)
-          ∙ ap (λ l. told true (take count bytes) l) (behind_there count bytes back enough)
+          ap (λ b. from_digits b (take count (take count bytes ++ back)) (drop count (take count bytes ++ back))) (enough_there count bytes back enough)
+          ∙ ap (λ l. from_digits true l (drop count (take count bytes ++ back))) (first_there count bytes back enough)
+          ∙ ap (λ l. from_digits true (take count bytes) l) (behind_there count bytes back enough)
           ∙ t.whatever back;
     }
 

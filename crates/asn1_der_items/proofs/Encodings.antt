@@ -1,4 +1,4 @@
--- What an element is encoded as: its identifier, its length and numbers to the base 128 have one encoding each.
+-- Identifiers, lengths and numbers to the base 128 have one encoding each.
 use Rattle.std.proofs.Common.{◌≡◌, ℕ, zero, suc, ◌+◌, ◌*◌, ◌≤◌, ◌<◌, ◌^◌, Bool, List, [], ◌∷◌, ◌++◌, length, length-append, lit<, refl, sym, ap, ◌∙◌, arith, inl, inr}
 use Rattle.std.proofs.Math.Nat.{mul-le-mul_right, pow-le-pow_right, pow-suc}
 use Rattle.std.proofs.lemmas.Bool.{cases_order}

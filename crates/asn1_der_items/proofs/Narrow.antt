@@ -44,7 +44,7 @@ spare o p octets next long = by_zero (nat_eq (first_nine_bits o p) 0) refl
     by_zero true e = let is = eqb-true (first_nine_bits o p) 0 e in zero_first o p octets (omega (arith, is)) (omega (arith, is))
     by_zero false e = by_ones (nat_eq (first_nine_bits o p) 511) e refl
 
--- What follows the first octet, where there are more than need be, is the same number.
+-- The octets after the first, if there are more than need be, are the same number.
 pub record IsSame (tail octets : List ℕ) : Type 0 where
   pub same : twos_complement tail ≡ twos_complement octets
   pub some : 0 < length tail

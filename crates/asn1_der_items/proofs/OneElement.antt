@@ -95,7 +95,7 @@ one_split own other back rest is too joined =
     let later : back ≡ rest = sym (ap rest_of (found_behind own back (one own is))) ∙ ap (λ l. rest_of (element_at l)) joined ∙ ap rest_of (found_behind other rest (one other too)) in
     record { first = same_front own other back (joined ∙ ap (λ l. other ++ l) (sym later)); later = later }
 
--- What is one element with more behind it has nothing behind it.
+-- One element with trailing bytes that is one element has no trailing bytes.
 pub alone : (own back : List ℕ) → is_one_element own ≡ true → is_one_element (own ++ back) ≡ true → back ≡ []
 alone own back is whole =
     let f = one (own ++ back) whole in

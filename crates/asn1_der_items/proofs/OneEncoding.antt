@@ -93,7 +93,7 @@ chosen_either_way t (more r rs) own other a b is = by (is_presence_mark r) refl 
         let tag : tag_of b.first ≡ t = same_tag r b.first a.first b.is_first a.is_first ∙ ap tag_of (sym own_is) ∙ tag_is t own is in
         subst (IsElementOf t) (sym other_is) (one_of_tag t b.first (is_element_of_record r b.first no_mark b.is_first).one tag)
 
--- What is inside an element is shorter than 2^64 octets.
+-- The contents of an element are shorter than 2^64 octets.
 length_below : (n : ℕ) (octets : List ℕ) → IsLength n octets → n < 2 ^ 64
 length_below n octets (inl is) = omega (arith, is.below)
 length_below n octets (inr is) = is.fits

@@ -6,7 +6,7 @@ use Rattle.asn1_der_items.proofs.Septets.{base128-found}
 use Rattle.asn1_der_items.specs.Arcs.{AreArcs, AreNumbers}
 use Rattle.asn1_der_items.specs.Base128.{IsBase128, base128_at}
 
--- What was read of some arcs, and what is left: the numbers of the others.
+-- The arcs that were read, and the octets left: the numbers of the others.
 pub record ArcsRead (list read left : List ℕ) : Type 0 where
   pub others : List ℕ
   pub split : list ≡ read ++ others

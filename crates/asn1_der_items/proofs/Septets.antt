@@ -93,7 +93,7 @@ after_of_at (o ∷ rest) f e = by (nat_eq o 128) e
 pub too_large : (bytes left : List ℕ) (n : ℕ) (f : Front) → base128_after n left ≡ base128_after 0 bytes → 144115188075855872 ≤ n → base128_at bytes ≡ Some f → f.number < 2 ^ 64 → ⊥
 too_large bytes left n f same high e small = let low = after_ge n left f (same ∙ after_of_at bytes f e) in omega arith
 
--- What was written is read again, whatever follows.
+-- A written number is read again, with any trailing bytes.
 read_digits : (n : ℕ) (leading : List ℕ) (last : ℕ) (back : List ℕ) → AllBelowBase 128 (leading ++ last ∷ []) →
     base128_after n (map (λ d. d + 128) leading ++ last ∷ back) ≡ Some (record { number = number_from_digits_after 128 n (leading ++ last ∷ []); rest = back })
 read_digits n [] last back below = ap (λ b. if b then Some (record { number = n * 128 + last; rest = back }) else base128_after (n * 128 + (last - 128)) back) (lt-ltb last 128 below.0)

@@ -37,7 +37,7 @@ by_tag = tags_rank.one_way
 by_encoding : (x y : List ℕ) → is_lt (slice_cmp nat_cmp x y) ≡ true → is_lt (slice_cmp nat_cmp y x) ≡ false
 by_encoding = encodings_rank.one_way
 
--- What records have, in some order inside sets.
+-- Records have DER or none, in some order inside sets.
 record HaveDerOrNone (rs : Records) : Type 0 where
   pub ordered : Records
   pub same : SameAll rs ordered

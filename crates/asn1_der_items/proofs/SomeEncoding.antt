@@ -230,7 +230,7 @@ octet_is a b c d e f g h = all (worth a) (worth b) (worth c) (worth d) (worth e)
         let n0 : n % 2 ≡ H = omega arith in
         rw (bit_is (n / 128 % 2) a (n7 ∙ p), bit_is (n / 64 % 2) b (n6 ∙ q), bit_is (n / 32 % 2) c (n5 ∙ r), bit_is (n / 16 % 2) d (n4 ∙ s), bit_is (n / 8 % 2) e (n3 ∙ t), bit_is (n / 4 % 2) f (n2 ∙ u), bit_is (n / 2 % 2) g (n1 ∙ v), bit_is (n % 2) h (n0 ∙ w)) refl
 
--- Octets of some bits, of which so many of the last are unused.
+-- Octets of some bits, with a number of unused bits at the end.
 record HasOctetsOfBits (list : List Bool) : Type 0 where
   pub octets : List ℕ
   pub unused : ℕ

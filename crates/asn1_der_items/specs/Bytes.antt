@@ -10,7 +10,7 @@ use Rattle.asn1_model.specs.Records.{Head, Record, Records, scalar, scope, open_
 use Rattle.asn1_model.specs.Tags.{head_tag}
 use Rattle.asn1_tags.specs.declared.tags.Tag.{Tag}
 
--- the form of what holds records
+-- the order of the contents of a head
 abbrev pub content_order_of : Head → ContentOrder
 content_order_of (sequence t table n) = AsDefined
 content_order_of (set t table n) = ByTag
@@ -19,9 +19,9 @@ content_order_of (set_of t c n) = ByEncoding
 content_order_of (explicit_tag t n) = AsDefined
 content_order_of (alternative t c table n) = Chosen
 
--- What is inside of this tag, in a form, has these bytes: a constructed element (8.9 to 8.12 and 8.14), in which the components
--- of a SET come by their tags (10.3) and the elements of a SET OF by their encodings (11.6); or what is inside alone, where it is
--- the chosen alternative of a CHOICE, which is one element of the chosen tag (8.13).
+-- The bytes of a record of this tag and order: a constructed element (8.9 to 8.12 and 8.14), with the components of a SET ascending
+-- by their tags (10.3) and the elements of a SET OF by their encodings (11.6); or the contents alone, if they are the chosen
+-- alternative of a CHOICE, which is one element of the chosen tag (8.13).
 abbrev pub HoldsInOrder : ContentOrder → Tag → (List ℕ → Type 0) → List ℕ → Type 0
 HoldsInOrder AsDefined t IsInside bytes = HoldsContents IsInside t true bytes
 HoldsInOrder ByTag t IsInside bytes = HoldsContents (λ inside. IsInside inside × AreElements AscendByTag inside) t true bytes
@@ -41,20 +41,20 @@ abbrev mutual
   HaveDer none bytes = bytes ≡ []
   HaveDer (more r rs) bytes = IsJoined (HasDer r) (HaveDer rs) bytes
 
--- What is inside is not the chosen alternative of a CHOICE: its bytes are not one element of the chosen tag.
+-- The contents are not the chosen alternative of a CHOICE: their bytes are not one element of the chosen tag.
 pub record IsNotChosen (t : Tag) (IsInside : List ℕ → Type 0) : Type 0 where
   pub inside : List ℕ
   pub are : IsInside inside
   pub not : ¬ IsElementOf t inside
 
--- What is inside is 2^64 octets or more, a length that is not told here.
+-- The contents have 2^64 octets or more, a length beyond these definitions.
 pub record IsTooLong (IsInside : List ℕ → Type 0) : Type 0 where
   pub inside : List ℕ
   pub are : IsInside inside
   pub are_octets : AllBelowBase 256 inside
   pub long : 2 ^ 64 ≤ length inside
 
--- What is in a CHOICE is not one element of the chosen tag, or what is in another scope is 2^64 octets or more.
+-- The contents of a CHOICE are not one element of the chosen tag, or those of another scope have 2^64 octets or more.
 abbrev pub CannotHold : ContentOrder → Tag → (List ℕ → Type 0) → Type 0
 CannotHold Chosen t IsInside = IsNotChosen t IsInside
 CannotHold _ t IsInside = IsTooLong IsInside

@@ -18,7 +18,7 @@ AreUnits teletex list octets = AreOctets list octets
 AreUnits bmp list octets = AreTwos list octets
 AreUnits _ list octets = octets ≡ list
 
--- The content has these contents octets. Of the items of an ENUMERATED type they have the number alone.
+-- The content has these contents octets. An item of an ENUMERATED type is its number.
 abbrev pub HasContents : Content → List ℕ → Type 0
 HasContents null octets = octets ≡ []
 HasContents (boolean b) octets = octets ≡ (if b then 255 else 0) ∷ []

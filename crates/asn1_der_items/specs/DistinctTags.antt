@@ -13,7 +13,7 @@ abbrev pub HaveDistinctTags : Records → Type 0
 HaveDistinctTags none = ⊤
 HaveDistinctTags (more r rs) = SharesNoTag r rs × HaveDistinctTags rs
 
--- What a SET holds has distinct tags.
+-- The components of a SET have distinct tags.
 abbrev pub AreDistinctIn : Head → Records → Type 0
 AreDistinctIn (set t table n) rs = HaveDistinctTags rs
 AreDistinctIn _ rs = ⊤

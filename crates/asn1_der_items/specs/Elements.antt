@@ -56,8 +56,8 @@ ElementsAreFound =
     (t : Tag) (constructed : Bool) (contents own back : List ℕ) → IsElement t constructed contents own →
     element_at (own ++ back) ≡ Some (record { tag = t; constructed = constructed; contents = contents; rest = back })
 
--- A call that ends an element. Where it was begun, and its contents octets are the bytes from this place on, it is appended to
--- what was in front of it.
+-- A call that ends an element. If the element was begun, and its contents octets are the bytes from this index on, the element is
+-- appended to the bytes before it.
 abbrev pub EndsElement : {V : Type 0} → ℕ → List ℕ → List ℕ → Result V ElementError → Type 0
 EndsElement start old new result =
     (t : Tag) (constructed : Bool) (before front contents : List ℕ) → IsBegun t constructed front →

@@ -1,4 +1,4 @@
--- Which records have DER, and which have none.
+-- The records with DER, and those without.
 use Rattle.std.specs.Prelude.{◌⊎◌, ◌<◌, ◌^◌, ⊤}
 use Rattle.std.specs.Int.Digits.{AllBelowBase}
 use Rattle.asn1_der_items.specs.Bytes.{HasDer, HasNoDer}

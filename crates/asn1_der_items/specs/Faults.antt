@@ -1,4 +1,4 @@
--- Where bytes are no elements (X.690, 8.1.1), as far down as they are looked into.
+-- The first fault in bytes that are no elements (X.690, 8.1.1), down to a depth.
 use Rattle.std.specs.Prelude.{◌≡◌, ◌≢◌, ⊤, ℕ, zero, suc, ◌+◌, ◌-◌, List, [], None, Some, length, true}
 use Rattle.asn1_der_items.specs.Elements.{Element, element_at}
 

@@ -33,7 +33,7 @@ pub fn read_arcs(alloc: Global, octets: &[u8]) -> Result<Vec<u32>, ItemError>
 
 /// The first of the two arcs that are one number.
 fn first_of(number: u64) -> u64
-    ensures told { (first second : ℕ) → number ≡ first * 40 + second → first ≤ 2 →
+    ensures found { (first second : ℕ) → number ≡ first * 40 + second → first ≤ 2 →
         (first < 2 → second < 40) → result ≡ first }
     ensures within { result * 40 ≤ number }
     ensures small { result ≤ 2 }

@@ -9,6 +9,6 @@ pub enum ContentOrder {
     ByTag,
     /// An element, with what is inside by its encodings: a SET OF.
     ByEncoding,
-    /// What is inside, which is one element of the chosen tag: a CHOICE.
+    /// No element of its own, but one element of the chosen tag: a CHOICE.
     Chosen,
 }

@@ -67,7 +67,7 @@ pub fn is_one_element(bytes: &[u8]) -> bool
 /// then [`end_element`].
 ///
 /// # Errors
-/// Where there is no memory. There may be some of the octets then.
+/// If memory runs out. Some of the octets may have been appended then.
 #[inline(always)]
 pub fn begin_element(bytes: &mut Vec<u8>, tag: Tag, constructed: bool) -> Result<(), AllocError>
     ensures { IfOk result (λ _.

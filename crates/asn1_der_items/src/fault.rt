@@ -1,4 +1,4 @@
-//! Where bytes are no elements of DER.
+//! The first fault in bytes that are no elements of DER.
 ghost use Rattle.std.specs.Prelude.{IfNone, IfSome};
 ghost use Rattle.asn1_der_items.specs.Elements.{element_of};
 ghost use Rattle.asn1_der_items.specs.Faults.{AreElementsDownTo, HoldsElements, IsFaultInside, IsFirstFault};

@@ -10,8 +10,8 @@ use asn1_items::ItemError;
 use asn1_values::Integer;
 use std::alloc::{AllocError, Global};
 
-/// Appends an integer: the contents octets of an INTEGER or an ENUMERATED (X.690, 8.3 and 8.4). Of a number that is no `i128` the
-/// magnitude is copied first.
+/// Appends an integer: the contents octets of an INTEGER or an ENUMERATED (X.690, 8.3 and 8.4). The
+/// magnitude of a number beyond `i128` is copied first.
 ///
 /// After an error there may be some of them.
 #[inline(always)]

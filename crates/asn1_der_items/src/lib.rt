@@ -9,14 +9,14 @@
 //! | [`append_arcs`], [`read_arcs`] | the contents octets of an OBJECT IDENTIFIER |
 //! | [`append_teletex`] | the contents octets of a TeletexString |
 //! | [`ElementError`] | why an element was not written |
-//! | [`ContentOrder`] | the form in which the bytes of a record hold others |
+//! | [`ContentOrder`] | the order of the elements inside a record |
 //! | [`first_fault`] | the first place where an element is due and none begins |
 //! | [`place_of`] | the place to which a path leads through elements that hold others |
 //! | [`laws`], [`record_laws`], [`fault_laws`] | laws of elements, of the DER of records, and of places |
 //!
 //! The errors of reading, the contents that are written, and the octets of bits and of a BMPString are those of `asn1_items`.
 //!
-//! What the contracts promise, and the words that they use:
+//! Promises, and the words of the contracts:
 //!
 //! - The bytes of an element are a tag, whether it is constructed, a length and the contents octets (`IsElement` of
 //!   `specs/Elements.antt`). A tag has the shortest identifier octets (`IsIdentifier` of `specs/Identifiers.antt`, with the numbers to
@@ -37,7 +37,7 @@
 //! - A record has no DER (`HasNoDer`) where some arcs or units have no octets, a CHOICE is not one element of its tag, or an open
 //!   type is not one element.
 //! - [`first_fault`] answers a place where an element is due and none begins, behind elements alone, down to the depth that is given
-//!   (`IsFirstFault` of `specs/Faults.antt`; X.690, 8.1.1). Where it answers none, the bytes are elements down to that depth
+//!   (`IsFirstFault` of `specs/Faults.antt`; X.690, 8.1.1). If it answers none, the bytes are elements down to that depth
 //!   (`AreElementsDownTo`). Both never hold of the same bytes and the same depth
 //!   ([`fault_laws::bytes_with_a_fault_are_no_elements`]). [`place_of`] follows a path (`place_of` of `specs/Paths.antt`).
 //!

@@ -25,7 +25,7 @@ pub fn place_of(bytes: &[u8], path: &[usize]) -> Option<usize>
     Some(bytes.len() - element.rest.len() - left.len() + place)
 }
 
-/// What is behind this many elements, if there are as many.
+/// The bytes after this many elements, if there are as many.
 fn behind_elements(bytes: &[u8], number: usize) -> Option<&[u8]>
     ensures { MatchOption result (behind_elements number bytes.now ≡ None)
         (λ left. behind_elements number bytes.now ≡ Some left.now) }

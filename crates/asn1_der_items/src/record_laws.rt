@@ -60,8 +60,8 @@ pub fn der_is_canonical()
         own ≡ other }
 {}
 
-/// A law of the derives: two forms are equal if and only if they are the same, and clones are their sources.
-pub fn derives_keep_what_a_form_is()
+/// A law of the derives: two orders are equal if and only if they are the same, and clones are their sources.
+pub fn derives_keep_what_an_order_is()
     ensures same { ComparesAll ⟦<ContentOrder as PartialEq>⟧.eq }
     ensures clones { ClonesAll ⟦<ContentOrder as Clone>⟧.is_clone
         ⟦<ContentOrder as Clone>⟧.is_infallible }

@@ -1,4 +1,4 @@
--- What remains exactly to be read of the scopes that are open, from call to call.
+-- The exact bytes left of the open scopes, from call to call.
 use Rattle.std.proofs.Common.{◌≡◌, ℕ, ◌+◌, ◌≤◌, Bool, true, false, List, [], ◌∷◌, ◌++◌, refl, sym, ap, subst, arith, length, length-append, ◌∙◌, inl}
 use Rattle.std.specs.Prelude.{⊤, ◌&&◌, ◌≢◌, ◌↔◌, Decides, Result, Ok, Err, IfErr, IfOk, OnErr, OnOk, MatchResult, not}
 use Rattle.asn1_laws.proofs.ReadingUpToOrder.{at_the_end, reads_end, remains_exactly, tells_more}
@@ -82,7 +82,7 @@ module _ {F : ReadForm} (form : IsReadForm F) where
   none_outside [] p = refl
   none_outside (l ∷ lists) p = absurd p
 
-  -- What is next: the bytes of the record, and those of what follows.
+  -- The bytes of the next record, and the bytes after it.
   pub record NextIs (s : DecodeState) (r : Record) (rest : List Record) (outer : Outside) : Type 0 where
     pub front : List ℕ
     pub back : List ℕ
@@ -155,17 +155,17 @@ module _ {F : ReadForm} (form : IsReadForm F) where
       none = λ scope outer at. let wrong = is.1 (form.only_nothing (left_inside (state d).slices) at.inside) in cc;
     }
 
-    more_told : (d : D) (result : Result Bool DecodeError) → IfOk result (λ some. Decides (not some) (left_inside (state d).slices ≡ [])) → OnErr result ((state d).failed ≡ true) →
+    more_decided : (d : D) (result : Result Bool DecodeError) → IfOk result (λ some. Decides (not some) (left_inside (state d).slices ≡ [])) → OnErr result ((state d).failed ≡ true) →
         TellsMore (exact_reader F state) d d result
-    more_told d (Ok some) told has_failed = some_or_none d some told
-    more_told d (Err e) told has_failed = record {
+    more_decided d (Ok some) decided has_failed = some_or_none d some decided
+    more_decided d (Err e) decided has_failed = record {
       some = λ r items scope outer no_mark at. absurd (not_both (state d).failed at.no_failure has_failed);
       none = λ scope outer at. absurd (not_both (state d).failed at.no_failure has_failed);
     }
 
-    pub more_is_told : (d : D) (result : Result Bool DecodeError) → IfOk result (λ some. Decides (not some) (left_inside (state d).slices ≡ [])) → OnErr result ((state d).failed ≡ true) →
+    pub more_is_decided : (d : D) (result : Result Bool DecodeError) → IfOk result (λ some. Decides (not some) (left_inside (state d).slices ≡ [])) → OnErr result ((state d).failed ≡ true) →
         TellsMore (up_to_order (exact_reader F state)) d d result
-    more_is_told d result told has_failed = tells_more (exact_reader F state) d d result (more_told d result told has_failed)
+    more_is_decided d result decided has_failed = tells_more (exact_reader F state) d d result (more_decided d result decided has_failed)
 
     -- a scope was closed, or none is to be closed
     closes : (d e : D) (result : Result ⊤ DecodeError) → OnOk result (IsClosed (state d) (state e)) → OnOk result ((state e).failed ≡ false) → OnErr result (NoneToClose (state d)) →

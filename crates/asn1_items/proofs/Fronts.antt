@@ -1,8 +1,8 @@
--- What is read of the front of some bytes: it is read of that front whatever follows.
+-- Reading the front of some bytes does not depend on the bytes after it.
 use Rattle.std.proofs.Common.{◌≡◌, ℕ, ◌<◌, List, [], ◌∷◌, ◌++◌, Option, None, Some, append_assoc, ap, ◌∙◌, sym, arith, length, length-append}
 use Rattle.std.specs.Option.{option_and_then}
 
--- What an answer leaves of the bytes, and the same answer with other bytes left.
+-- The bytes that an answer leaves, and the same answer with other bytes left.
 pub record Leaves (A : Type 0) : Type 0 where
   pub left : A → List ℕ
   pub leaving : A → List ℕ → A

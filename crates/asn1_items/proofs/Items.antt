@@ -2,7 +2,6 @@
 use Rattle.std.proofs.Common.{◌≡◌, ℕ, ◌-◌, Bool, true, false, Option, None, Some, List, [], ◌∷◌, ◌++◌, append_assoc, length, take, refl, sym, ap, ◌∙◌, arith, length-append}
 use Rattle.std.proofs.Math.Seq.{take-append_seam}
 use Rattle.std.proofs.lemmas.Nat.{from_be_bytes-to_be_bytes_4}
-use Rattle.std.specs.Prelude.{if◌then◌else◌, ◌==◌, ◌&&◌, nat_le}
 use Rattle.std.specs.Option.{option_and_then}
 use Rattle.std.specs.Int.{w32, to_be_bytes, from_be_bytes}
 use borrow.Author.Tests.{eqb-true}
@@ -10,13 +9,16 @@ use Rattle.asn1_tags.specs.Tags.{class_number}
 use Rattle.asn1_tags.specs.declared.classes.Class.{Class}
 use Rattle.asn1_tags.specs.declared.tags.Tag.{Tag}
 use Rattle.asn1_model.specs.Records as model
-use Rattle.asn1_model.specs.Records.{sequence, set, sequence_of, set_of, explicit_tag, alternative}
 use Rattle.asn1_model.specs.Tags.{head_tag}
 use Rattle.asn1_items.proofs.Fronts.{IsReadOf, Leaves, after_byte, read_before}
-use Rattle.asn1_items.specs.Headers.{Header, class_at, number_at, from_size, from_content, of_kind, from_class, header_at, is_one, is_one_item, kind_of}
+use Rattle.asn1_items.specs.Headers.{Header, class_at, number_at, from_size, from_content, of_kind, from_class, header_at, is_one, is_one_item}
+use Rattle.asn1_items.specs.Kinds.{item_kind_at, kind_of, kind_of_scope}
 use Rattle.asn1_items.specs.Numbers.{four_bytes}
+use Rattle.asn1_items.specs.declared.kinds.ItemKind.{ItemKind}
+use Rattle.asn1_items.specs.declared.kinds.ItemKind.TheVariants as item
+use Rattle.asn1_items.specs.declared.kinds.ScopeKind.{ScopeKind}
 use Rattle.asn1_items.specs.Items.{IsItem}
-pub use Rattle.asn1_items.proofs.Headers.{class_at-number}
+pub use Rattle.asn1_items.proofs.Headers.{class_at-number, item_kind_at-byte, kind_at-is}
 
 -- the number of the four bytes of a number
 abbrev pub number_at_four : ℕ → ℕ
@@ -36,7 +38,7 @@ before h back = record { kind = h.kind; tag = h.tag; content = h.content; size =
 abbrev header_leaves : Leaves Header
 header_leaves = record { left = λ h. h.body; leaving = λ h back. before h back }
 
-size_read : (kind : ℕ) (t : Tag) (content : ℕ) (xs : List ℕ) (h : Header) → from_size kind t content xs ≡ Some h → IsReadOf header_leaves (from_size kind t content) xs h
+size_read : (kind : ItemKind) (t : Tag) (content : ℕ) (xs : List ℕ) (h : Header) → from_size kind t content xs ≡ Some h → IsReadOf header_leaves (from_size kind t content) xs h
 size_read kind t content (a ∷ b ∷ c ∷ d ∷ body) h e = record {
   front = a ∷ b ∷ c ∷ d ∷ [];
   are = ap (λ (g : Header). a ∷ b ∷ c ∷ d ∷ g.body) (some_is e);
@@ -44,19 +46,15 @@ size_read kind t content (a ∷ b ∷ c ∷ d ∷ body) h e = record {
 }
 size_read kind t content _ h e = cc
 
-content_read : (kind : ℕ) (t : Tag) (xs : List ℕ) (h : Header) → from_content kind t xs ≡ Some h → IsReadOf header_leaves (from_content kind t) xs h
-content_read kind t [] h e = cc
-content_read kind t (content ∷ xs) h e = after_byte header_leaves (from_content kind t) content xs h (size_read kind t content xs h e)
+content_read : (t : Tag) (xs : List ℕ) (h : Header) → from_content t xs ≡ Some h → IsReadOf header_leaves (from_content t) xs h
+content_read t [] h e = cc
+content_read t (content ∷ xs) h e = after_byte header_leaves (from_content t) content xs h (size_read item.Content t content xs h e)
 
-kind_read : (kind : ℕ) (t : Tag) (xs : List ℕ) (h : Header) → of_kind kind t xs ≡ Some h → IsReadOf header_leaves (of_kind kind t) xs h
-kind_read kind t xs h e = by (kind == 1) e
-  where
-    by : (b : Bool) → (if b then from_content kind t xs else from_size kind t 0 xs) ≡ Some h →
-        IsReadOf header_leaves (λ l. if b then from_content kind t l else from_size kind t 0 l) xs h
-    by true e = content_read kind t xs h e
-    by false e = size_read kind t 0 xs h e
+kind_read : (kind : ItemKind) (t : Tag) (xs : List ℕ) (h : Header) → of_kind kind t xs ≡ Some h → IsReadOf header_leaves (of_kind kind t) xs h
+kind_read item.Content t xs h e = content_read t xs h e
+kind_read (item.Scope kind) t xs h e = size_read (item.Scope kind) t 0 xs h e
 
-class_read : (kind : ℕ) (xs : List ℕ) (h : Header) → from_class kind xs ≡ Some h → IsReadOf header_leaves (from_class kind) xs h
+class_read : (kind : ItemKind) (xs : List ℕ) (h : Header) → from_class kind xs ≡ Some h → IsReadOf header_leaves (from_class kind) xs h
 class_read kind (class ∷ a ∷ b ∷ c ∷ d ∷ rest) h e =
     let r = by (class_at class) e in
     record { front = class ∷ a ∷ b ∷ c ∷ d ∷ r.front; are = ap (λ l. class ∷ a ∷ b ∷ c ∷ d ∷ l) r.are; whatever = r.whatever }
@@ -70,17 +68,17 @@ class_read kind _ h e = cc
 -- The header is read of the front of the bytes.
 pub header_read : (xs : List ℕ) (h : Header) → header_at xs ≡ Some h → IsReadOf header_leaves header_at xs h
 header_read [] h e = cc
-header_read (kind ∷ rest) h e = after_byte header_leaves header_at kind rest h (by (nat_le 1 kind && nat_le kind 7) e)
+header_read (byte ∷ rest) h e = after_byte header_leaves header_at byte rest h (by (item_kind_at byte) e)
   where
-    by : (b : Bool) → (if b then from_class kind rest else None) ≡ Some h → IsReadOf header_leaves (λ l. if b then from_class kind l else None) rest h
-    by true e = class_read kind rest h e
-    by false e = cc
+    by : (o : Option ItemKind) → option_and_then (λ kind. from_class kind rest) o ≡ Some h → IsReadOf header_leaves (λ l. option_and_then (λ kind. from_class kind l) o) rest h
+    by None e = cc
+    by (Some kind) e = class_read kind rest h e
 
 -- So the header stays with any bytes behind.
 pub header_at-append : (xs ys : List ℕ) (h : Header) → header_at xs ≡ Some h → header_at (xs ++ ys) ≡ Some (extend h ys)
 header_at-append xs ys h e = read_before header_leaves header_at xs h (header_read xs h e) ys
 
--- What is one item, whatever follows it.
+-- One item with trailing bytes.
 pub record IsOneItem (own back : List ℕ) : Type 0 where
   pub header : Header
   pub at : header_at (own ++ back) ≡ Some header
@@ -96,53 +94,44 @@ one_item own back one = by (header_at own) refl one
     by (Some h) found one = record { header = extend h back; at = header_at-append own back h found; inside = h.body; body = refl; size = sym (eqb-true (length h.body) h.size one) }
 
 -- a content
-pub content_item : (t : Tag) (content : ℕ) (inside bytes back : List ℕ) → IsItem 1 t (content ∷ []) inside bytes →
-    header_at (bytes ++ back) ≡ Some (record { kind = 1; tag = t; content = content; size = length inside; body = inside ++ back })
-content_item t content inside bytes back item =
-    let tag : record { class = t.class; value = number_at_four t.value } ≡ t = ap (λ n. record { class = t.class; value = n }) (from_be_bytes-to_be_bytes_4 t.value item.tag_fits) in
-    let size : number_at_four (length inside) ≡ length inside = from_be_bytes-to_be_bytes_4 (length inside) item.size_fits in
-    ap (λ b. header_at (b ++ back)) item.are
-    ∙ ap (option_and_then (λ k. Some (record { kind = 1; tag = record { class = k; value = number_at_four t.value }; content = content; size = number_at_four (length inside); body = inside ++ back }))) (class_at-number t.class)
-    ∙ ap (λ u. Some (record { kind = 1; tag = u; content = content; size = number_at_four (length inside); body = inside ++ back })) tag
-    ∙ ap (λ n. Some (record { kind = 1; tag = t; content = content; size = n; body = inside ++ back })) size
+pub content_item : (t : Tag) (content : ℕ) (inside bytes back : List ℕ) → IsItem item.Content t (content ∷ []) inside bytes →
+    header_at (bytes ++ back) ≡ Some (record { kind = item.Content; tag = t; content = content; size = length inside; body = inside ++ back })
+content_item t content inside bytes back own =
+    let tag : record { class = t.class; value = number_at_four t.value } ≡ t = ap (λ n. record { class = t.class; value = n }) (from_be_bytes-to_be_bytes_4 t.value own.tag_fits) in
+    let size : number_at_four (length inside) ≡ length inside = from_be_bytes-to_be_bytes_4 (length inside) own.size_fits in
+    ap (λ b. header_at (b ++ back)) own.are
+    ∙ ap (option_and_then (λ k. Some (record { kind = item.Content; tag = record { class = k; value = number_at_four t.value }; content = content; size = number_at_four (length inside); body = inside ++ back }))) (class_at-number t.class)
+    ∙ ap (λ u. Some (record { kind = item.Content; tag = u; content = content; size = number_at_four (length inside); body = inside ++ back })) tag
+    ∙ ap (λ n. Some (record { kind = item.Content; tag = t; content = content; size = n; body = inside ++ back })) size
 
 -- a scope
-scope_item_of : (kind : ℕ) (t : Tag) (inside bytes back : List ℕ) → (nat_le 1 kind && nat_le kind 7) ≡ true → (kind == 1) ≡ false → IsItem kind t [] inside bytes →
-    header_at (bytes ++ back) ≡ Some (record { kind = kind; tag = t; content = 0; size = length inside; body = inside ++ back })
-scope_item_of kind t inside bytes back known scope item =
-    let tag : record { class = t.class; value = number_at_four t.value } ≡ t = ap (λ n. record { class = t.class; value = n }) (from_be_bytes-to_be_bytes_4 t.value item.tag_fits) in
-    let size : number_at_four (length inside) ≡ length inside = from_be_bytes-to_be_bytes_4 (length inside) item.size_fits in
+scope_item_of : (kind : ScopeKind) (t : Tag) (inside bytes back : List ℕ) → IsItem (item.Scope kind) t [] inside bytes →
+    header_at (bytes ++ back) ≡ Some (record { kind = item.Scope kind; tag = t; content = 0; size = length inside; body = inside ++ back })
+scope_item_of kind t inside bytes back own =
+    let tag : record { class = t.class; value = number_at_four t.value } ≡ t = ap (λ n. record { class = t.class; value = n }) (from_be_bytes-to_be_bytes_4 t.value own.tag_fits) in
+    let size : number_at_four (length inside) ≡ length inside = from_be_bytes-to_be_bytes_4 (length inside) own.size_fits in
     let rest = four_bytes t.value ++ four_bytes (length inside) ++ inside ++ back in
-    ap (λ b. header_at (b ++ back)) item.are
-    ∙ ap (λ b. if b then from_class kind (class_number t.class ∷ rest) else None) known
-    ∙ ap (option_and_then (λ k. of_kind kind (record { class = k; value = number_at_four t.value }) (four_bytes (length inside) ++ inside ++ back))) (class_at-number t.class)
-    ∙ ap (λ b. if b then from_content kind (record { class = t.class; value = number_at_four t.value }) (four_bytes (length inside) ++ inside ++ back) else from_size kind (record { class = t.class; value = number_at_four t.value }) 0 (four_bytes (length inside) ++ inside ++ back)) scope
-    ∙ ap (λ u. Some (record { kind = kind; tag = u; content = 0; size = number_at_four (length inside); body = inside ++ back })) tag
-    ∙ ap (λ n. Some (record { kind = kind; tag = t; content = 0; size = n; body = inside ++ back })) size
+    ap (λ b. header_at (b ++ back)) own.are
+    ∙ ap (option_and_then (λ k. from_class k (class_number t.class ∷ rest))) (item_kind_at-byte (item.Scope kind))
+    ∙ ap (option_and_then (λ k. of_kind (item.Scope kind) (record { class = k; value = number_at_four t.value }) (four_bytes (length inside) ++ inside ++ back))) (class_at-number t.class)
+    ∙ ap (λ u. Some (record { kind = item.Scope kind; tag = u; content = 0; size = number_at_four (length inside); body = inside ++ back })) tag
+    ∙ ap (λ n. Some (record { kind = item.Scope kind; tag = t; content = 0; size = n; body = inside ++ back })) size
 
 pub scope_item : (h : model.Head) (inside bytes back : List ℕ) → IsItem (kind_of h) (head_tag h) [] inside bytes →
     header_at (bytes ++ back) ≡ Some (record { kind = kind_of h; tag = head_tag h; content = 0; size = length inside; body = inside ++ back })
-scope_item (sequence t table n) inside bytes back item = scope_item_of 2 t inside bytes back refl refl item
-scope_item (set t table n) inside bytes back item = scope_item_of 3 t inside bytes back refl refl item
-scope_item (sequence_of t c n) inside bytes back item = scope_item_of 4 t inside bytes back refl refl item
-scope_item (set_of t c n) inside bytes back item = scope_item_of 5 t inside bytes back refl refl item
-scope_item (explicit_tag t n) inside bytes back item = scope_item_of 6 t inside bytes back refl refl item
-scope_item (alternative t c table n) inside bytes back item = scope_item_of 7 t inside bytes back refl refl item
+scope_item h inside bytes back own = scope_item_of (kind_of_scope h) (head_tag h) inside bytes back own
 
--- What is before the body is the rest of the bytes.
-size_front : (kind : ℕ) (t : Tag) (content : ℕ) (xs : List ℕ) (h : Header) → from_size kind t content xs ≡ Some h → (front : List ℕ) × (xs ≡ front ++ h.body)
+-- The bytes before the body are the other bytes of the item.
+size_front : (kind : ItemKind) (t : Tag) (content : ℕ) (xs : List ℕ) (h : Header) → from_size kind t content xs ≡ Some h → (front : List ℕ) × (xs ≡ front ++ h.body)
 size_front kind t content (a ∷ b ∷ c ∷ d ∷ body) h e = (a ∷ b ∷ c ∷ d ∷ [], ap (λ (g : Header). a ∷ b ∷ c ∷ d ∷ g.body) (some_is e))
 size_front kind t content _ h e = cc
 
-kind_front : (kind : ℕ) (t : Tag) (xs : List ℕ) (h : Header) → of_kind kind t xs ≡ Some h → (front : List ℕ) × (xs ≡ front ++ h.body)
-kind_front kind t xs h e = by (kind == 1) xs e
-  where
-    by : (b : Bool) (xs : List ℕ) → (if b then from_content kind t xs else from_size kind t 0 xs) ≡ Some h → (front : List ℕ) × (xs ≡ front ++ h.body)
-    by true [] e = cc
-    by true (content ∷ xs) e = let f = size_front kind t content xs h e in (content ∷ f.0, ap (λ l. content ∷ l) f.1)
-    by false xs e = size_front kind t 0 xs h e
+kind_front : (kind : ItemKind) (t : Tag) (xs : List ℕ) (h : Header) → of_kind kind t xs ≡ Some h → (front : List ℕ) × (xs ≡ front ++ h.body)
+kind_front item.Content t [] h e = cc
+kind_front item.Content t (content ∷ xs) h e = let f = size_front item.Content t content xs h e in (content ∷ f.0, ap (λ l. content ∷ l) f.1)
+kind_front (item.Scope kind) t xs h e = size_front (item.Scope kind) t 0 xs h e
 
-class_front : (kind : ℕ) (xs : List ℕ) (h : Header) → from_class kind xs ≡ Some h → (front : List ℕ) × (xs ≡ front ++ h.body)
+class_front : (kind : ItemKind) (xs : List ℕ) (h : Header) → from_class kind xs ≡ Some h → (front : List ℕ) × (xs ≡ front ++ h.body)
 class_front kind (class ∷ a ∷ b ∷ c ∷ d ∷ rest) h e = by (class_at class) e
   where
     by : (o : Option Class) → option_and_then (λ k. of_kind kind (record { class = k; value = number_at a b c d }) rest) o ≡ Some h → (front : List ℕ) × (class ∷ a ∷ b ∷ c ∷ d ∷ rest ≡ front ++ h.body)
@@ -152,11 +141,11 @@ class_front kind _ h e = cc
 
 pub header_front : (xs : List ℕ) (h : Header) → header_at xs ≡ Some h → (front : List ℕ) × (xs ≡ front ++ h.body)
 header_front [] h e = cc
-header_front (kind ∷ rest) h e = by (nat_le 1 kind && nat_le kind 7) e
+header_front (byte ∷ rest) h e = by (item_kind_at byte) e
   where
-    by : (b : Bool) → (if b then from_class kind rest else None) ≡ Some h → (front : List ℕ) × (kind ∷ rest ≡ front ++ h.body)
-    by true e = let f = class_front kind rest h e in (kind ∷ f.0, ap (λ l. kind ∷ l) f.1)
-    by false e = cc
+    by : (o : Option ItemKind) → option_and_then (λ kind. from_class kind rest) o ≡ Some h → (front : List ℕ) × (byte ∷ rest ≡ front ++ h.body)
+    by None e = cc
+    by (Some kind) e = let f = class_front kind rest h e in (byte ∷ f.0, ap (λ l. byte ∷ l) f.1)
 
 -- what is in front of a rest
 pub front_is : (xs front inside back : List ℕ) (n : ℕ) → xs ≡ front ++ (inside ++ back) → n ≡ length back → xs ≡ take (length xs - n) xs ++ back

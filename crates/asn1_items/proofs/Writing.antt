@@ -1,11 +1,13 @@
--- What a buffer has written, from call to call.
+-- The records that a buffer has written, from call to call.
 use Rattle.std.proofs.Common.{◌≡◌, ℕ, ◌+◌, ◌≤◌, ◌<◌, ◌^◌, Bool, true, false, List, [], ◌∷◌, ◌++◌, append_assoc, append-nil, refl, sym, ap, subst, ◌∙◌, arith, length, take, length-append}
 use Rattle.std.proofs.Math.Seq.{take-append_seam}
 use Rattle.std.specs.Prelude.{Some, ◌&&◌, ◌||◌, not, if◌then◌else◌}
 use Rattle.asn1_laws.specs.Writing.{Written, outermost, in_scope, in_group, followed_by}
 use Rattle.asn1_items.specs.Buffers.{GroupIsInnermost, IsWritten, LeadsOut, TellsOfGroup, inward, is_in_group, is_in_scope}
 use Rattle.asn1_items.specs.Contents.{LooksLike}
-use Rattle.asn1_items.specs.Headers.{kind_of, tag_bytes}
+use Rattle.asn1_items.specs.Headers.{tag_bytes}
+use Rattle.asn1_items.specs.Kinds.{content_byte, item_byte, kind_of}
+use Rattle.asn1_items.specs.declared.kinds.ItemKind.TheVariants as item_kind
 use Rattle.asn1_items.specs.Items.{HasBytes, HaveBytes, IsItem, IsItemOf, IsLong, IsTooLong, MarkBytes, written_with}
 use Rattle.asn1_items.specs.Numbers.{Appended, four_bytes}
 use Rattle.asn1_items.specs.declared.group.Group.{Group}
@@ -33,7 +35,7 @@ or_false : (b : Bool) → b ≡ (b || false)
 or_false true = refl
 or_false false = refl
 
--- What is open, innermost first.
+-- The open scopes and groups, innermost first.
 
 inward-last : {A : Type 0} (inner xs : List A) (x : A) → inward inner (xs ++ x ∷ []) ≡ x ∷ inward inner xs
 inward-last inner [] x = refl
@@ -73,9 +75,9 @@ pub tells_of_record : (w : Written) (r : model.Record) → is_presence_mark r �
 tells_of_record w r unmarked = tells_of_records w (r ∷ []) (ap (λ b. not (b && true)) unmarked)
 
 pub tells_of_mark : (w : Written) (m : model.PresenceMark) (some : Bool) → TellsOfGroup w some → TellsOfGroup (followed_by w (model.presence_mark m ∷ [])) some
-tells_of_mark (outermost before) m some told = tt
-tells_of_mark (in_scope h before w) m some told = tt
-tells_of_mark (in_group table before w) m some told = told ∙ or_false (not (presence_marks_alone before)) ∙ sym (alone-append before (model.presence_mark m ∷ []))
+tells_of_mark (outermost before) m some flag = tt
+tells_of_mark (in_scope h before w) m some flag = tt
+tells_of_mark (in_group table before w) m some flag = flag ∙ or_false (not (presence_marks_alone before)) ∙ sym (alone-append before (model.presence_mark m ∷ []))
 
 module _ (marks : MarkBytes) where
   bytes-append : (rs ss : List model.Record) (a b : List ℕ) → HaveBytes (written_with marks) (held rs) a → HaveBytes (written_with marks) (held ss) b → HaveBytes (written_with marks) (held (rs ++ ss)) (a ++ b)
@@ -103,7 +105,7 @@ module _ (marks : MarkBytes) where
     outer = p.outer;
     outer_far = p.outer_far;
     outside = p.outside;
-    are = ap (λ l. l ++ more) p.are ∙ append_assoc (p.before ++ kind_of h ∷ tag_bytes (head_tag h)) (four_bytes p.link ++ p.inside) more ∙ ap (λ l. (p.before ++ kind_of h ∷ tag_bytes (head_tag h)) ++ l) (append_assoc (four_bytes p.link) p.inside more);
+    are = ap (λ l. l ++ more) p.are ∙ append_assoc (p.before ++ item_byte (kind_of h) ∷ tag_bytes (head_tag h)) (four_bytes p.link ++ p.inside) more ∙ ap (λ l. (p.before ++ item_byte (kind_of h) ∷ tag_bytes (head_tag h)) ++ l) (append_assoc (four_bytes p.link) p.inside more);
     link_fits = p.link_fits;
     leads_out = p.leads_out;
     starts = p.starts;
@@ -134,7 +136,7 @@ module _ (marks : MarkBytes) where
   pub scalar_written : (y x : model.Content) (t : Tag) (c : ConstraintSet) (n : Name) (bytes new : List ℕ) → LooksLike y x → Appended (IsItemOf t y) bytes new → (start : ℕ) (far : List ℕ) (groups : List Group) (w : Written) →
       IsWritten marks w start far groups bytes → IsWritten marks (followed_by w (scalar t c n x ∷ [])) start far groups new
   scalar_written y x t c n bytes new like a start far groups w wrote =
-      appended w start far groups bytes a.added new (scalar t c n x) (record { inside = a.is.inside; is = like.bytes a.is.inside a.is.is; item = subst (λ k. IsItem 1 t (k ∷ []) a.is.inside a.added) like.kind a.is.item }) a.joined wrote
+      appended w start far groups bytes a.added new (scalar t c n x) (record { inside = a.is.inside; is = like.bytes a.is.inside a.is.is; item = subst (λ k. IsItem item_kind.Content t (content_byte k ∷ []) a.is.inside a.added) like.kind a.is.item }) a.joined wrote
 
   pub scalar_too_long : (y x : model.Content) (t : Tag) (c : ConstraintSet) (n : Name) → LooksLike y x → IsLong y → IsTooLong (written_with marks) (scalar t c n x)
   scalar_too_long y x t c n like long = (long.0, like.bytes long.0 long.1, long.2)
@@ -142,7 +144,7 @@ module _ (marks : MarkBytes) where
   -- where the inside of an open scope begins, and how much was written before its header
   scope_within : (h : model.Head) (rs : List model.Record) (w : Written) (start : ℕ) (far : List ℕ) (groups : List Group) (bytes : List ℕ) (s : IsWritten marks (in_scope h rs w) start far groups bytes) → (length s.before ≤ length bytes) × (start ≤ length bytes)
   scope_within h rs w start far groups bytes s =
-      let header = kind_of h ∷ tag_bytes (head_tag h) in
+      let header = item_byte (kind_of h) ∷ tag_bytes (head_tag h) in
       let size = ap length s.are ∙ length-append (s.before ++ header) (four_bytes s.link ++ s.inside) in
       let outside = length-append s.before header in
       (omega (arith, size, outside), omega (arith, size, outside, length-append (four_bytes s.link) s.inside, s.starts))
@@ -165,7 +167,7 @@ module _ (marks : MarkBytes) where
 
   -- a scope was opened
   pub scope_opened : (h : model.Head) (w : Written) (start link outer : ℕ) (far outer_far : List ℕ) (groups : List Group) (bytes new : List ℕ) → start ≡ length bytes + 10 → (head_tag h).value < 2 ^ 32 → link < 2 ^ 32 → LeadsOut link start far outer outer_far →
-      new ≡ (bytes ++ kind_of h ∷ tag_bytes (head_tag h)) ++ four_bytes link → IsWritten marks w outer outer_far groups bytes → IsWritten marks (in_scope h [] w) start far groups new
+      new ≡ (bytes ++ item_byte (kind_of h) ∷ tag_bytes (head_tag h)) ++ four_bytes link → IsWritten marks w outer outer_far groups bytes → IsWritten marks (in_scope h [] w) start far groups new
   scope_opened h w start link outer far outer_far groups bytes new starts tag_fits link_fits leads is wrote = record {
     before = bytes;
     link = link;
@@ -173,7 +175,7 @@ module _ (marks : MarkBytes) where
     outer = outer;
     outer_far = outer_far;
     outside = wrote;
-    are = is ∙ ap (λ l. (bytes ++ kind_of h ∷ tag_bytes (head_tag h)) ++ l) (sym (append-nil (four_bytes link)));
+    are = is ∙ ap (λ l. (bytes ++ item_byte (kind_of h) ∷ tag_bytes (head_tag h)) ++ l) (sym (append-nil (four_bytes link)));
     link_fits = link_fits;
     leads_out = leads;
     starts = starts;
@@ -185,7 +187,7 @@ module _ (marks : MarkBytes) where
   pub scope_closed : (h : model.Head) (rs : List model.Record) (w : Written) (start link : ℕ) (far : List ℕ) (groups : List Group) (bytes new : List ℕ) (start' : ℕ) (far' : List ℕ) → PatchedAs bytes new start link →
       ((outer : ℕ) (outer_far : List ℕ) → LeadsOut link start far outer outer_far → (start' ≡ outer) × (far' ≡ outer_far)) → IsWritten marks (in_scope h rs w) start far groups bytes → IsWritten marks (followed_by w (holding h rs ∷ [])) start' far' groups new
   scope_closed h rs w start link far groups bytes new start' far' patched back s =
-      let header = kind_of h ∷ tag_bytes (head_tag h) in
+      let header = item_byte (kind_of h) ∷ tag_bytes (head_tag h) in
       let p = patched (s.before ++ header) s.inside s.link s.link_fits s.are (omega (arith, s.starts, length-append s.before header)) in
       let item = header ++ (four_bytes (length s.inside) ++ s.inside) in
       let has : HasBytes (written_with marks) (holding h rs) item = record {
@@ -235,8 +237,8 @@ module _ (marks : MarkBytes) where
   -- a group was opened
   pub group_opened : (table : Table Line) (w : Written) (start : ℕ) (far : List ℕ) (groups : List Group) (g : Group) (bytes new : List ℕ) → g.start ≡ length bytes → TellsOfGroup w g.outer_has_records → new ≡ bytes ++ marks (model.group_start table) →
       IsWritten marks w start far groups bytes → IsWritten marks (in_group table [] w) start far (g ∷ groups) new
-  group_opened table w start far groups g bytes new begins told is wrote = (
-    told,
+  group_opened table w start far groups g bytes new begins flag is wrote = (
+    flag,
     record {
       before = bytes;
       inside = [];
@@ -251,9 +253,9 @@ module _ (marks : MarkBytes) where
   pub group_closed : (table : Table Line) (rs : List model.Record) (w : Written) (outer : ℕ) (far : List ℕ) (groups : List Group) (g : Group) (bytes new end : List ℕ) (some : Bool) → some ≡ true → new ≡ bytes ++ end → marks model.group_end ≡ end →
       IsWritten marks (in_group table rs w) outer far (g ∷ groups) bytes → some ≡ not (presence_marks_alone rs) →
       IsWritten marks (followed_by w (group_records table (Some rs))) outer far groups new × TellsOfGroup (followed_by w (group_records table (Some rs))) some
-  group_closed table rs w outer far groups g bytes new end some there is ends wrote told =
+  group_closed table rs w outer far groups g bytes new end some there is ends wrote flag =
       let s = wrote.1 in
-      let firm : presence_marks_alone rs ≡ false = not_alone (presence_marks_alone rs) (sym there ∙ told) in
+      let firm : presence_marks_alone rs ≡ false = not_alone (presence_marks_alone rs) (sym there ∙ flag) in
       let start = marks (model.group_start table) in
       let group = model.presence_mark (model.group_start table) ∷ (rs ++ model.presence_mark model.group_end ∷ []) in
       let have : HaveBytes (written_with marks) (held group) (start ++ (s.inside ++ end)) = bytes-append (model.presence_mark (model.group_start table) ∷ []) (rs ++ model.presence_mark model.group_end ∷ []) start (s.inside ++ end) (one_record (model.presence_mark (model.group_start table)) start refl)
@@ -269,9 +271,9 @@ module _ (marks : MarkBytes) where
   pub absent_group_closed : (table : Table Line) (rs : List model.Record) (w : Written) (outer : ℕ) (far : List ℕ) (groups : List Group) (g : Group) (bytes cut new away : List ℕ) (some : Bool) → some ≡ false → cut ≡ take g.start bytes → new ≡ cut ++ away → marks model.group_absent ≡ away →
       IsWritten marks (in_group table rs w) outer far (g ∷ groups) bytes → some ≡ not (presence_marks_alone rs) →
       IsWritten marks (followed_by w (group_records table (Some rs))) outer far groups new × TellsOfGroup (followed_by w (group_records table (Some rs))) g.outer_has_records
-  absent_group_closed table rs w outer far groups g bytes cut new away some none cut_is is absent wrote told =
+  absent_group_closed table rs w outer far groups g bytes cut new away some none cut_is is absent wrote flag =
       let s = wrote.1 in
-      let alone : presence_marks_alone rs ≡ true = is_alone (presence_marks_alone rs) (sym none ∙ told) in
+      let alone : presence_marks_alone rs ≡ true = is_alone (presence_marks_alone rs) (sym none ∙ flag) in
       let kept : take g.start bytes ≡ s.before = ap (λ n. take n bytes) s.starts ∙ ap (take (length s.before)) s.are ∙ take-append_seam s.before (marks (model.group_start table) ++ s.inside) in
       let whole : new ≡ s.before ++ away = is ∙ ap (λ l. l ++ away) (cut_is ∙ kept) in
       subst (λ rest. IsWritten marks (followed_by w rest) outer far groups new × TellsOfGroup (followed_by w rest) g.outer_has_records) (sym (group_alone table rs true alone)) (

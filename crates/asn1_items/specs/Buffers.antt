@@ -1,7 +1,8 @@
--- What a buffer has written, with presence marks of these bytes.
+-- The records that a buffer has written, with presence marks of these bytes.
 use Rattle.std.specs.Prelude.{◌≡◌, ◌⊎◌, ⊤, ℕ, ◌+◌, ◌<◌, ◌≤◌, ◌^◌, Bool, false, true, not, List, [], ◌∷◌, ◌++◌, length, IfOk, MatchResult, Result, Some}
 use Rattle.asn1_laws.specs.Writing.{Written, followed_by, outermost, in_scope, in_group}
-use Rattle.asn1_items.specs.Headers.{kind_of, tag_bytes}
+use Rattle.asn1_items.specs.Headers.{tag_bytes}
+use Rattle.asn1_items.specs.Kinds.{item_byte, kind_of}
 use Rattle.asn1_items.specs.Items.{HaveBytes, IsTooLong, MarkBytes, written_with}
 use Rattle.asn1_items.specs.Numbers.{four_bytes}
 use Rattle.asn1_items.specs.declared.buffer.Buffer.{Buffer}
@@ -25,8 +26,8 @@ abbrev pub LeadsOut : ℕ → ℕ → List ℕ → ℕ → List ℕ → Type 0
 LeadsOut link start far outer outer_far = ((0 < link) × (start ≡ outer + link) × (far ≡ outer_far)) ⊎ ((link ≡ 0) × (far ≡ outer ∷ outer_far))
 
 module _ (marks : MarkBytes) where
-  -- A scope that is open: what is outside; the header, in which a number that leads out stands for the length, which is not known
-  -- yet; and what is inside.
+  -- An open scope: the bytes outside; its header, with a number that leads out in the place of the length, which is not known yet;
+  -- and the bytes inside.
   pub record IsOpenScope (IsOutside : ℕ → List ℕ → List ℕ → Type 0) (h : Head) (rs : List Record) (start : ℕ) (far : List ℕ) (bytes : List ℕ) : Type 0 where
     pub before : List ℕ
     pub link : ℕ
@@ -34,7 +35,7 @@ module _ (marks : MarkBytes) where
     pub outer : ℕ
     pub outer_far : List ℕ
     pub outside : IsOutside outer outer_far before
-    pub are : bytes ≡ (before ++ kind_of h ∷ tag_bytes (head_tag h)) ++ (four_bytes link ++ inside)
+    pub are : bytes ≡ (before ++ item_byte (kind_of h) ∷ tag_bytes (head_tag h)) ++ (four_bytes link ++ inside)
     pub link_fits : link < 2 ^ 32
     pub leads_out : LeadsOut link start far outer outer_far
     pub starts : start ≡ length before + 10
@@ -50,8 +51,8 @@ module _ (marks : MarkBytes) where
     pub starts : start ≡ length before
     pub have_bytes : HaveBytes (written_with marks) (held rs) inside
 
-  -- What has been written. The number is where the inside of the innermost open scope begins, and 0 where none is open; the lists have
-  -- the places that are far, and the open groups, both the innermost first.
+  -- The records that have been written. The number is the index at which the inside of the innermost open scope begins, and 0 if none
+  -- is open. The lists have the indices that are far, and the open groups, both innermost first.
   abbrev pub IsWritten : Written → ℕ → List ℕ → List Group → List ℕ → Type 0
   IsWritten (outermost rs) start far [] bytes = (start ≡ 0) × HaveBytes (written_with marks) (held rs) bytes
   IsWritten (outermost rs) start far (g ∷ gs) bytes = ⊥

@@ -1,4 +1,4 @@
--- What remains to be read of the scopes that are open, and what the calls do to them.
+-- The records left in the open scopes, and the effect of each call on them.
 use Rattle.std.specs.Prelude.{◌≡◌, ℕ, ◌≤◌, ⊤, Bool, false, List, [], ◌∷◌, length, map, Result}
 use Rattle.asn1_laws.specs.Reading.{Advances, Outside, Reader, ReadsHead, ReadsHeadOfSet, Remaining, records_in}
 use Rattle.asn1_laws.specs.declared.decode_error.DecodeError.{DecodeError}
@@ -40,7 +40,7 @@ pub record ReadForm : Type 1 where
   pub Have : List Record → List ℕ → Type 0
   pub accepts : List ℕ → Bool
 
--- What a form keeps to: the bytes of several records are those of each in turn, and each takes a byte, presence marks apart.
+-- A lawful form: the bytes of several records are those of each in turn, and each takes a byte, presence marks apart.
 pub record IsReadForm (F : ReadForm) : Type 0 where
   pub nothing : F.Have [] []
   pub only_nothing : (bytes : List ℕ) → F.Have [] bytes → bytes ≡ []
@@ -73,7 +73,7 @@ module _ (F : ReadForm) where
     accepts = λ bytes. F.accepts bytes;
   }
 
--- What was opened is a record of this head, which holds these.
+-- The opened scope is a record of this head, which holds these.
 pub record IsOpened (h : Head) (items : List Record) (opened : Opened) : Type 0 where
   pub has_tag : opened.tag ≡ head_tag h
   pub is_bound : records_in items ≤ opened.bound

@@ -1,33 +1,27 @@
 -- The header of an item, as a function of the bytes, and the bytes that are one item. More bytes behind change nothing.
-use Rattle.std.specs.Prelude.{◌≡◌, ℕ, zero, suc, Bool, false, ◌&&◌, Option, None, Some, List, [], ◌∷◌, ◌==◌, nat_le, nat_eq, length, if◌then◌else◌, ⊤}
+use Rattle.std.specs.Prelude.{◌≡◌, ℕ, zero, suc, Bool, false, Option, None, Some, List, [], ◌∷◌, nat_eq, length, ⊤}
 use Rattle.std.specs.Option.{option_and_then}
 use Rattle.std.specs.Int.{w32, from_be_bytes}
+use Rattle.asn1_items.specs.Kinds.{content_byte, item_kind_at}
 use Rattle.asn1_items.specs.Numbers.{four_bytes}
 use Rattle.asn1_items.specs.declared.header.ExpectedHeader.{ExpectedHeader}
 use Rattle.asn1_items.specs.declared.header.ExpectedHeader.TheVariants as expected
 use Rattle.asn1_items.specs.declared.header.Header.{Header as Found}
-use Rattle.asn1_model.specs.Records.{Head, sequence, set, sequence_of, set_of, explicit_tag, alternative}
+use Rattle.asn1_items.specs.declared.kinds.ItemKind.{ItemKind}
+use Rattle.asn1_items.specs.declared.kinds.ItemKind.TheVariants as item
+use Rattle.asn1_items.specs.declared.kinds.ScopeKind.TheVariants as scope
 use Rattle.asn1_tags.specs.Tags.{class_number}
 use Rattle.asn1_tags.specs.declared.classes.Class.{Class}
 use Rattle.asn1_tags.specs.declared.classes.Class.TheVariants.{Universal, Application, Context, Private}
 use Rattle.asn1_tags.specs.declared.tags.Tag.{Tag}
 
--- the kind of an item that holds others; an item of a content has the kind 1
-abbrev pub kind_of : Head → ℕ
-kind_of (sequence t table n) = 2
-kind_of (set t table n) = 3
-kind_of (sequence_of t c n) = 4
-kind_of (set_of t c n) = 5
-kind_of (explicit_tag t n) = 6
-kind_of (alternative t c table n) = 7
-
 -- a tag: its class, and its number in four bytes
 abbrev pub tag_bytes : Tag → List ℕ
 tag_bytes t = class_number t.class ∷ four_bytes t.value
 
--- What the bytes of an item begin with, and what follows. An item that holds others has no content kind, which is then 0.
+-- The header of an item, and the bytes after it. The byte of the kind of content is 0 in an item that holds others, which has none.
 pub record Header : Type 0 where
-  pub kind : ℕ
+  pub kind : ItemKind
   pub tag : Tag
   pub content : ℕ
   pub size : ℕ
@@ -46,27 +40,28 @@ abbrev pub number_at : ℕ → ℕ → ℕ → ℕ → ℕ
 number_at a b c d = from_be_bytes w32 (a ∷ b ∷ c ∷ d ∷ [])
 
 -- the header from its length on
-abbrev pub from_size : ℕ → Tag → ℕ → List ℕ → Option Header
+abbrev pub from_size : ItemKind → Tag → ℕ → List ℕ → Option Header
 from_size kind tag content (a ∷ b ∷ c ∷ d ∷ body) = Some (record { kind = kind; tag = tag; content = content; size = number_at a b c d; body = body })
 from_size kind tag content _ = None
 
 -- from its content kind on
-abbrev pub from_content : ℕ → Tag → List ℕ → Option Header
-from_content kind tag (content ∷ rest) = from_size kind tag content rest
-from_content kind tag [] = None
+abbrev pub from_content : Tag → List ℕ → Option Header
+from_content tag (content ∷ rest) = from_size item.Content tag content rest
+from_content tag [] = None
 
 -- an item of a content, and one that holds others
-abbrev pub of_kind : ℕ → Tag → List ℕ → Option Header
-of_kind kind tag rest = if kind == 1 then from_content kind tag rest else from_size kind tag 0 rest
+abbrev pub of_kind : ItemKind → Tag → List ℕ → Option Header
+of_kind item.Content tag rest = from_content tag rest
+of_kind (item.Scope kind) tag rest = from_size (item.Scope kind) tag 0 rest
 
 -- from its class on
-abbrev pub from_class : ℕ → List ℕ → Option Header
+abbrev pub from_class : ItemKind → List ℕ → Option Header
 from_class kind (class ∷ a ∷ b ∷ c ∷ d ∷ rest) = option_and_then (λ k. of_kind kind (record { class = k; value = number_at a b c d }) rest) (class_at class)
 from_class kind _ = None
 
 -- the header
 abbrev pub header_at : List ℕ → Option Header
-header_at (kind ∷ rest) = if nat_le 1 kind && nat_le kind 7 then from_class kind rest else None
+header_at (byte ∷ rest) = option_and_then (λ kind. from_class kind rest) (item_kind_at byte)
 header_at [] = None
 
 -- the bytes are one item, whose body is as long as its header says
@@ -92,14 +87,14 @@ pub record IsHeaderOf (bytes : List ℕ) (found : Found) : Type 0 where
   pub is : IsHeader found header
 
 -- The header that the program found is that of a kind and these bytes after it.
-pub record IsHeaderAfter (kind : ℕ) (bytes : List ℕ) (found : Found) : Type 0 where
+pub record IsHeaderAfter (kind : ItemKind) (bytes : List ℕ) (found : Found) : Type 0 where
   pub header : Header
   pub at : from_class kind bytes ≡ Some header
   pub is : IsHeader found header
 
 -- The header is what is wanted.
 abbrev pub Meets : ExpectedHeader → Header → Type 0
-Meets (expected.Content t k) h = (h.kind ≡ 1) × (h.tag ≡ t) × (h.content ≡ k)
-Meets (expected.Scope k t) h = (h.kind ≡ k) × (h.tag ≡ t)
-Meets expected.Alternative h = h.kind ≡ 7
+Meets (expected.Content t k) h = (h.kind ≡ item.Content) × (h.tag ≡ t) × (h.content ≡ content_byte k)
+Meets (expected.Scope k t) h = (h.kind ≡ item.Scope k) × (h.tag ≡ t)
+Meets expected.Alternative h = h.kind ≡ item.Scope scope.Alternative
 Meets expected.Any h = ⊤

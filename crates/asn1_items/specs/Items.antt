@@ -1,8 +1,12 @@
 -- The bytes of records: a header and what is inside, item by item.
 use Rattle.std.specs.Prelude.{◌≡◌, ◌⊎◌, ℕ, ◌<◌, ◌≤◌, ◌^◌, ⊤, ◌&&◌, List, [], ◌∷◌, ◌++◌, length, nat_le, IsTrue, if◌then◌else◌}
-use Rattle.asn1_items.specs.Contents.{IsContent, content_kind}
-use Rattle.asn1_items.specs.Headers.{is_one_item, kind_of, tag_bytes}
+use Rattle.asn1_items.specs.Contents.{IsContent}
+use Rattle.asn1_items.specs.Headers.{is_one_item, tag_bytes}
+use Rattle.asn1_items.specs.Kinds.{content_byte, content_kind, item_byte, kind_of}
 use Rattle.asn1_items.specs.Numbers.{four_bytes}
+use Rattle.asn1_items.specs.declared.kinds.ContentKind.{ContentKind}
+use Rattle.asn1_items.specs.declared.kinds.ItemKind.{ItemKind}
+use Rattle.asn1_items.specs.declared.kinds.ItemKind.TheVariants as item
 use Rattle.asn1_model.specs.Records.{Content, Record, Records, PresenceMark, scalar, scope, open_type, presence_mark, none, more, present, absent, group_start, group_absent, group_end}
 use Rattle.asn1_model.specs.Tags.{head_tag}
 use Rattle.asn1_tags.specs.declared.tags.Tag.{Tag}
@@ -16,15 +20,15 @@ pub record ItemForm : Type 1 where
   pub mark_bytes : MarkBytes
   pub IsOpenType : List ℕ → Type 0
 
--- An item: its kind, its tag, its content kind if it has one, the length of what is inside, and what is inside. The number of
+-- An item: the byte of its kind, its tag, the byte of its content kind if it has one, the length of what is inside, and what is inside. The number of
 -- the tag and the length are below 2^32.
-pub record IsItem (kind : ℕ) (t : Tag) (content_kind inside bytes : List ℕ) : Type 0 where
-  pub are : bytes ≡ kind ∷ tag_bytes t ++ content_kind ++ four_bytes (length inside) ++ inside
+pub record IsItem (kind : ItemKind) (t : Tag) (content_kind inside bytes : List ℕ) : Type 0 where
+  pub are : bytes ≡ item_byte kind ∷ tag_bytes t ++ content_kind ++ four_bytes (length inside) ++ inside
   pub tag_fits : t.value < 2 ^ 32
   pub size_fits : length inside < 2 ^ 32
 
 -- An item that has something inside of which this holds.
-pub record Holds (IsInside : List ℕ → Type 0) (kind : ℕ) (t : Tag) (content_kind bytes : List ℕ) : Type 0 where
+pub record Holds (IsInside : List ℕ → Type 0) (kind : ItemKind) (t : Tag) (content_kind bytes : List ℕ) : Type 0 where
   pub inside : List ℕ
   pub is : IsInside inside
   pub item : IsItem kind t content_kind inside bytes
@@ -40,7 +44,7 @@ pub record IsJoined (IsFirst AreOthers : List ℕ → Type 0) (bytes : List ℕ)
 -- The record has these bytes, in a form. Names, constraints and tables have none.
 abbrev mutual
   pub HasBytes : ItemForm → Record → List ℕ → Type 0
-  HasBytes F (scalar t c n x) bytes = Holds (IsContent x) 1 t (content_kind x ∷ []) bytes
+  HasBytes F (scalar t c n x) bytes = Holds (IsContent x) item.Content t (content_byte (content_kind x) ∷ []) bytes
   HasBytes F (scope h rs) bytes = Holds (HaveBytes F rs) (kind_of h) (head_tag h) [] bytes
   HasBytes F (open_type n own) bytes = (bytes ≡ own) × F.IsOpenType own
   HasBytes F (presence_mark m) bytes = bytes ≡ F.mark_bytes m
@@ -86,9 +90,13 @@ written_with marks = record { mark_bytes = marks; IsOpenType = λ own. ⊤ }
 abbrev pub read_with : MarkBytes → ItemForm
 read_with marks = record { mark_bytes = marks; IsOpenType = λ own. IsTrue (is_one_item own) }
 
+-- The bytes are an item of a content of this kind under a tag, with something inside of which this holds.
+abbrev pub HoldsContent : (List ℕ → Type 0) → ContentKind → Tag → List ℕ → Type 0
+HoldsContent IsInside kind t bytes = Holds IsInside item.Content t (content_byte kind ∷ []) bytes
+
 -- The bytes are an item of a content under a tag.
 abbrev pub IsItemOf : Tag → Content → List ℕ → Type 0
-IsItemOf t x bytes = Holds (IsContent x) 1 t (content_kind x ∷ []) bytes
+IsItemOf t x bytes = Holds (IsContent x) item.Content t (content_byte (content_kind x) ∷ []) bytes
 
 -- The content is too long for an item: 2^32 bytes or more.
 abbrev pub IsLong : Content → Type 0

@@ -3,6 +3,7 @@ pub mod Buffers
 pub mod Contents
 pub mod Headers
 pub mod Items
+pub mod Kinds
 pub mod NextTags
 pub mod Numbers
 pub mod Slices

@@ -1,4 +1,4 @@
--- What the tag that is next tells, where there are no presence marks.
+-- The next tag, in codecs without presence marks.
 use Rattle.std.specs.Prelude.{◌≡◌, true, List, Option, None, Some}
 use Rattle.asn1_model.specs.Records.{Record, presence_marks_alone}
 use Rattle.asn1_model.specs.Tags.{Has, first_tags}

@@ -34,7 +34,7 @@ pub record IsInteger (number : ℤ) (bytes : List ℕ) : Type 0 where
   pub shortest : IsShortest digits
   pub no_negative_zero : negative ≡ true → 0 < length digits
 
--- What was appended to some bytes: something of which this holds.
+-- The bytes that were appended to others are such bytes.
 pub record Appended (IsAdded : List ℕ → Type 0) (old new : List ℕ) : Type 0 where
   pub added : List ℕ
   pub is : IsAdded added

@@ -1,4 +1,4 @@
--- What is left of the lists that are open, and what is taken of it.
+-- The bytes left of the open lists, and the items taken from them.
 use Rattle.std.specs.Prelude.{◌≡◌, ℕ, List, [], ◌∷◌, ◌++◌, MatchResult, Result, Some, length, vec_len}
 use Rattle.asn1_items.specs.Headers.{Header, Meets, header_at}
 use Rattle.asn1_items.specs.declared.header.ExpectedHeader.{ExpectedHeader}

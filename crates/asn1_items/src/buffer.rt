@@ -2,7 +2,7 @@
 ghost use Rattle.asn1_laws.specs.Writing.{Written, followed_by, in_group, in_scope, outermost};
 ghost use Rattle.asn1_items.specs.Buffers.{AppendsRecords, EndsGroup, EndsScope, GroupIsInnermost, HasWritten, LeadsOut, inward, is_in_group, is_in_scope};
 ghost use Rattle.asn1_items.specs.Contents.{LooksLike, content_of};
-ghost use Rattle.asn1_items.specs.Headers.{kind_of};
+ghost use Rattle.asn1_items.specs.Kinds.{kind_of_scope};
 ghost use Rattle.asn1_items.specs.Items.{HaveBytes, IsTooLong, MarkBytes, written_with};
 ghost use Rattle.asn1_items.specs.declared.error.BufferError.TheVariants.{Memory, NotOpen};
 ghost use Rattle.asn1_model.specs.ConstraintSets.{ConstraintSet};
@@ -16,6 +16,7 @@ use crate::bytes::{push_mark, push_scope_header, write_length};
 use crate::content::Content;
 use crate::error::BufferError;
 use crate::group::Group;
+use crate::kinds::ScopeKind;
 use crate::scalars::push_item;
 use asn1_tags::Tag;
 use std::alloc::{AllocError, Global};
@@ -34,7 +35,7 @@ const SCOPE_HEADER: usize = 10;
 pub struct Buffer {
     alloc: Global,
     bytes: Vec<u8>,
-    /// Where the inside of the innermost open scope begins, and 0 where none is open.
+    /// The index at which the inside of the innermost open scope begins, and 0 if none is open.
     scope_start: usize,
     /// The places that are too far from the scopes that lead to them, the innermost last.
     far_starts: Vec<usize>,
@@ -123,9 +124,9 @@ impl Buffer {
     /// # Errors
     /// [`BufferError::Memory`].
     #[inline(always)]
-    pub fn open_scope(&mut self, kind: u8, tag: Tag) -> Result<(), BufferError>
+    pub fn open_scope(&mut self, kind: ScopeKind, tag: Tag) -> Result<(), BufferError>
         ensures opened { (marks : MarkBytes) (h : model.Head) (w : Written) →
-            kind_of h ≡ kind → head_tag h ≡ tag → HasWritten marks w self.old →
+            kind_of_scope h ≡ kind → head_tag h ≡ tag → HasWritten marks w self.old →
             IfOk result (λ _. HasWritten marks (in_scope h [] w) self.new) }
         ensures memory { IfErr result (λ e. e ≡ Memory) }
     {
@@ -173,7 +174,7 @@ impl Buffer {
         ensures in_no_scope { (marks : MarkBytes) (w : Written) → HasWritten marks w self.old →
             is_in_scope w ≡ false → result ≡ Err NotOpen }
     {
-        // What is inside a scope begins after its header: a smaller number says that none is open.
+        // The inside of a scope begins after its header: a smaller number says that none is open.
         if self.scope_start < SCOPE_HEADER {
             return Err(BufferError::NotOpen);
         }
@@ -186,8 +187,8 @@ impl Buffer {
         Ok(())
     }
 
-    /// Where the inside of the scope around the innermost one begins, to which this number leads. If the place was kept, it is kept
-    /// no longer.
+    /// The index to which this number leads: there the inside of the scope around the innermost one begins. If the index was kept
+    /// apart, it is removed there.
     #[inline(always)]
     fn take_outer_start(&mut self, link: u32) -> usize
         ensures leads { (outer : ℕ) (far : List ℕ) → LeadsOut link self.old.scope_start

@@ -1,11 +1,14 @@
 //! The bytes of headers, of which a length is written later than what is around it.
 ghost use Rattle.asn1_items.specs.Buffers.{FillsLength};
 ghost use Rattle.asn1_items.specs.Headers.{tag_bytes};
+ghost use Rattle.asn1_items.specs.Kinds.{content_byte, item_byte, scope_byte};
 ghost use Rattle.asn1_items.specs.Numbers.{four_bytes};
+ghost use Rattle.asn1_items.specs.declared.kinds.ItemKind.TheVariants as item;
 ghost use Rattle.asn1_items.specs.declared.error.BufferError.TheVariants.{Memory};
 ghost use Rattle.std.specs.Prelude.{◌≡◌, ◌≢◌, ◌+◌, ◌<◌, ◌^◌, ◌≤◌, ◌∷◌, ◌++◌, [], IfErr, IfOk, List, OnOk, ℕ, length};
 
 use crate::error::BufferError;
+use crate::kinds::{ContentKind, ItemKind, ScopeKind};
 use asn1_tags::Tag;
 use std::alloc::AllocError;
 
@@ -14,14 +17,16 @@ use std::alloc::AllocError;
 pub(crate) fn push_content_header(
     bytes: &mut Vec<u8>,
     tag: Tag,
-    content: u8,
+    content: ContentKind,
 ) -> Result<(), AllocError>
     ensures appended { IfOk result (λ _. bytes.new.items ≡ bytes.old.items ++
-        1 ∷ (tag_bytes tag ++ content ∷ 0 ∷ 0 ∷ 0 ∷ 0 ∷ [])) }
+        item_byte item.Content ∷ (tag_bytes tag ++ content_byte content ∷ 0 ∷ 0 ∷ 0 ∷ 0 ∷ [])) }
     ensures fits { OnOk result (tag.value < 2 ^ 32) }
 {
     let [a, b, c, d] = tag.value.to_be_bytes();
-    bytes.extend_from_slice(&[1, tag.class as u8, a, b, c, d, content, 0, 0, 0, 0])
+    let kind = ItemKind::Content.to_byte();
+    let content = content.to_byte();
+    bytes.extend_from_slice(&[kind, tag.class as u8, a, b, c, d, content, 0, 0, 0, 0])
 }
 
 /// Appends the header of an item of a content of this kind with this many bytes, and makes room for them.
@@ -32,11 +37,11 @@ pub(crate) fn push_content_header(
 pub(crate) fn push_sized_header(
     bytes: &mut Vec<u8>,
     tag: Tag,
-    content: u8,
+    content: ContentKind,
     size: usize,
 ) -> Result<(), BufferError>
     ensures appended { IfOk result (λ _. bytes.new.items ≡ bytes.old.items ++
-        1 ∷ (tag_bytes tag ++ content ∷ four_bytes size)) }
+        item_byte item.Content ∷ (tag_bytes tag ++ content_byte content ∷ four_bytes size)) }
     ensures fits { OnOk result ((tag.value < 2 ^ 32) × (size < 2 ^ 32)) }
     ensures too_long { IfErr result (λ e. e ≢ Memory → 2 ^ 32 ≤ size) }
 {
@@ -46,7 +51,9 @@ pub(crate) fn push_sized_header(
     let [a, b, c, d] = tag.value.to_be_bytes();
     let [e, f, g, h] = (size as u32).to_be_bytes();
     bytes.reserve(11 + size)?;
-    bytes.extend_from_slice(&[1, tag.class as u8, a, b, c, d, content, e, f, g, h])?;
+    let kind = ItemKind::Content.to_byte();
+    let content = content.to_byte();
+    bytes.extend_from_slice(&[kind, tag.class as u8, a, b, c, d, content, e, f, g, h])?;
     Ok(())
 }
 
@@ -55,17 +62,17 @@ pub(crate) fn push_sized_header(
 #[inline(always)]
 pub(crate) fn push_scope_header(
     bytes: &mut Vec<u8>,
-    kind: u8,
+    kind: ScopeKind,
     tag: Tag,
     start: usize,
     link: u32,
 ) -> Result<(), AllocError>
     ensures appended { start ≡ length bytes.old.items + 10 → IfOk result (λ _. bytes.new.items ≡
-        (bytes.old.items ++ kind ∷ tag_bytes tag) ++ four_bytes link) }
+        (bytes.old.items ++ scope_byte kind ∷ tag_bytes tag) ++ four_bytes link) }
     ensures fits { OnOk result (tag.value < 2 ^ 32) }
 {
     let [a, b, c, d] = tag.value.to_be_bytes();
-    bytes.extend_from_slice(&[kind, tag.class as u8, a, b, c, d, 0, 0, 0, 0])?;
+    bytes.extend_from_slice(&[kind.to_byte(), tag.class as u8, a, b, c, d, 0, 0, 0, 0])?;
     let _ = exchange(bytes, start, link);
     Ok(())
 }

@@ -1,12 +1,14 @@
 //! The content of an item, as it is written.
-ghost use Rattle.asn1_items.specs.Contents.{IsContent, content_kind, content_of, string_kind};
+ghost use Rattle.asn1_items.specs.Contents.{IsContent, content_of};
+ghost use Rattle.asn1_items.specs.Kinds.{content_kind, string_kind};
 ghost use Rattle.asn1_items.specs.Numbers.{Appended};
 ghost use Rattle.asn1_types.specs.AnyStrings.{content_of_str, octet_kind};
 ghost use Rattle.std.specs.Prelude.{◌≡◌, IfOk};
 
 use crate::bits::append_bits;
+use crate::kinds::ContentKind;
 use crate::numbers::{append_fours, append_integer, append_narrow, append_twos};
-use asn1_types::{AnyStr, OctetKind};
+use asn1_types::{AnyStr, OctetKind, StringKind};
 use asn1_values::Integer;
 use std::alloc::{AllocError, Global};
 
@@ -29,17 +31,17 @@ pub enum Content<'a> {
 }
 
 impl Content<'_> {
-    /// The number of the kind of content, by which a header tells it.
+    /// The kind of the content.
     #[inline(always)]
-    pub fn kind(self) -> u8
+    pub fn kind(self) -> ContentKind
         ensures { result ≡ content_kind (content_of self.entry) }
     {
         match self {
-            Content::Boolean(_) => 1,
-            Content::Number(_) => 2,
-            Content::Discriminant(_) => 3,
-            Content::Null => 4,
-            Content::Arcs(_) => 5,
+            Content::Null => ContentKind::Null,
+            Content::Boolean(_) => ContentKind::Boolean,
+            Content::Number(_) => ContentKind::Number,
+            Content::Discriminant(_) => ContentKind::Discriminant,
+            Content::Arcs(_) => ContentKind::Arcs,
             Content::String(string) => kind_of_string(string),
         }
     }
@@ -63,34 +65,25 @@ impl Content<'_> {
     }
 }
 
-/// The number of the kind of a string.
+/// The kind of a string, as a content.
 #[inline(always)]
-fn kind_of_string(string: AnyStr<'_>) -> u8
+fn kind_of_string(string: AnyStr<'_>) -> ContentKind
     ensures { result ≡ content_kind (content_of_str string.entry) }
 {
     match string {
-        AnyStr::Bits(_) => 7,
+        AnyStr::Bits(_) => ContentKind::String(StringKind::Bits),
         AnyStr::Octets(kind, _) => kind_of_octets(kind),
-        AnyStr::Teletex(_) => 15,
-        AnyStr::Bmp(_) => 16,
+        AnyStr::Teletex(_) => ContentKind::String(StringKind::Teletex),
+        AnyStr::Bmp(_) => ContentKind::String(StringKind::Bmp),
     }
 }
 
-/// The number of a kind of string whose units are octets.
+/// The kind of a string whose units are octets, as a content.
 #[inline(always)]
-pub(crate) fn kind_of_octets(kind: OctetKind) -> u8
-    ensures { result ≡ string_kind (octet_kind kind) }
+pub(crate) fn kind_of_octets(kind: OctetKind) -> ContentKind
+    ensures { result ≡ ContentKind.String (string_kind (octet_kind kind)) }
 {
-    match kind {
-        OctetKind::OctetString => 6,
-        OctetKind::Utf8 => 8,
-        OctetKind::Visible => 9,
-        OctetKind::General => 10,
-        OctetKind::Graphic => 11,
-        OctetKind::Ia5 => 12,
-        OctetKind::Printable => 13,
-        OctetKind::Numeric => 14,
-    }
+    ContentKind::String(StringKind::Octets(kind))
 }
 
 /// Appends the bytes of a string.

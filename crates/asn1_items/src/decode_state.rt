@@ -12,8 +12,8 @@ pub const BAD_ITEM: DecodeError = DecodeError::Custom("bad item");
 
 /// The state of a decoder over bytes. It borrows them, and copies none.
 ///
-/// After an error the state is failed, and [`DecodeState::open`], [`DecodeState::more`], [`DecodeState::close`] and [`DecodeState::finish`] answer
-/// [`DecodeError::Failed`] from then on.
+/// After an error the state is failed, and [`DecodeState::open`], [`DecodeState::more`], [`DecodeState::close`] and
+/// [`DecodeState::finish`] answer [`DecodeError::Failed`] from then on.
 #[derive(Drop)]
 pub struct DecodeState<'a> {
     /// How many nested scopes may still be opened.
@@ -80,7 +80,7 @@ impl<'a> DecodeState<'a> {
         Ok(())
     }
 
-    /// Makes the state failed, and answers the error. The depth left stays, and what is left of each scope.
+    /// Makes the state failed, and answers the error. The depth left stays, and so do the bytes left of each scope.
     pub fn fail(&mut self, error: DecodeError) -> DecodeError
         ensures same { result ≡ error }
         ensures has_failed { self.new.failed ≡ true }
@@ -91,9 +91,9 @@ impl<'a> DecodeState<'a> {
         error
     }
 
-    /// Makes the state failed, since an item was not read. Where bytes are missing outside all scopes the error is
-    /// [`DecodeError::Incomplete`], and else, unless memory ran out, [`DecodeError::Custom`] with the text `bad item`. The depth
-    /// left stays, and what is left of each scope.
+    /// Makes the state failed, because an item was not read. The error is [`DecodeError::Memory`] if memory ran out,
+    /// [`DecodeError::Incomplete`] if bytes are missing outside all scopes, and else [`DecodeError::Custom`] with the text
+    /// `bad item`. The depth left stays, and so do the bytes left of each scope.
     #[cold]
     #[inline(never)]
     pub fn fail_with(&mut self, error: ItemError) -> DecodeError
@@ -159,7 +159,7 @@ impl<'a> DecodeState<'a> {
     /// # Errors
     /// [`DecodeError::Failed`] where a call has failed before.
     pub fn more(&self) -> Result<bool, DecodeError>
-        ensures told { IfOk result (λ some. Decides (not some) (left_inside self.now.slices ≡ [])) }
+        ensures decided { IfOk result (λ some. Decides (not some) (left_inside self.now.slices ≡ [])) }
         ensures no_failure { OnOk result (self.now.failed ≡ false) }
         ensures failed { IfErr result (λ e. e ≡ Failed) }
         ensures has_failed { OnErr result (self.now.failed ≡ true) }

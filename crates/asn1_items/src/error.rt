@@ -34,7 +34,7 @@ pub enum BufferError {
     /// There was no memory for the bytes.
     #[error("no memory")]
     Memory,
-    /// What is inside the item is 2^32 bytes long or more.
+    /// The item has 2^32 bytes or more inside.
     #[error("item too long")]
     TooLong,
     /// Nothing is open that could be closed.

@@ -1,6 +1,9 @@
-//! What is read from the content of an item.
-ghost use Rattle.asn1_items.specs.Contents.{IsContent, content_kind, kind_number};
+//! Types that are read from the content of an item.
+ghost use Rattle.asn1_items.specs.Contents.{IsContent};
+ghost use Rattle.asn1_items.specs.Kinds.{content_kind};
 ghost use Rattle.asn1_items.specs.declared.error.ItemError.TheVariants.{Memory};
+ghost use Rattle.asn1_items.specs.declared.kinds.ContentKind.{ContentKind as Kind};
+ghost use Rattle.asn1_items.specs.declared.kinds.ContentKind.TheVariants as kind;
 ghost use Rattle.asn1_model.specs.Records as model;
 ghost use Rattle.asn1_model.specs.Records.{arcs, discriminant, null, number, boolean};
 ghost use Rattle.asn1_model.specs.RecordTables.{no_table};
@@ -8,8 +11,8 @@ ghost use Rattle.asn1_types.specs.AnyStrings.{IsStringOf, content_of_string};
 ghost use Rattle.std.specs.Prelude.{◌≡◌, ⊤, Bool, IfOk, List, MatchResult, ℕ, ℤ, refl};
 
 use crate::bits::read_bits;
-use crate::content::kind_of_octets;
 use crate::error::ItemError;
+use crate::kinds::ContentKind;
 use crate::numbers::{read_fours, read_integer, read_twos};
 use asn1_types::{AnyString, CodecString, StringKind};
 use asn1_values::{Integer, IntegerType, ObjectIdentifier};
@@ -17,25 +20,25 @@ use std::alloc::Global;
 
 /// A type that is read from the content of an item.
 pub trait FromContent: Sized {
-    // What the contents are of that are read as the type, and the content of each.
+    // The values whose contents are read as the type, and the content of each.
     ghost Value: { Type 0 };
 
     ghost content: { Value → model.Content };
 
-    // Which of it is of the type.
+    // The values that are of the type.
     ghost IsOfType: { Value → Type 0 };
 
-    // What was read.
+    // The value that was read.
     ghost Is: { Self → Value → Type 0 };
 
-    // The number of the kind of content.
-    ghost own_kind: { ℕ };
+    // The kind of content.
+    ghost own_kind: { Kind };
 
-    /// The number of the kind of content, by which a header tells it.
-    fn kind() -> u8
+    /// The kind of content.
+    fn kind() -> ContentKind
         ensures { result ≡ own_kind };
 
-    /// What is read from these bytes, if they are a content of the kind.
+    /// Reads a value from the bytes of a content of the kind.
     ///
     /// # Errors
     /// [`ItemError::Memory`], and [`ItemError::Malformed`] where the bytes are no content of the kind, or not of the type.
@@ -43,7 +46,7 @@ pub trait FromContent: Sized {
         ensures read { (x : Value) → IsOfType x → IsContent (content x) bytes.now →
             MatchResult result (λ w. Is w x) (λ e. e ≡ Memory) };
 
-    // The law of a kind: each content has its number.
+    // The law of a kind: each content is of it.
     ghost has_kind: { (x : Value) → content_kind (content x) ≡ own_kind };
 }
 
@@ -56,10 +59,10 @@ impl FromContent for bool {
 
     ghost Is = { λ w v. w ≡ v };
 
-    ghost own_kind = { 1 };
+    ghost own_kind = { kind.Boolean };
 
-    fn kind() -> u8 {
-        1
+    fn kind() -> ContentKind {
+        ContentKind::Boolean
     }
 
     fn from_content(_alloc: Global, bytes: &[u8]) -> Result<Self, ItemError> {
@@ -82,10 +85,10 @@ impl FromContent for () {
 
     ghost Is = { λ w v. w ≡ v };
 
-    ghost own_kind = { 4 };
+    ghost own_kind = { kind.Null };
 
-    fn kind() -> u8 {
-        4
+    fn kind() -> ContentKind {
+        ContentKind::Null
     }
 
     fn from_content(_alloc: Global, bytes: &[u8]) -> Result<Self, ItemError> {
@@ -107,10 +110,10 @@ impl FromContent for Integer {
 
     ghost Is = { λ w z. w ≡ z };
 
-    ghost own_kind = { 2 };
+    ghost own_kind = { kind.Number };
 
-    fn kind() -> u8 {
-        2
+    fn kind() -> ContentKind {
+        ContentKind::Number
     }
 
     fn from_content(alloc: Global, bytes: &[u8]) -> Result<Self, ItemError> {
@@ -130,10 +133,10 @@ impl FromContent for isize {
 
     ghost Is = { λ w z. w ≡ z };
 
-    ghost own_kind = { 3 };
+    ghost own_kind = { kind.Discriminant };
 
-    fn kind() -> u8 {
-        3
+    fn kind() -> ContentKind {
+        ContentKind::Discriminant
     }
 
     fn from_content(alloc: Global, bytes: &[u8]) -> Result<Self, ItemError> {
@@ -156,10 +159,10 @@ impl FromContent for ObjectIdentifier {
 
     ghost Is = { λ w v. w ≡ v };
 
-    ghost own_kind = { 5 };
+    ghost own_kind = { kind.Arcs };
 
-    fn kind() -> u8 {
-        5
+    fn kind() -> ContentKind {
+        ContentKind::Arcs
     }
 
     fn from_content(alloc: Global, bytes: &[u8]) -> Result<Self, ItemError> {
@@ -186,15 +189,10 @@ impl<U, K: CodecString<U>> FromContent for StringOf<U, K> {
 
     ghost Is = { λ w v. K.units_in w.string ≡ v };
 
-    ghost own_kind = { kind_number K.own_kind };
+    ghost own_kind = { kind.String K.own_kind };
 
-    fn kind() -> u8 {
-        match K::kind() {
-            StringKind::Bits => 7,
-            StringKind::Octets(kind) => kind_of_octets(kind),
-            StringKind::Teletex => 15,
-            StringKind::Bmp => 16,
-        }
+    fn kind() -> ContentKind {
+        ContentKind::String(K::kind())
     }
 
     fn from_content(alloc: Global, bytes: &[u8]) -> Result<Self, ItemError> {

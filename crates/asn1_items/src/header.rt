@@ -1,21 +1,21 @@
 //! The header of an item.
 ghost use Rattle.asn1_items.specs.Headers.{IsHeader, IsHeaderAfter, IsHeaderOf, Meets, from_class, header_at, Header as Seen};
+ghost use Rattle.asn1_items.specs.declared.kinds.ItemKind.TheVariants as item;
 ghost use Rattle.std.specs.Bool.{Decides};
 ghost use Rattle.std.specs.Prelude.{◌≡◌, ◌≤◌, IfOk, IsOkAnd, Some, length, true};
 
 use crate::error::ItemError;
+use crate::kinds::{ContentKind, ItemKind, ScopeKind};
 use asn1_tags::{Class, Tag};
 
-/// What an item begins with, and what follows its header, which is at least as long as the rest of the item where all of it is
-/// there.
+/// The header of an item, and the bytes after it. These have at least the length of the rest of the item if all of it is there.
 #[derive(Clone, Copy, Debug)]
 pub struct Header<'a> {
-    /// The kind: 1 of an item of a content, 2 to 7 of a SEQUENCE, a SET, a SEQUENCE OF, a SET OF, an explicit tag and the chosen
-    /// alternative of a CHOICE.
-    pub kind: u8,
+    /// The kind.
+    pub kind: ItemKind,
     /// The tag.
     pub tag: Tag,
-    /// The number of the kind of content, or 0 of an item that holds others.
+    /// The byte of the kind of content, or 0 of an item that holds others. It need not be the byte of a kind.
     pub content: u8,
     /// How many bytes are inside.
     pub size: u32,
@@ -23,13 +23,13 @@ pub struct Header<'a> {
     pub body: &'a [u8],
 }
 
-/// What an item has to be that is read.
+/// The header that a call expects of the next item.
 #[derive(Clone, Copy, Debug)]
 pub enum ExpectedHeader {
-    /// A content under a tag, of the kind with this number.
-    Content(Tag, u8),
+    /// A content of this kind under a tag.
+    Content(Tag, ContentKind),
     /// An item of this kind, under a tag, that holds others.
-    Scope(u8, Tag),
+    Scope(ScopeKind, Tag),
     /// The chosen alternative of a CHOICE, under whatever tag.
     Alternative,
     /// Any item.
@@ -37,16 +37,20 @@ pub enum ExpectedHeader {
 }
 
 impl ExpectedHeader {
-    /// Whether the header is what is wanted.
+    /// Whether the header is the expected one.
     pub fn is_met_by(self, header: Header<'_>) -> bool
         ensures met { (h : Seen) → IsHeader header.entry h → Decides result (Meets self h) }
     {
         match self {
             ExpectedHeader::Content(tag, content) => {
-                header.kind == 1 && header.tag == tag && header.content == content
+                header.kind == ItemKind::Content
+                    && header.tag == tag
+                    && header.content == content.to_byte()
             }
-            ExpectedHeader::Scope(kind, tag) => header.kind == kind && header.tag == tag,
-            ExpectedHeader::Alternative => header.kind == 7,
+            ExpectedHeader::Scope(kind, tag) => {
+                header.kind == ItemKind::Scope(kind) && header.tag == tag
+            }
+            ExpectedHeader::Alternative => header.kind == ItemKind::Scope(ScopeKind::Alternative),
             ExpectedHeader::Any => true,
         }
     }
@@ -64,21 +68,21 @@ pub fn find_header(bytes: &[u8]) -> Result<Header<'_>, ItemError>
     ensures only { IfOk result (IsHeaderOf bytes.now) }
     ensures shorter { IfOk result (λ found. length found.body.now ≤ length bytes.now) }
 {
-    let [kind, rest @ ..] = bytes else {
+    let [byte, rest @ ..] = bytes else {
         return Err(ItemError::Missing(1));
     };
-    match *kind {
-        1 => content_header(rest),
-        2..=7 => scope_header(*kind, rest),
-        _ => Err(ItemError::Malformed),
+    match ItemKind::from_byte(*byte) {
+        Some(ItemKind::Content) => content_header(rest),
+        Some(ItemKind::Scope(kind)) => scope_header(kind, rest),
+        None => Err(ItemError::Malformed),
     }
 }
 
 /// The header of an item of a content, after its kind.
 fn content_header(bytes: &[u8]) -> Result<Header<'_>, ItemError>
-    ensures found { (h : Seen) → from_class 1 bytes.now ≡ Some h →
+    ensures found { (h : Seen) → from_class item.Content bytes.now ≡ Some h →
         IsOkAnd result (λ found. IsHeader found h) }
-    ensures only { IfOk result (IsHeaderAfter 1 bytes.now) }
+    ensures only { IfOk result (IsHeaderAfter item.Content bytes.now) }
     ensures shorter { IfOk result (λ found. length found.body.now ≤ length bytes.now) }
 {
     let [class, a, b, c, d, content, e, f, g, h, body @ ..] = bytes else {
@@ -88,7 +92,7 @@ fn content_header(bytes: &[u8]) -> Result<Header<'_>, ItemError>
         return Err(ItemError::Malformed);
     };
     Ok(Header {
-        kind: 1,
+        kind: ItemKind::Content,
         tag: Tag {
             class,
             value: u32::from_be_bytes([*a, *b, *c, *d]),
@@ -100,10 +104,10 @@ fn content_header(bytes: &[u8]) -> Result<Header<'_>, ItemError>
 }
 
 /// The header of an item that holds others, after its kind.
-fn scope_header(kind: u8, bytes: &[u8]) -> Result<Header<'_>, ItemError>
-    ensures found { (h : Seen) → 2 ≤ kind → from_class kind bytes.now ≡ Some h →
+fn scope_header(kind: ScopeKind, bytes: &[u8]) -> Result<Header<'_>, ItemError>
+    ensures found { (h : Seen) → from_class (item.Scope kind) bytes.now ≡ Some h →
         IsOkAnd result (λ found. IsHeader found h) }
-    ensures only { IfOk result (λ found. 2 ≤ kind → IsHeaderAfter kind bytes.now found) }
+    ensures only { IfOk result (IsHeaderAfter (item.Scope kind) bytes.now) }
     ensures shorter { IfOk result (λ found. length found.body.now ≤ length bytes.now) }
 {
     let [class, a, b, c, d, e, f, g, h, body @ ..] = bytes else {
@@ -113,7 +117,7 @@ fn scope_header(kind: u8, bytes: &[u8]) -> Result<Header<'_>, ItemError>
         return Err(ItemError::Malformed);
     };
     Ok(Header {
-        kind,
+        kind: ItemKind::Scope(kind),
         tag: Tag {
             class,
             value: u32::from_be_bytes([*a, *b, *c, *d]),

@@ -8,7 +8,7 @@ use crate::error::ItemError;
 use asn1_values::Integer;
 use std::alloc::{AllocError, Global};
 
-/// Appends the sign of an integer, and its magnitude without leading zeros. Of a number that is no `i128` the magnitude is copied
+/// Appends the sign of an integer, and its magnitude without leading zeros. The magnitude of a number beyond `i128` is copied
 /// first.
 pub(crate) fn append_integer(
     bytes: &mut Vec<u8>,

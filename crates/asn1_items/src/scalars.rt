@@ -1,6 +1,6 @@
 //! Items of one content, each with the length of its bytes.
 ghost use Rattle.asn1_items.specs.Contents.{content_of};
-ghost use Rattle.asn1_items.specs.Items.{Holds, IsItemOf, IsLong};
+ghost use Rattle.asn1_items.specs.Items.{HoldsContent, IsItemOf, IsLong};
 ghost use Rattle.asn1_items.specs.Numbers.{Appended, IsInteger};
 ghost use Rattle.asn1_items.specs.declared.error.BufferError.TheVariants.{Memory};
 ghost use Rattle.asn1_model.specs.Records as model;
@@ -11,14 +11,15 @@ ghost use Rattle.std.specs.Prelude.{◌≡◌, ◌≢◌, ◌↔◌, ◌<ℤ◌,
 use crate::bytes::{push_content_header, push_sized_header, write_length};
 use crate::content::{Content, kind_of_octets};
 use crate::error::BufferError;
+use crate::kinds::ContentKind;
 use crate::numbers::{append_signed, significant};
 use asn1_tags::Tag;
 use asn1_types::AnyStr;
 use asn1_values::Integer;
 use std::alloc::Global;
 
-/// Appends an item of a content. Where the number of its bytes is known before, they are written once, with one request for
-/// memory; and else the length is written when they are there.
+/// Appends an item of a content. If the number of its bytes is known before, they are written once, with one request for
+/// memory. Otherwise the length is written after them.
 ///
 /// # Errors
 /// [`BufferError::Memory`], and [`BufferError::TooLong`] where the content is 2^32 bytes long or more.
@@ -34,10 +35,15 @@ pub(crate) fn push_item(
     ensures too_long { IfErr result (λ e. e ≢ Memory → IsLong (content_of content.entry)) }
 {
     match content {
-        Content::Null => push_sized(bytes, tag, 4, &[]),
-        Content::Boolean(value) => push_sized(bytes, tag, 1, &[u8::from(value)]),
+        Content::Null => push_sized(bytes, tag, ContentKind::Null, &[]),
+        Content::Boolean(value) => push_sized(bytes, tag, ContentKind::Boolean, &[u8::from(value)]),
         Content::Number(number) => push_integer(bytes, alloc, tag, number),
-        Content::Discriminant(number) => push_narrow(bytes, tag, 3, number as i128),
+        Content::Discriminant(number) => push_narrow(
+            bytes,
+            tag,
+            ContentKind::Discriminant,
+            number as i128,
+        ),
         Content::Arcs(_) => push_measured(bytes, alloc, tag, content),
         Content::String(string) => push_string(bytes, alloc, tag, string),
     }
@@ -74,16 +80,21 @@ fn push_integer(
     ensures too_long { IfErr result (λ e. e ≢ Memory → IsLong (model.number number.now)) }
 {
     match number.to_i128() {
-        Some(narrow) => push_narrow(bytes, tag, 2, narrow),
+        Some(narrow) => push_narrow(bytes, tag, ContentKind::Number, narrow),
         None => push_measured(bytes, alloc, tag, Content::Number(number)),
     }
 }
 
 /// Appends an item of a content of this kind that has the bytes of a number.
 #[inline(always)]
-fn push_narrow(bytes: &mut Vec<u8>, tag: Tag, content: u8, number: i128) -> Result<(), BufferError>
+fn push_narrow(
+    bytes: &mut Vec<u8>,
+    tag: Tag,
+    content: ContentKind,
+    number: i128,
+) -> Result<(), BufferError>
     ensures appended { IfOk result (λ _.
-        Appended (Holds (IsInteger number) 1 tag (content ∷ [])) bytes.old.items bytes.new.items) }
+        Appended (HoldsContent (IsInteger number) content tag) bytes.old.items bytes.new.items) }
     ensures memory { IfErr result (λ e. e ≡ Memory) }
 {
     let absolute = number.unsigned_abs();
@@ -95,13 +106,13 @@ fn push_narrow(bytes: &mut Vec<u8>, tag: Tag, content: u8, number: i128) -> Resu
 fn push_absolute(
     bytes: &mut Vec<u8>,
     tag: Tag,
-    content: u8,
+    content: ContentKind,
     negative: bool,
     absolute: u128,
 ) -> Result<(), BufferError>
     ensures appended { (z : ℤ) → unsigned_abs z ≡ absolute →
         (IsTrue negative ↔ (z <ℤ pos 0)) → IfOk result (λ _.
-        Appended (Holds (IsInteger z) 1 tag (content ∷ [])) bytes.old.items bytes.new.items) }
+        Appended (HoldsContent (IsInteger z) content tag) bytes.old.items bytes.new.items) }
     ensures memory { IfErr result (λ e. e ≡ Memory) }
 {
     if let Ok(small) = u32::try_from(absolute) {
@@ -111,19 +122,19 @@ fn push_absolute(
     push_wide(bytes, tag, content, negative, absolute)
 }
 
-/// The same, of an absolute value that need not be small. It stands apart, so that what is inlined stays small.
+/// The same, of an absolute value that need not be small. It is a function of its own, so that the inlined code stays small.
 #[cold]
 #[inline(never)]
 fn push_wide(
     bytes: &mut Vec<u8>,
     tag: Tag,
-    content: u8,
+    content: ContentKind,
     negative: bool,
     absolute: u128,
 ) -> Result<(), BufferError>
     ensures appended { (z : ℤ) → unsigned_abs z ≡ absolute →
         (IsTrue negative ↔ (z <ℤ pos 0)) → IfOk result (λ _.
-        Appended (Holds (IsInteger z) 1 tag (content ∷ [])) bytes.old.items bytes.new.items) }
+        Appended (HoldsContent (IsInteger z) content tag) bytes.old.items bytes.new.items) }
     ensures memory { IfErr result (λ e. e ≡ Memory) }
 {
     let digits = absolute.to_be_bytes();
@@ -135,14 +146,14 @@ fn push_wide(
 fn push_signed(
     bytes: &mut Vec<u8>,
     tag: Tag,
-    content: u8,
+    content: ContentKind,
     negative: bool,
     digits: &[u8],
 ) -> Result<(), BufferError>
     requires { length digits.now ≤ 16 }
     ensures appended { (z : ℤ) → signed negative (magnitude digits.now) ≡ z →
         IsShortest digits.now → (IsTrue negative ↔ (z <ℤ pos 0)) → IfOk result (λ _.
-        Appended (Holds (IsInteger z) 1 tag (content ∷ [])) bytes.old.items bytes.new.items) }
+        Appended (HoldsContent (IsInteger z) content tag) bytes.old.items bytes.new.items) }
     ensures memory { IfErr result (λ e. e ≡ Memory) }
 {
     push_sized_header(bytes, tag, content, digits.len() + 1)?;
@@ -152,9 +163,14 @@ fn push_signed(
 
 /// Appends an item of a content of this kind that has these bytes.
 #[inline(always)]
-fn push_sized(bytes: &mut Vec<u8>, tag: Tag, content: u8, inside: &[u8]) -> Result<(), BufferError>
-    ensures appended { IfOk result (λ _. Appended (Holds (λ own. own ≡ inside.now) 1 tag
-        (content ∷ [])) bytes.old.items bytes.new.items) }
+fn push_sized(
+    bytes: &mut Vec<u8>,
+    tag: Tag,
+    content: ContentKind,
+    inside: &[u8],
+) -> Result<(), BufferError>
+    ensures appended { IfOk result (λ _. Appended
+        (HoldsContent (λ own. own ≡ inside.now) content tag) bytes.old.items bytes.new.items) }
     ensures too_long { IfErr result (λ e. e ≢ Memory → 2 ^ 32 ≤ length inside.now) }
 {
     push_sized_header(bytes, tag, content, inside.len())?;

@@ -10,7 +10,7 @@ use crate::header::{ExpectedHeader, Header, find_header};
 use asn1_tags::Tag;
 use std::alloc::{AllocError, Global};
 
-/// What is left of a list outside the innermost one.
+/// The bytes left of a list outside the innermost one.
 #[derive(Drop)]
 pub(crate) struct Rest<'a> {
     pub(crate) bytes: &'a [u8],
@@ -30,7 +30,7 @@ pub struct Item<'a> {
     pub tag: Tag,
     /// All bytes of the item.
     pub bytes: &'a [u8],
-    /// What is inside.
+    /// The bytes inside.
     pub body: &'a [u8],
 }
 
@@ -61,7 +61,7 @@ impl<'a> Slices<'a> {
         self.outer.is_empty()
     }
 
-    /// What is left of the innermost list.
+    /// The bytes left of the innermost list.
     pub fn left(&self) -> &'a [u8]
         ensures inside { result.now ≡ left_inside self.now }
     {
@@ -77,10 +77,10 @@ impl<'a> Slices<'a> {
         self.left = rest;
     }
 
-    /// Takes the next item, which is to be what is wanted.
+    /// Takes the next item, which must have the expected header.
     ///
     /// # Errors
-    /// As [`find_header`]; [`ItemError::Malformed`] where the header is not what is wanted; and [`ItemError::Missing`] where the
+    /// As [`find_header`]; [`ItemError::Malformed`] where the header is not the expected one; and [`ItemError::Missing`] where the
     /// bytes end before the item does, with the number of bytes that are missing inside it. Nothing is taken then.
     #[inline(always)]
     pub fn take_item(&mut self, expected: ExpectedHeader) -> Result<Item<'a>, ItemError>

@@ -1,4 +1,4 @@
--- What the tag of the next item tells: whether something is there.
+-- A component is present if the next tag is one of its own.
 use Rattle.std.proofs.Common.{◌≡◌, Bool, true, false, List, [], ◌∷◌, ◌++◌, None, Some, Ok, Err, refl, ap, sym, subst, ◌∙◌}
 use Rattle.std.specs.Prelude.{◌↔◌, ℕ, IsTrue}
 use Rattle.asn1_laws.proofs.MarksPassed.{first_left, none_left}
@@ -51,8 +51,8 @@ false_of false h = refl
 
 module _ (s : Slices) (there away : model.PresenceMark) (own : Tags) where
   -- an item is next: the component is there if and only if its tag is one of the component's
-  pub told : (t : Tag) (b : Bool) → ((rs : List model.Record) → AreLeft rs s → IsNext rs (Some t)) → IsTrue b ↔ Has own t → FindsPresence no_marks there away own s s (Ok b)
-  told t b next has = record {
+  pub found : (t : Tag) (b : Bool) → ((rs : List model.Record) → AreLeft rs s → IsNext rs (Some t)) → IsTrue b ↔ Has own t → FindsPresence no_marks there away own s s (Ok b)
+  found t b next has = record {
     there = λ rest begins have.
         let left = mark_passed there rest (left_inside s) have in
         record { answer = has.1 (lies_has (first_tags rest) own begins.within t ((next rest left).some t refl)); left = left };
@@ -62,16 +62,16 @@ module _ (s : Slices) (there away : model.PresenceMark) (own : Tags) where
   }
 
   -- none is next: it is absent
-  pub told_none : ((rs : List model.Record) → AreLeft rs s → IsNext rs None) → FindsPresence no_marks there away own s s (Ok false)
-  told_none next = record {
+  pub none_found : ((rs : List model.Record) → AreLeft rs s → IsNext rs None) → FindsPresence no_marks there away own s s (Ok false)
+  none_found next = record {
     there = λ rest begins have.
         let wrong = sym begins.some ∙ (next rest (mark_passed there rest (left_inside s) have)).none refl in cc;
     away = λ rest apart have. record { answer = refl; left = mark_passed away rest (left_inside s) have };
   }
 
-  -- where records are left, it is told
-  pub not_told : (e : ItemError) → ((rs : List model.Record) → AreLeft rs s → ⊥) → FindsPresence no_marks there away own s s (Err e)
-  not_told e never = record {
+  -- if records are left, a component is present or absent
+  pub not_found : (e : ItemError) → ((rs : List model.Record) → AreLeft rs s → ⊥) → FindsPresence no_marks there away own s s (Err e)
+  not_found e never = record {
     there = λ rest begins have. absurd (never rest (mark_passed there rest (left_inside s) have));
     away = λ rest apart have. absurd (never rest (mark_passed away rest (left_inside s) have));
   }

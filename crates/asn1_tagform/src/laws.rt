@@ -3,8 +3,8 @@ ghost use Rattle.asn1_bounds.specs.declared.codec.Codec.TheVariants.{Other};
 ghost use Rattle.asn1_items.specs.Headers.{is_one_item};
 ghost use Rattle.asn1_model.specs.Records.{PresenceMark, Record};
 ghost use Rattle.asn1_bench.specs.Carried.{CarriesWith};
+ghost use Rattle.asn1_bench.specs.Outputs.{AreTooLong};
 ghost use Rattle.asn1_tagform.specs.Next.{no_marks};
-ghost use Rattle.asn1_tagform.specs.Outputs.{AreTooLong};
 ghost use Rattle.asn1_tags.specs.Derives.{ClonesAll};
 ghost use Rattle.std.specs.Prelude.{◌≡◌, ◌↔◌, [], List, ℕ};
 
@@ -32,7 +32,7 @@ pub fn the_tag_form_has_its_bytes(output: &Vec<u8>)
     ensures accepts { (bytes : List ℕ) →
         ⟦<TagRules as Rules>⟧.format.accepts bytes ≡ is_one_item bytes }
     ensures rejects { (rs : List Record) → ⟦<TagRules as Rules>⟧.format.rejects rs ↔
-        AreTooLong rs }
+        AreTooLong no_marks rs }
 {}
 
 /// A law: the encoder and the decoder of the tag form both have the name `Other(1)`.

@@ -11,7 +11,7 @@
 //! number are one of its tags; a group if and only if they are one of those of its components. An open type, and a choice of
 //! nothing, can begin with any tag.
 //!
-//! What the contracts promise, and the words that they use:
+//! Promises, and the words of the contracts:
 //!
 //! - [`TagRules`] keep the laws of every codec (`Rules` of `asn1_rules`), so that what is written is read back equal. Their format
 //!   is `tag_format` of `specs/Format.antt`: bytes carry the records whose items they are, up to the order inside sets

@@ -16,7 +16,7 @@ returns-in_err-push_arc-2 c = record {
   read = λ list are.
       let f = first_number list c.args.octets.now are in
       let found = c.in_ok-front.ensures.found _ f.at (omega (arith, f.first_of_three, f.fits)) in
-      let first = c.first_of-first.ensures.told f.first f.second found.0 f.first_of_three f.second_below in
+      let first = c.first_of-first.ensures.found f.first f.second found.0 f.first_of_three f.second_below in
       let p = err_from_is_err_and c.from_residual-in_err-push_arc-2.result c.from_residual-in_err-push_arc-2.ensures.1 in
       rw (p.1, p.2) (c.in_err-push_arc-2.ensures (omega (arith, found.0, first, f.fits)));
 }
@@ -25,7 +25,7 @@ pub loop-left-init : goal.loop-left-init
 loop-left-init c = λ list are.
     let f = first_number list c.args.octets.now are in
     let found = c.in_ok-front.ensures.found _ f.at (omega (arith, f.first_of_three, f.fits)) in
-    let first = c.first_of-first.ensures.told f.first f.second found.0 f.first_of_three f.second_below in
+    let first = c.first_of-first.ensures.found f.first f.second found.0 f.first_of_three f.second_below in
     let second : c.in_ok-front.front.number - c.first_of-first.result * 40 ≡ f.second = omega (arith, found.0, first) in
     let one = c.in_ok-push_arc.ensures (omega (arith, first, f.first_of_three)) in
     let two = c.in_ok-push_arc-2.ensures (omega (arith, second, f.fits)) in

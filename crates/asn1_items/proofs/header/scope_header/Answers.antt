@@ -5,8 +5,8 @@ use Rattle.asn1_items.proofs.Octets.{rest_is}
 use Rattle.asn1_items.proofs.header.scope_header.Goals as goal
 
 pub returns-clause-found : goal.returns-clause-found
-returns-clause-found c = λ h high e.
-    let found = scope_header_is c.args.kind c.args.bytes.now c.in-Some.class h high c.in-len9-up.len_at_least c.in-Some.ensures.number e in
+returns-clause-found c = λ h e.
+    let found = scope_header_is c.args.kind c.args.bytes.now c.in-Some.class h c.in-len9-up.len_at_least c.in-Some.ensures.number e in
     let p = c.from_be_bytes.ensures in
     let q = c.from_be_bytes-2.ensures in
     record {
@@ -18,11 +18,11 @@ returns-clause-found c = λ h high e.
     }
 
 pub returns-clause-only : goal.returns-clause-only
-returns-clause-only c = λ high.
+returns-clause-only c =
     let xs = c.args.bytes.now in
     let p = c.from_be_bytes.ensures in
     record {
       header = scope_header_in c.args.kind xs c.in-Some.class;
-      at = scope_header_at c.args.kind xs c.in-Some.class high c.in-len9-up.len_at_least c.in-Some.ensures.number;
+      at = scope_header_at c.args.kind xs c.in-Some.class c.in-len9-up.len_at_least c.in-Some.ensures.number;
       is = record { kind = refl; tag = cc; content = refl; size = c.from_be_bytes-2.ensures; body = rest_is 9 xs c.in-len9-up.len_at_least };
     }

@@ -1,6 +1,7 @@
-use Rattle.std.proofs.Common.{refl, sym, subst, ◌∙◌, Ok, Err, arith, inl}
+use Rattle.std.proofs.Common.{refl, sym, ap, subst, ◌∙◌, Ok, Err, arith, inl}
 use Rattle.asn1_laws.proofs.ReadingUpToOrder.{reads_content}
 use Rattle.asn1_items.specs.Contents.{IsContent}
+use Rattle.asn1_items.specs.Kinds.{content_byte}
 use Rattle.asn1_model.specs.Records.{scalar}
 use Rattle.asn1_bench.proofs.RemainingItems.{is_form, scalar_at}
 use Rattle.asn1_bench.specs.Decoder.{in_one_order}
@@ -14,7 +15,7 @@ returns-in_err-item-clause-read g c = λ content same k.
     (λ x n rest outer of_type at.
     let next = next_is (is_form marks) c.args.self.now.state (scalar c.args.tag k n (content x)) rest outer at in
     absurd (c.in_err-item.ensures.took _ next.has.inside next.back at.no_failure (scalar_at marks c.args.tag k n (content x) next.front next.back _ next.has next.left) refl refl
-    (refl, refl, (same x).kind ∙ g.met.V.FromContent.has_kind x ∙ sym c.kind.ensures)))
+    (refl, refl, ap content_byte ((same x).kind ∙ g.met.V.FromContent.has_kind x ∙ sym c.kind.ensures))))
 
 pub returns-in-Ok-clause-read : goal.returns-in-Ok-clause-read
 returns-in-Ok-clause-read g c = λ content same k.
@@ -23,7 +24,7 @@ returns-in-Ok-clause-read g c = λ content same k.
     (λ x n rest outer of_type at.
     let next = next_is (is_form marks) c.args.self.now.state (scalar c.args.tag k n (content x)) rest outer at in
     let taken = c.in_ok-item.ensures.took _ next.has.inside next.back at.no_failure (scalar_at marks c.args.tag k n (content x) next.front next.back _ next.has next.left) refl refl
-    (refl, refl, (same x).kind ∙ g.met.V.FromContent.has_kind x ∙ sym c.kind.ensures) in
+    (refl, refl, ap content_byte ((same x).kind ∙ g.met.V.FromContent.has_kind x ∙ sym c.kind.ensures)) in
     record {
       answer = c.in-Ok.ensures.read x of_type (subst (IsContent (g.V.FromContent.content x)) (sym taken.inside_is) ((same x).bytes next.has.inside next.has.is));
       at = next.after c.take.new.self.state c.in_ok-item.ensures.opens_nothing.keeps_depth.no_failure taken.left c.in_ok-item.ensures.outside;
@@ -37,5 +38,5 @@ returns-in-Err-clause-read g c = λ content same k.
     (λ x n rest outer of_type at.
     let next = next_is (is_form marks) c.args.self.now.state (scalar c.args.tag k n (content x)) rest outer at in
     let taken = c.in_ok-item.ensures.took _ next.has.inside next.back at.no_failure (scalar_at marks c.args.tag k n (content x) next.front next.back _ next.has next.left) refl refl
-    (refl, refl, (same x).kind ∙ g.met.V.FromContent.has_kind x ∙ sym c.kind.ensures) in
+    (refl, refl, ap content_byte ((same x).kind ∙ g.met.V.FromContent.has_kind x ∙ sym c.kind.ensures)) in
     inl (c.fail_with.ensures.memory (c.in-Err.ensures.read x of_type (subst (IsContent (g.V.FromContent.content x)) (sym taken.inside_is) ((same x).bytes next.has.inside next.has.is)))))

@@ -12,11 +12,11 @@ returns-in-Ok-clause-read g c = λ side t.
     let marks = g.P.Presence.mark_bytes in
     let own = tree_tags (shape c.args.tree) in
     tells_presence (in_one_order marks) c.args.self.now _ (present side t) (absent side t) own (Ok c.in-Ok.is_there)
-    (found marks c.args.self.now _ (present side t) (absent side t) own c.in-Ok.is_there c.if-state.false c.in-Ok.ensures.keeps_outside (c.in-Ok.ensures.told side t))
+    (found marks c.args.self.now _ (present side t) (absent side t) own c.in-Ok.is_there c.if-state.false c.in-Ok.ensures.keeps_outside (c.in-Ok.ensures.found side t))
 
 pub returns-in-Err-clause-read : goal.returns-in-Err-clause-read
 returns-in-Err-clause-read g c = λ side t.
     let marks = g.P.Presence.mark_bytes in
     let own = tree_tags (shape c.args.tree) in
     tells_presence (in_one_order marks) c.args.self.now _ (present side t) (absent side t) own (Err c.fail_with.result)
-    (not_found marks c.args.self.now _ (present side t) (absent side t) own _ c.in-Err.error c.fail_with.result (c.in-Err.ensures.told side t))
+    (not_found marks c.args.self.now _ (present side t) (absent side t) own _ c.in-Err.error c.fail_with.result (c.in-Err.ensures.found side t))

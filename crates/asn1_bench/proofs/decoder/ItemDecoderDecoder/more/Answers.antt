@@ -1,6 +1,6 @@
 use Rattle.asn1_bench.proofs.RemainingItems.{is_form}
-use Rattle.asn1_items.proofs.DecodeStates.{more_is_told}
+use Rattle.asn1_items.proofs.DecodeStates.{more_is_decided}
 use Rattle.asn1_bench.proofs.decoder.ItemDecoderDecoder.more.Goals as goal
 
 pub returns-clause-read : goal.returns-clause-read
-returns-clause-read g c = more_is_told (is_form g.P.Presence.mark_bytes) (λ d. d.state) c.args.self.now c.more.result c.more.ensures.told c.more.ensures.has_failed
+returns-clause-read g c = more_is_decided (is_form g.P.Presence.mark_bytes) (λ d. d.state) c.args.self.now c.more.result c.more.ensures.decided c.more.ensures.has_failed

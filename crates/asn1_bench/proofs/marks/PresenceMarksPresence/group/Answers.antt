@@ -6,6 +6,6 @@ use Rattle.asn1_model.specs.Tags.{tree_tags}
 use Rattle.asn1_tags.specs.Trees.{choice}
 use Rattle.asn1_bench.proofs.marks.PresenceMarksPresence.group.Goals as goal
 
-pub returns-clause-told : goal.returns-clause-told
-returns-clause-told g c =
-    c.tell.ensures.told (group_start (lines g.C.FieldTable.components)) group_absent (tree_tags (choice (trees_of (all_components g.C.FieldTable.components)))) refl refl (λ e. absurd (omega (arith, e)))
+pub returns-clause-found : goal.returns-clause-found
+returns-clause-found g c =
+    c.tell.ensures.found (group_start (lines g.C.FieldTable.components)) group_absent (tree_tags (choice (trees_of (all_components g.C.FieldTable.components)))) refl refl (λ e. absurd (omega (arith, e)))

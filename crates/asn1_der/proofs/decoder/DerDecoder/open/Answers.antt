@@ -1,5 +1,5 @@
 use Rattle.std.proofs.Common.{arith, ◌∙◌}
-use Rattle.asn1_der.proofs.Inside.{asked_tag, inside_expected, opened_in_order}
+use Rattle.asn1_der.proofs.Inside.{asked_tag, begin_with_scope, inside_expected, opened_in_order}
 use Rattle.asn1_der.proofs.RemainingElements.{is_form}
 use Rattle.asn1_model.specs.Records.{holding}
 use Rattle.asn1_model.specs.Tags.{head_tag}
@@ -39,3 +39,7 @@ returns-clause-read c = λ h items rest outer expected at.
 
 pub returns-clause-in_order : goal.returns-clause-in_order
 returns-clause-in_order c = opened_in_order c.args.order c.in_ok-element.element c.in-Some.inside.now _ _ _ c.open.result (λ e own seen. c.in-Some.ensures.only e own seen) c.open.ensures.opened
+
+pub returns-clause-only : goal.returns-clause-only
+returns-clause-only c =
+    begin_with_scope c.args.order c.args.tag c.in_ok-element.element c.in-Some.inside.now _ c.open.result c.in_ok-element.ensures.only (c.is_under.ensures.0 c.if-not-is_under.false) (λ e own seen. c.in-Some.ensures.only e own seen)

@@ -42,3 +42,8 @@ returns-in-Err-clause-read g c = λ content same k.
     let next = next_is is_form c.args.self.now.state (scalar c.args.tag k n (content x)) rest outer at in
     let parsed = c.in_ok-element.ensures.took next.front next.back _ at.no_failure (element_alone c.args.tag _ next.has.contents next.front next.has.element) next.left in
     inl (c.fail_with.ensures.memory (c.in-Err.ensures.read x of_type (subst (HasContents (g.V.FromContents.content x)) (sym (c.in-Some.ensures.found parsed.seen.constructed parsed.seen.tag ∙ parsed.seen.contents)) ((same x).octets next.has.contents next.has.are)))))
+
+pub returns-in-Ok-clause-only : goal.returns-in-Ok-clause-only
+returns-in-Ok-clause-only g c =
+    let primitive = c.in-Some.ensures.only tt in
+    record { element = _; at = c.in_ok-element.ensures.only.at; has_tag = primitive.1; primitive = primitive.0 }

@@ -1,4 +1,5 @@
-use Rattle.std.proofs.Common.{refl, ◌∙◌, arith}
+use Rattle.std.proofs.Common.{◌≡◌, Some, refl, subst, ◌∙◌, arith}
+use Rattle.asn1_der_items.specs.Elements.{element_at}
 use Rattle.asn1_der_items.proofs.TrailingBytes.{element_at-shorter}
 use Rattle.asn1_der.proofs.ParsedElements.{is_found, was_taken}
 use Rattle.asn1_der.proofs.decoder.DerDecoder.take.Goals as goal
@@ -13,3 +14,6 @@ returns-in-Err-clause-took c = λ own back e no_failure alone is.
 
 pub slice_bounds-result-count : goal.slice_bounds-result-count
 slice_bounds-result-count c = omega (arith, element_at-shorter c.left-left.result.now _ c.in-Ok.ensures.only)
+
+pub returns-in-Ok-clause-only : goal.returns-in-Ok-clause-only
+returns-in-Ok-clause-only c = record { rest = _; at = subst (λ l. element_at l ≡ Some _) c.left-left.ensures.inside c.in-Ok.ensures.only }

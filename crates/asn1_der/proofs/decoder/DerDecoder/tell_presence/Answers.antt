@@ -1,7 +1,7 @@
 use Rattle.std.proofs.Common.{Ok}
 use Rattle.std.proofs.lemmas.Result.{err_from_is_err_and}
 use Rattle.asn1_laws.proofs.ReadingUpToOrder.{tells_presence}
-use Rattle.asn1_der.proofs.PresenceByTag.{not_told, told, told_none}
+use Rattle.asn1_der.proofs.PresenceByTag.{not_found, found, none_found}
 use Rattle.asn1_der.specs.Decoder.{in_one_order}
 use Rattle.asn1_model.specs.Tags.{tree_tags}
 use Rattle.asn1_tags.specs.Trees.{shape}
@@ -12,18 +12,18 @@ returns-in_err-tag-clause-read c = λ there away.
     let own = tree_tags (shape c.args.tree) in
     let p = err_from_is_err_and c.from_residual.result c.from_residual.ensures.1 in
     tells_presence in_one_order c.args.self.now c.next_tag.new.self there away own c.from_residual.result
-    (not_told c.args.self.now c.next_tag.new.self there away own c.from_residual.result _ p.1 c.in_err-tag.ensures.told)
+    (not_found c.args.self.now c.next_tag.new.self there away own c.from_residual.result _ p.1 c.in_err-tag.ensures.found)
 
 pub returns-in-Some-clause-read : goal.returns-in-Some-clause-read
 returns-in-Some-clause-read c = λ there away.
     let own = tree_tags (shape c.args.tree) in
     tells_presence in_one_order c.args.self.now c.next_tag.new.self there away own (Ok c.can_begin_with.result)
-    (told c.args.self.now c.next_tag.new.self there away own c.in-Some.tag c.can_begin_with.result c.in_ok-tag.field-0 c.in-Some.is
-    c.in_ok-tag.ensures.opens_nothing.keeps_depth.no_failure c.in_ok-tag.ensures.same_bytes c.in_ok-tag.ensures.told c.can_begin_with.ensures)
+    (found c.args.self.now c.next_tag.new.self there away own c.in-Some.tag c.can_begin_with.result c.in_ok-tag.field-0 c.in-Some.is
+    c.in_ok-tag.ensures.opens_nothing.keeps_depth.no_failure c.in_ok-tag.ensures.same_bytes c.in_ok-tag.ensures.found c.can_begin_with.ensures)
 
 pub returns-in-None-clause-read : goal.returns-in-None-clause-read
 returns-in-None-clause-read c = λ there away.
     let own = tree_tags (shape c.args.tree) in
     tells_presence in_one_order c.args.self.now c.next_tag.new.self there away own (Ok _)
-    (told_none c.args.self.now c.next_tag.new.self there away own c.in_ok-tag.field-0 c.in-None.is
-    c.in_ok-tag.ensures.opens_nothing.keeps_depth.no_failure c.in_ok-tag.ensures.same_bytes c.in_ok-tag.ensures.told)
+    (none_found c.args.self.now c.next_tag.new.self there away own c.in_ok-tag.field-0 c.in-None.is
+    c.in_ok-tag.ensures.opens_nothing.keeps_depth.no_failure c.in_ok-tag.ensures.same_bytes c.in_ok-tag.ensures.found)

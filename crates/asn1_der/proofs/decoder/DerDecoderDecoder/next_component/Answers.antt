@@ -1,7 +1,7 @@
 use Rattle.std.proofs.Common.{◌∷◌}
 use Rattle.asn1_laws.proofs.ReadingUpToOrder.{tells_next_tag}
 use Rattle.asn1_components.specs.Components.{all_components, lines}
-use Rattle.asn1_der.proofs.PresenceByTag.{next_tag_told}
+use Rattle.asn1_der.proofs.PresenceByTag.{next_tag_found}
 use Rattle.asn1_der.specs.Decoder.{in_one_order}
 use Rattle.asn1_model.specs.Records.{set}
 use Rattle.asn1_der.proofs.decoder.DerDecoderDecoder.next_component.Goals as goal
@@ -10,6 +10,6 @@ pub returns-clause-read : goal.returns-clause-read
 returns-clause-read g c = λ tag n can.
     let cs = all_components g.C.FieldTable.components in
     let h = set tag (lines g.C.FieldTable.components) n in
-    let told = c.next_tag.ensures in
+    let found = c.next_tag.ensures in
     tells_next_tag in_one_order c.args.self.now c.next_tag.new.self h cs c.next_tag.result
-    (λ items rest outer. next_tag_told cs c.args.self.now c.next_tag.new.self items ((h, rest) ∷ outer) c.next_tag.result told.told told.same_bytes told.opens_nothing.keeps_depth.no_failure)
+    (λ items rest outer. next_tag_found cs c.args.self.now c.next_tag.new.self items ((h, rest) ∷ outer) c.next_tag.result found.found found.same_bytes found.opens_nothing.keeps_depth.no_failure)

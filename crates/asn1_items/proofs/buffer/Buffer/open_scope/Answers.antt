@@ -1,7 +1,8 @@
 use Rattle.std.proofs.Common.{◌≡◌, ◌++◌, ◌∷◌, ◌<◌, ◌^◌, ◌+◌, [], sym, ap, subst, ◌∙◌, arith, length}
 use Rattle.asn1_laws.specs.Writing.{in_scope}
 use Rattle.asn1_items.specs.Buffers.{IsWritten, inward}
-use Rattle.asn1_items.specs.Headers.{kind_of, tag_bytes}
+use Rattle.asn1_items.specs.Headers.{tag_bytes}
+use Rattle.asn1_items.specs.Kinds.{item_byte, kind_of, scope_byte}
 use Rattle.asn1_items.specs.Numbers.{four_bytes}
 use Rattle.asn1_model.specs.Tags.{head_tag}
 use Rattle.asn1_items.proofs.Writing.{scope_opened, start_within}
@@ -20,9 +21,9 @@ returns-clause-opened c = λ marks h w kind tag wrote.
     let same = c.in_ok-link.ensures.same_bytes in
     let starts : start ≡ length old.bytes.items + 10 = omega (arith, c.len-start.ensures, old.bytes.ok.0) in
     let starts_again : start ≡ length linked.bytes.items + 10 = starts ∙ ap (λ b. length b.items + 10) (sym same) in
-    let header : headed ≡ (old.bytes.items ++ kind_of h ∷ tag_bytes (head_tag h)) ++ four_bytes link =
-    c.in_ok-push_scope_header.ensures.appended starts_again ∙ ap (λ b. (b.items ++ c.args.kind ∷ tag_bytes c.args.tag) ++ four_bytes link) same ∙ ap (λ k. (old.bytes.items ++ k ∷ tag_bytes c.args.tag) ++ four_bytes link) (sym kind)
-    ∙ ap (λ t. (old.bytes.items ++ kind_of h ∷ tag_bytes t) ++ four_bytes link) (sym tag) in
+    let header : headed ≡ (old.bytes.items ++ item_byte (kind_of h) ∷ tag_bytes (head_tag h)) ++ four_bytes link =
+    c.in_ok-push_scope_header.ensures.appended starts_again ∙ ap (λ b. (b.items ++ scope_byte c.args.kind ∷ tag_bytes c.args.tag) ++ four_bytes link) same ∙ ap (λ k. (old.bytes.items ++ scope_byte k ∷ tag_bytes c.args.tag) ++ four_bytes link) (sym kind)
+    ∙ ap (λ t. (old.bytes.items ++ item_byte (kind_of h) ∷ tag_bytes t) ++ four_bytes link) (sym tag) in
     let further : old.scope_start < start = omega (arith, starts, start_within marks w old.scope_start was_far groups old.bytes.items wrote.0) in
     let tag_fits = subst (λ t. t.value < 2 ^ 32) (sym tag) c.in_ok-push_scope_header.ensures.fits in
     let leads = c.in_ok-link.ensures.leads further in

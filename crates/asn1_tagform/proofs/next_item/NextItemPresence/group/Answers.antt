@@ -6,21 +6,21 @@ use Rattle.asn1_model.specs.Records.{group_start, group_absent}
 use Rattle.asn1_model.specs.Tags.{tree_tags}
 use Rattle.asn1_tags.specs.Trees.{choice}
 use Rattle.asn1_items.specs.NextTags.{IsNext}
-use Rattle.asn1_tagform.proofs.PresenceByTag.{not_told, told, told_none}
+use Rattle.asn1_tagform.proofs.PresenceByTag.{not_found, found, none_found}
 use Rattle.asn1_tagform.proofs.next_item.NextItemPresence.group.Goals as goal
 
-pub returns-in_err-tag-clause-told : goal.returns-in_err-tag-clause-told
-returns-in_err-tag-clause-told g c =
+pub returns-in_err-tag-clause-found : goal.returns-in_err-tag-clause-found
+returns-in_err-tag-clause-found g c =
     let components = g.C.FieldTable.components in
     let p = err_from_is_err_and c.from_residual.result c.from_residual.ensures.1 in
-    rw (p.1) (not_told c.args.slices.now (group_start (lines components)) group_absent (tree_tags (choice (trees_of (all_components components)))) _ (λ rs left. c.in_err-tag.ensures rs left))
+    rw (p.1) (not_found c.args.slices.now (group_start (lines components)) group_absent (tree_tags (choice (trees_of (all_components components)))) _ (λ rs left. c.in_err-tag.ensures rs left))
 
-pub returns-in-Some-clause-told : goal.returns-in-Some-clause-told
-returns-in-Some-clause-told g c =
+pub returns-in-Some-clause-found : goal.returns-in-Some-clause-found
+returns-in-Some-clause-found g c =
     let components = g.C.FieldTable.components in
-    told c.args.slices.now (group_start (lines components)) group_absent (tree_tags (choice (trees_of (all_components components)))) c.in-Some.tag c.group_can_begin_with.result (λ rs left. subst (IsNext rs) c.in-Some.is (c.in_ok-tag.ensures rs left)) c.group_can_begin_with.ensures
+    found c.args.slices.now (group_start (lines components)) group_absent (tree_tags (choice (trees_of (all_components components)))) c.in-Some.tag c.group_can_begin_with.result (λ rs left. subst (IsNext rs) c.in-Some.is (c.in_ok-tag.ensures rs left)) c.group_can_begin_with.ensures
 
-pub returns-in-None-clause-told : goal.returns-in-None-clause-told
-returns-in-None-clause-told g c =
+pub returns-in-None-clause-found : goal.returns-in-None-clause-found
+returns-in-None-clause-found g c =
     let components = g.C.FieldTable.components in
-    told_none c.args.slices.now (group_start (lines components)) group_absent (tree_tags (choice (trees_of (all_components components)))) (λ rs left. subst (IsNext rs) c.in-None.is (c.in_ok-tag.ensures rs left))
+    none_found c.args.slices.now (group_start (lines components)) group_absent (tree_tags (choice (trees_of (all_components components)))) (λ rs left. subst (IsNext rs) c.in-None.is (c.in_ok-tag.ensures rs left))
