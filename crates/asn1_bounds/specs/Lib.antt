@@ -5,7 +5,7 @@ pub mod BorrowedBounds
 pub mod Sets
 pub mod ConstraintTables
 -- of the crate below: the words on bounds
-pub use Rattle.asn1_ranges.specs.Compared
+pub use Rattle.asn1_ranges.specs.BoundComparison
 pub use Rattle.asn1_ranges.specs.Count
 pub use Rattle.asn1_ranges.specs.Ends
 pub use Rattle.asn1_ranges.specs.Intersection

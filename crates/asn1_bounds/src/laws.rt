@@ -7,7 +7,7 @@ ghost use Rattle.std.specs.Hash as fed;
 ghost use Rattle.std.specs.Option.{option_copied, option_eq};
 ghost use Rattle.std.specs.Ordering.{nat_cmp};
 ghost use Rattle.asn1_ranges.specs.declared.bounded.Bounded.{Bounded};
-ghost use Rattle.asn1_ranges.specs.Compared.{IsExactEquality, ClonesExactly};
+ghost use Rattle.asn1_ranges.specs.BoundComparison.{IsExactEquality, ClonesExactly};
 ghost use Rattle.asn1_bounds.specs.Admitted.{numbers, HasNarrowEnds};
 ghost use Rattle.asn1_bounds.specs.ConstraintKind.{kind_of};
 ghost use Rattle.asn1_bounds.specs.InnerSubtype.{refusal_of, no_memory};

@@ -24,7 +24,7 @@ use Rattle.asn1_tags.specs.Tags.{IsAtMost, tag_cmp, tag_eq}
 use Rattle.asn1_tags.specs.Trees.{is_open, leaves}
 use Rattle.asn1_tags.specs.Walks.{have_common_tag}
 use Rattle.asn1_tags.proofs.Smallest.{IsAtMost-from_not_less, IsAtMost-antisym}
-use Rattle.asn1_tags.proofs.Distinct.{tag_eq-true, tag_eq-refl}
+use Rattle.asn1_tags.proofs.TagListTests.{tag_eq-true, tag_eq-refl}
 use Rattle.asn1_fields.specs.Entries.{Component}
 use Rattle.asn1_fields.specs.DistinctTags.{IsLeast, IsSetClash, IsUpTo, set_clash}
 use Rattle.asn1_fields.proofs.Clashes.{set_clash-is}

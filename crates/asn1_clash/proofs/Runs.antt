@@ -10,7 +10,7 @@ use Rattle.std.proofs.lemmas.Option.{slice_get_within}
 use Rattle.asn1_fields.specs.Entries.{Component, may_be_absent}
 use Rattle.asn1_fields.specs.DistinctTags.{sequence_clash, set_clash, share_tag, up_to_required, IsLeast, IsSetClash}
 use Rattle.asn1_fields.proofs.Clashes.{set_clash-is}
-use Rattle.asn1_fields.proofs.Searches.{shifted, shifted-shifted}
+use Rattle.asn1_fields.proofs.ClashSearches.{shifted, shifted-shifted}
 use Rattle.asn1_clash.specs.declared.flat_component.FlatComponent.{FlatComponent}
 use Rattle.asn1_clash.specs.Views.{component_view, components_view}
 

@@ -18,7 +18,7 @@ use Rattle.asn1_tags.specs.declared.tags.Tag.{Tag}
 use Rattle.asn1_tags.specs.Tags.{IsAtMost, distinct, greatest, smallest, tag_cmp, tag_eq}
 use Rattle.asn1_tags.specs.OrderLaws.{tag_total}
 use Rattle.asn1_tags.proofs.Smallest.{IsAtMost-from_not_less, IsAtMost-antisym, smallest-from_is, smallest-is}
-use Rattle.asn1_tags.proofs.Distinct.{AllPairs-from_distinct, distinct-from_AllPairs, tag_eq-refl, tag_eq-true}
+use Rattle.asn1_tags.proofs.TagListTests.{AllPairs-from_distinct, distinct-from_AllPairs, tag_eq-refl, tag_eq-true}
 
 pub tags_ranked : IsStrictWeakOrder (λ s t. is_lt (tag_cmp s t))
 tags_ranked = ranks_by tag_total (λ t. t)

@@ -1,12 +1,12 @@
 pub mod DistinctFollowers
 pub mod TableOrder
-pub mod HeldInside
+pub mod ContentsOfValues
 pub mod TableLengths
-mod TableLines
+mod AlternativeLines
 mod Variants
-pub mod LabelledLines
-pub mod LabelledValues
-pub mod Labels
-pub mod Lines
-pub mod Searches
-pub mod NumbersFound
+pub mod LabelSearches
+pub mod LabelsOfValues
+pub mod EnumerationFacts
+pub mod ItemSearches
+pub mod ListSearches
+pub mod NumbersInTables

@@ -11,7 +11,7 @@ use Rattle.std.proofs.lemmas.Map.Keys.{apart_from_distinct, IsDistinct-from_apar
 use Rattle.std.proofs.lemmas.Option.{none-some, same_Some, slice_get-get_or}
 use Rattle.asn1_tags.specs.Tags.{tag_cmp}
 use Rattle.asn1_tags.specs.declared.tags.Tag.{Tag}
-use Rattle.asn1_fields.proofs.Orders.{IsCanonical-from_test}
+use Rattle.asn1_fields.proofs.CanonicalTest.{IsCanonical-from_test}
 use Rattle.asn1_fields.specs.CanonicalOrder.{IsCanonical, canonical, in_order, smallest_tag}
 use Rattle.asn1_fields.specs.Entries.{Entry, component_of}
 use Rattle.asn1_components.specs.ComponentLists.{entries_from, entry_at}

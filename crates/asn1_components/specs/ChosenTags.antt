@@ -4,7 +4,7 @@ use Rattle.std.proofs.Common.{inl, inr}
 use Rattle.std.proofs.lemmas.List.Elements.{Contains-append_left, Contains-append_right}
 use Rattle.asn1_tags.specs.declared.tags.Tag.{Tag}
 use Rattle.asn1_tags.specs.Trees.{choice, leaves, leaves_of}
-use Rattle.asn1_tags.proofs.Distinct.{distinct-after, apart-from_distinct}
+use Rattle.asn1_tags.proofs.TagListTests.{distinct-after, apart-from_distinct}
 use Rattle.asn1_model.specs.Tags.{Has, IsOneRecord, first_tag, tree_tags}
 use Rattle.asn1_model.proofs.FirstTags.{one_has}
 use Rattle.asn1_model.proofs.TagSets.{has_leaf, leaf_has}

@@ -10,7 +10,7 @@ use Rattle.std.specs.List.{flat_map, sum_by}
 use Rattle.std.specs.Ordering.{is_lt, nat_cmp}
 use Rattle.std.specs.Prelude.{⊤, ◌⊎◌, All, IsPermutation, IsSortedBy, IsTrue, map, nat_eq}
 use Rattle.asn1_laws.proofs.Rearrangements.{made_of}
-use Rattle.asn1_model.proofs.Lists.{held-listed}
+use Rattle.asn1_model.proofs.RecordLists.{held-listed}
 use Rattle.asn1_model.specs.Orders.{SameRecord, SameAll, at_end, equal, in_any_order, one_by_one, is_unordered, next}
 use Rattle.asn1_model.specs.Records.{Head, Record, Records, none, more, scope, held, listed, listed-held, is_presence_mark, sequence, set, sequence_of, set_of, explicit_tag, alternative}
 use Rattle.asn1_model.specs.Tags.{Has, head_tag, record_tags}

@@ -1,7 +1,7 @@
 -- Bytes that are one element.
 use Rattle.std.proofs.Common.{◌≡◌, ℕ, Bool, true, false, List, [], ◌∷◌, ◌++◌, append-nil, Option, None, Some, refl, sym, ap, ◌∙◌}
 use Rattle.std.specs.Prelude.{◌&&◌}
-use Rattle.asn1_tags.proofs.Distinct.{tag_eq-refl, tag_eq-true}
+use Rattle.asn1_tags.proofs.TagListTests.{tag_eq-refl, tag_eq-true}
 use Rattle.asn1_tags.specs.Tags.{tag_eq}
 use Rattle.asn1_tags.specs.declared.tags.Tag.{Tag}
 use Rattle.asn1_items.proofs.Items.{same_front}

@@ -5,7 +5,7 @@ use Rattle.std.specs.Cmp.Lexicographic.{slice_cmp}
 use Rattle.std.specs.Int.Digits.{AllBelowBase}
 use Rattle.std.specs.Ordering.{is_lt, nat_cmp}
 use Rattle.std.specs.Prelude.{◌⊎◌, ◌&&◌, IsPermutation}
-use Rattle.asn1_model.proofs.Lists.{held-listed}
+use Rattle.asn1_model.proofs.RecordLists.{held-listed}
 use Rattle.asn1_model.specs.Orders.{SameAll, at_end, equal, in_any_order, one_by_one, is_unordered, next}
 use Rattle.asn1_model.specs.ConstraintSets.{ConstraintSet}
 use Rattle.asn1_model.specs.Records.{Content, Head, Name, Record, Records, scalar, scope, open_type, presence_mark, none, more, held, listed, listed-held, sequence, set, sequence_of, set_of, explicit_tag, alternative}

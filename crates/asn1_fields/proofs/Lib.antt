@@ -1,8 +1,8 @@
 pub mod SharedTags
-pub mod Searches
+pub mod ClashSearches
 pub mod Clashes
-mod Compared
-pub mod Orders
-pub mod Required
+mod FieldComparison
+pub mod CanonicalTest
+pub mod RequiredFields
 pub mod Rearranged
-pub mod Alike
+pub mod AlikeTables

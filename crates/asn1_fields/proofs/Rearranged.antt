@@ -8,7 +8,7 @@ use Rattle.std.proofs.lemmas.List.Elements.{All-contains_itself}
 use Rattle.std.proofs.lemmas.List.Sorted.{All-permutation, sum_by-IsPermutation}
 use Rattle.asn1_tags.specs.Tags.{IsAtMost, tag_eq}
 use Rattle.asn1_tags.specs.declared.tags.Tag.{Tag}
-use Rattle.asn1_tags.proofs.Distinct.{tag_eq-refl, tag_eq-true}
+use Rattle.asn1_tags.proofs.TagListTests.{tag_eq-refl, tag_eq-true}
 use Rattle.asn1_tags.proofs.Smallest.{IsAtMost-antisym, IsAtMost-refl, IsAtMost-trans}
 use Rattle.asn1_fields.specs.CanonicalOrder.{IsCanonical, AtMostOneIsCanonical, smallest_tag}
 use Rattle.asn1_fields.specs.Entries.{Entry, component_of}

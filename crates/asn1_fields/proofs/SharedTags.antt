@@ -6,7 +6,7 @@ use Rattle.asn1_tags.specs.Trees.{Tree, is_open, leaves}
 use Rattle.asn1_tags.specs.Walks.{have_common_tag}
 use Rattle.asn1_tags.specs.declared.tags.Tag.{Tag}
 use Rattle.asn1_tags.proofs.Leaves.{leaf_of}
-use Rattle.asn1_tags.proofs.Distinct.{HaveCommonTag-from_test, have_common_tag-from_HaveCommonTag}
+use Rattle.asn1_tags.proofs.TagListTests.{HaveCommonTag-from_test, have_common_tag-from_HaveCommonTag}
 use Rattle.asn1_model.specs.Tags.{Has, among, every, tree_tags}
 use Rattle.asn1_fields.specs.DistinctTags.{ShareTag, share_tag}
 

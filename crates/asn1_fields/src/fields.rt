@@ -68,7 +68,7 @@ impl<'a, const N: usize> Fields<'a, N> {
     }
 
     /// Whether a field is always there.
-    #[tactic(auto, using(crate::proofs::Required::required_fields))]
+    #[tactic(auto, using(crate::proofs::RequiredFields::required_fields))]
     pub fn has_required_field(&self) -> bool
         ensures { IsTrue result ↔
             Any (λ field. field.presence ≡ FieldPresence.Required) (fields_of self.now) }

@@ -38,8 +38,8 @@
 //! No call takes memory.
 //!
 //! For proofs in other crates, `proofs/` has the test of shared tags (`SharedTags`), the law of the definitions of
-//! clashes (`Clashes`) and of the canonical order (`Orders`), and that all of them look at nothing of a tree but its
-//! leaves, and whether a choice of nothing is in it (`Alike`).
+//! clashes (`Clashes`) and of the canonical order (`CanonicalTest`), and that all of them look at nothing of a tree but its
+//! leaves, and whether a choice of nothing is in it (`AlikeTables`).
 #![tactic(auto)]
 
 mod canonical_order;

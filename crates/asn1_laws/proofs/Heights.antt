@@ -1,7 +1,7 @@
 -- How deep records are nested.
 use Rattle.std.proofs.Common.{◌≡◌, ℕ, suc, max, List, [], ◌∷◌, ◌++◌, ap, ◌∙◌, arith}
 use Rattle.asn1_model.specs.Records.{Head, Record, height, highest, holding}
-use Rattle.asn1_model.proofs.Lists.{inner_height-held}
+use Rattle.asn1_model.proofs.RecordLists.{inner_height-held}
 
 pub highest-append : (rs ss : List Record) → highest (rs ++ ss) ≡ max (highest rs) (highest ss)
 highest-append [] ss = omega arith

@@ -1,5 +1,5 @@
 pub mod FirstTags
-pub mod Lists
+pub mod RecordLists
 pub mod SameRecords
 pub mod SameUpToOrder
 pub mod TagSets

@@ -11,7 +11,7 @@ use Rattle.asn1_model.specs.Orders.{is_unordered, SameRecord, SameAll, SameRecor
 use Rattle.asn1_model.specs.Records.{Name, Content, PresenceMark, Head, Record, Records, scalar, scope, open_type, presence_mark, none, more, held, listed, holding, highest, presence_marks_alone, is_presence_mark, group_start, group_absent, group_end, listed-held}
 use Rattle.asn1_model.specs.RecordTables.{Line, Table}
 use Rattle.asn1_model.specs.Tags.{first_tags, record_tags}
-use Rattle.asn1_model.proofs.Lists.{held-listed, inner_height-held}
+use Rattle.asn1_model.proofs.RecordLists.{held-listed, inner_height-held}
 use Rattle.asn1_model.proofs.SameRecords.{same-mark, same-tags, same-inner_height}
 
 -- each list is the same as itself

@@ -1,4 +1,4 @@
 pub mod Counting
 pub mod Intersecting
 pub mod IntersectionLaws
-pub mod Outside
+pub mod BeyondI128

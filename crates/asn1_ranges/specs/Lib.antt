@@ -1,4 +1,4 @@
-pub mod Compared
+pub mod BoundComparison
 pub mod Count
 pub mod Ends
 pub mod Intersection

@@ -52,7 +52,7 @@ fn is_up_to<I: IntegerType>(element: &I, end: Option<i128>) -> bool
     }
 }
 
-#[tactic(auto, using(crate::proofs::Outside::outside))]
+#[tactic(auto, using(crate::proofs::BeyondI128::outside))]
 fn is_at_least<I: IntegerType>(element: &I, start: i128) -> bool
     ensures { IsTrue result ↔ (start ≤ℤ I.number element.now) }
 {
@@ -62,7 +62,7 @@ fn is_at_least<I: IntegerType>(element: &I, start: i128) -> bool
     }
 }
 
-#[tactic(auto, using(crate::proofs::Outside::outside))]
+#[tactic(auto, using(crate::proofs::BeyondI128::outside))]
 fn is_at_most<I: IntegerType>(element: &I, end: i128) -> bool
     ensures { IsTrue result ↔ (I.number element.now ≤ℤ end) }
 {

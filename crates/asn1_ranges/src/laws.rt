@@ -1,7 +1,7 @@
 //! Laws of the derives of bounds, and of the ghost members that an impl states for itself.
 ghost use Rattle.std.specs.Prelude.{◌≡◌, ◌-◌, ◌^◌, Some, ℕ, ℤ, pos};
 ghost use Rattle.asn1_ranges.specs.declared.bounded.Bounded.{Bounded};
-ghost use Rattle.asn1_ranges.specs.Compared.{IsExactEquality, ClonesExactly, bound_eq, bound_cmp, bound_hash};
+ghost use Rattle.asn1_ranges.specs.BoundComparison.{IsExactEquality, ClonesExactly, bound_eq, bound_cmp, bound_hash};
 ghost use Rattle.asn1_ranges.specs.Text.{bound_text};
 
 use crate::bounded::Bounded;

@@ -23,7 +23,7 @@
 //! - The `output` of its `Display` states the text of a bound byte for byte.
 //!
 //! No call takes memory. The words of the clauses are defined in `specs`: `Ends`, `Members` and `Count` for a bound,
-//! `Intersection` for two of them, `Octets` and `Text`, and `Compared` for the answers of derived traits.
+//! `Intersection` for two of them, `Octets` and `Text`, and `BoundComparison` for the answers of derived traits.
 //! `proofs/IntersectionLaws` proves, for the crates above, that intersection commutes and associates if a bound without
 //! members takes the place of none.
 #![tactic(auto)]

@@ -8,7 +8,7 @@ use Rattle.std.specs.Option.{option_map}
 use Rattle.std.specs.String.{string_bytes}
 use Rattle.std.specs.declared.alloc.Global.{Global}
 use Rattle.std.specs.declared.string.String.{String}
-use Rattle.asn1_components.proofs.HeldInside.{all_own_and_inside}
+use Rattle.asn1_components.proofs.ContentsOfValues.{all_own_and_inside}
 use Rattle.asn1_components.specs.ComponentLists.{all_well_formed}
 use Rattle.asn1_components.specs.Components.{AgreesWithComponents, Components, all_components, component_records, components_with_itself, head_of_kind, holding_itself, inside_itself, is_sequence, sequence, table_with_itself}
 use Rattle.asn1_components.specs.ComponentTypes.{optional, required}

@@ -8,7 +8,7 @@ use Rattle.asn1_laws.specs.declared.decode_error.DecodeError.{DecodeError}
 use Rattle.asn1_model.proofs.TagSets.{has_leaf, leaf_has}
 use Rattle.asn1_model.specs.Records.{Record}
 use Rattle.asn1_model.specs.Tags.{Has, tree_tags}
-use Rattle.asn1_tags.proofs.Distinct.{apart-from_distinct, distinct-after}
+use Rattle.asn1_tags.proofs.TagListTests.{apart-from_distinct, distinct-after}
 use Rattle.asn1_tags.specs.Trees.{leaves, leaves_of}
 use Rattle.asn1_tags.specs.declared.tags.Tag.{Tag}
 use Rattle.asn1_slots.proofs.TreesWithTags.{is_leaf}

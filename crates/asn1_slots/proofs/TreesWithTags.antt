@@ -14,7 +14,7 @@ use Rattle.asn1_model.specs.TypeTables.{tree_under}
 use Rattle.asn1_model.specs.declared.type_table.TreeForm.{TreeForm}
 use Rattle.asn1_model.specs.declared.type_table.TreeForm.TheVariants.{Choice, Leaf, Open}
 use Rattle.asn1_model.specs.Meaning.{Meaning}
-use Rattle.asn1_tags.proofs.Distinct.{has-from_Contains, tag_eq-true}
+use Rattle.asn1_tags.proofs.TagListTests.{has-from_Contains, tag_eq-true}
 use Rattle.asn1_tags.proofs.Leaves.{count_more}
 use Rattle.asn1_tags.proofs.ListPositions.{position-found}
 use Rattle.asn1_tags.proofs.Positions.{position_of-some}

@@ -1,7 +1,7 @@
 -- The test whether what has a tree can begin with a tag, by what it decides.
 use Rattle.std.proofs.Common.{◌≡◌, Bool, true, false, ◌||◌, List, Contains, refl}
 use Rattle.asn1_tags.specs.Tags.{has}
-use Rattle.asn1_tags.proofs.Distinct.{Contains-from_has, has-from_Contains}
+use Rattle.asn1_tags.proofs.TagListTests.{Contains-from_has, has-from_Contains}
 use Rattle.asn1_tags.specs.declared.tags.Tag.{Tag}
 
 -- where the test finds the tag and no choice of nothing, it is a leaf

@@ -1,6 +1,6 @@
 pub mod Beginnings
 pub mod Leaves
-pub mod Distinct
+pub mod TagListTests
 pub mod Smallest
 pub mod Positions
 pub mod Structures

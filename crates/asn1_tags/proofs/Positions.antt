@@ -13,7 +13,7 @@ use Rattle.asn1_tags.specs.Walks.{IsTagAfter}
 use Rattle.asn1_tags.specs.Trees.{shape, shapes, leaves, leaves_of}
 use Rattle.asn1_tags.specs.declared.tags.Tag.{Tag}
 use Rattle.asn1_tags.specs.declared.trees.TagTree.{TagTree}
-use Rattle.asn1_tags.proofs.Distinct.{tag_eq-true, tag_eq-refl}
+use Rattle.asn1_tags.proofs.TagListTests.{tag_eq-true, tag_eq-refl}
 use Rattle.asn1_tags.proofs.Leaves.{count_more, count_upto, has_at, has_more, leaves_of-split, leaves_of-take, leaves_of-drop}
 
 first_in_front : (q : Tag → Bool) (ys zs : List Tag) → list_any q ys ≡ true → position_or_len q ys ≡ position_or_len q (ys ++ zs)

@@ -14,7 +14,7 @@ use Rattle.std.proofs.lemmas.List.Folds.{find_at}
 use Rattle.std.proofs.lemmas.List.Sums.{fails_before_first, passes_at_first, position_or_len_is}
 use Rattle.std.proofs.lemmas.Map.Keys.{Less-from_sorted}
 use Rattle.std.proofs.lemmas.Option.{get_or_from_slice_get, slice_get-get_or, slice_get_past, slice_get_within}
-use Rattle.asn1_tags.proofs.Distinct.{tag_eq-true, tag_eq-refl}
+use Rattle.asn1_tags.proofs.TagListTests.{tag_eq-true, tag_eq-refl}
 use Rattle.asn1_tags.proofs.Fitting.{entry_of_index, sorted_fits, sorted_from_fits, tag_at_position, tag_from_fit}
 use Rattle.asn1_tags.specs.OrderLaws.{structure_cmp-Equal, tag_total}
 use Rattle.asn1_tags.specs.TagTables.{Entry, TableFits, binary_digits, entry_cmp, first_position}

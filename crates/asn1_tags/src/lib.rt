@@ -47,7 +47,7 @@
 //! `with_table` also fails if its table does not fit, and each of the others only if memory runs out.
 //!
 //! For proofs in other crates, `proofs/` has the leaves of trees that follow one another
-//! (`Leaves`), the laws of the order of tags (`Smallest`), the tests of lists of tags (`Distinct`),
+//! (`Leaves`), the laws of the order of tags (`Smallest`), the tests of lists of tags (`TagListTests`),
 //! indices among leaves (`Positions`), and tables that fit (`Fitting`, `Searching`).
 #![tactic(auto)]
 

@@ -37,7 +37,7 @@ impl TagTree<'_> {
     }
 
     /// Whether no tag is at two leaves of the tree.
-    #[tactic(auto, using(crate::proofs::Distinct::tag_tests))]
+    #[tactic(auto, using(crate::proofs::TagListTests::tag_tests))]
     pub fn is_unique(&self) -> bool
         ensures { IsTrue result ↔ AllPairs (λ s t. s ≢ t) (leaves (shape self.now)) }
     {
@@ -45,7 +45,7 @@ impl TagTree<'_> {
     }
 
     /// Whether no tag is at two leaves of the trees, taken together.
-    #[tactic(auto, using(crate::proofs::Distinct::tag_tests))]
+    #[tactic(auto, using(crate::proofs::TagListTests::tag_tests))]
     pub fn is_unique_set(nodes: &[TagTree<'_>]) -> bool
         ensures { IsTrue result ↔ AllPairs (λ s t. s ≢ t) (leaves_of (shapes nodes.now)) }
     {
@@ -53,7 +53,7 @@ impl TagTree<'_> {
     }
 
     /// Whether the tag is a leaf of one of the trees.
-    #[tactic(auto, using(crate::proofs::Distinct::tag_tests))]
+    #[tactic(auto, using(crate::proofs::TagListTests::tag_tests))]
     pub fn tag_contains(tag: &Tag, nodes: &[TagTree<'_>]) -> bool
         ensures { IsTrue result ↔ Contains (leaves_of (shapes nodes.now)) tag.now }
     {
@@ -78,7 +78,7 @@ impl TagTree<'_> {
     }
 
     /// Whether some tag is a leaf of both trees.
-    #[tactic(auto, using(crate::proofs::Distinct::common_tags, crate::proofs::Leaves::alone))]
+    #[tactic(auto, using(crate::proofs::TagListTests::common_tags, crate::proofs::Leaves::alone))]
     pub fn shares_leaf(&self, other: &TagTree<'_>) -> bool
         ensures { IsTrue result ↔
             HaveCommonTag (leaves (shape self.now)) (leaves (shape other.now)) }

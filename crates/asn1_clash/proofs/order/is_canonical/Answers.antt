@@ -1,7 +1,7 @@
 use Rattle.std.proofs.Common.{sym, ap, ◌∙◌}
 use Rattle.std.proofs.lemmas.List.Sorted.{answers_always}
 use Rattle.asn1_fields.specs.CanonicalOrder.{canonical, in_order}
-use Rattle.asn1_fields.proofs.Orders.{canonical-seen, IsCanonical-from_test, test-from_IsCanonical}
+use Rattle.asn1_fields.proofs.CanonicalTest.{canonical-seen, IsCanonical-from_test, test-from_IsCanonical}
 use Rattle.asn1_clash.specs.Views.{component_view, components_view}
 use Rattle.asn1_clash.proofs.Flat.{canonical-flat}
 use Rattle.asn1_clash.proofs.order.is_canonical.Goals as goal

@@ -1,6 +1,6 @@
 use Rattle.std.proofs.Common.{◌≡◌, ◌+◌, Some, None, arith, length, subst, sym, ◌∙◌}
 use Rattle.asn1_fields.specs.DistinctTags.{sequence_clash, set_clash}
-use Rattle.asn1_fields.proofs.Searches.{shifted}
+use Rattle.asn1_fields.proofs.ClashSearches.{shifted}
 use Rattle.asn1_clash.specs.Views.{components_view}
 use Rattle.asn1_clash.proofs.Flat.{found_in_sequence}
 use Rattle.asn1_clash.proofs.Runs.{run_fits, run_is_some, found_in_run, none_in_run, clash_within, some_length, none_left, no_length}

@@ -1,6 +1,6 @@
 use Rattle.std.proofs.Common.{◌≡◌, ◌+◌, length}
 use Rattle.asn1_fields.specs.DistinctTags.{sequence_clash}
-use Rattle.asn1_fields.proofs.Searches.{shifted}
+use Rattle.asn1_fields.proofs.ClashSearches.{shifted}
 use Rattle.asn1_clash.specs.Views.{components_view}
 use Rattle.asn1_clash.proofs.search.find_sequence_clash.Given as goal
 

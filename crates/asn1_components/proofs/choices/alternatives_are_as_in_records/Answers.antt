@@ -1,4 +1,4 @@
-use Rattle.asn1_components.proofs.TableLines.{added_lines, always_there, names_in_order, root_lines}
+use Rattle.asn1_components.proofs.AlternativeLines.{added_lines, always_there, names_in_order, root_lines}
 use Rattle.asn1_components.proofs.choices.alternatives_are_as_in_records.Goals as goal
 
 pub returns-clause-root : goal.returns-clause-root

@@ -2,8 +2,8 @@ use Rattle.std.proofs.Common.{sym, ap, ◌∙◌}
 use Rattle.std.specs.Option.{option_map}
 use Rattle.std.proofs.lemmas.Option.{none-some}
 use Rattle.asn1_components.specs.ItemTables.{line_item}
-use Rattle.asn1_components.proofs.Labels.{its_item}
-use Rattle.asn1_components.proofs.Lines.{line_found}
+use Rattle.asn1_components.proofs.EnumerationFacts.{its_item}
+use Rattle.asn1_components.proofs.ItemSearches.{line_found}
 use Rattle.asn1_components.proofs.enumerated.line_of.Goals as goal
 
 -- each value has its item

@@ -1,4 +1,4 @@
-use Rattle.asn1_fields.proofs.Searches.{IsLeft}
+use Rattle.asn1_fields.proofs.ClashSearches.{IsLeft}
 use Rattle.asn1_fields.proofs.distinct_tags.first_set_clash.Given as goal
 
 -- the first clash is that of the fields from here on

@@ -1,4 +1,4 @@
-use Rattle.asn1_fields.proofs.Compared.{field_order, field_same}
+use Rattle.asn1_fields.proofs.FieldComparison.{field_order, field_same}
 use Rattle.asn1_fields.proofs.laws.derives_take_every_part.Goals as goal
 
 pub returns-clause-field_equal : goal.returns-clause-field_equal

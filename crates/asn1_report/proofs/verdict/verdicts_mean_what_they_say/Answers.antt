@@ -1,7 +1,7 @@
 use Rattle.asn1_tags.proofs.Smallest.{smallest-is}
-use Rattle.asn1_tags.proofs.Distinct.{AllPairs-from_distinct, distinct-from_AllPairs}
+use Rattle.asn1_tags.proofs.TagListTests.{AllPairs-from_distinct, distinct-from_AllPairs}
 use Rattle.asn1_fields.proofs.Clashes.{sequence_clash-is, set_clash-is}
-use Rattle.asn1_fields.proofs.Orders.{IsCanonical-from_test, test-from_IsCanonical}
+use Rattle.asn1_fields.proofs.CanonicalTest.{IsCanonical-from_test, test-from_IsCanonical}
 use Rattle.asn1_report.proofs.verdict.verdicts_mean_what_they_say.Goals as goal
 
 pub returns : goal.returns

@@ -1,7 +1,7 @@
 use Rattle.std.proofs.Common.{inl, inr, None, Some, sym}
 use Rattle.asn1_components.specs.Enumerations.{added}
-use Rattle.asn1_components.proofs.Labels.{value_at, value_missing, somewhere, not_in_both}
-use Rattle.asn1_components.proofs.Lines.{index_found}
+use Rattle.asn1_components.proofs.EnumerationFacts.{value_at, value_missing, somewhere, not_in_both}
+use Rattle.asn1_components.proofs.ItemSearches.{index_found}
 use Rattle.asn1_components.proofs.enumerated.Enumerated.enumeration_index.Goals as goal
 
 pub unreachable-requires : goal.unreachable-requires

@@ -5,8 +5,8 @@ use Rattle.std.proofs.lemmas.Int.{to_z-of_z}
 use Rattle.std.specs.Ordering.{int_eq}
 use Rattle.std.proofs.lemmas.Bool.Decides.{Decides-int_eq}
 use Rattle.asn1_components.specs.Enumerations.{number_of}
-use Rattle.asn1_components.proofs.Labels.{back, only}
-use Rattle.asn1_components.proofs.Lines.{value_found}
+use Rattle.asn1_components.proofs.EnumerationFacts.{back, only}
+use Rattle.asn1_components.proofs.ItemSearches.{value_found}
 use Rattle.asn1_components.proofs.enumerated.Enumerated.from_discriminant.Goals as goal
 
 pub returns-clause-back : goal.returns-clause-back

@@ -1,7 +1,7 @@
 use Rattle.std.proofs.Common.{ap, ◌∙◌}
 use Rattle.std.specs.List.{slice_get}
 use Rattle.asn1_components.specs.Enumerations.{values}
-use Rattle.asn1_components.proofs.Lines.{value_of_line}
+use Rattle.asn1_components.proofs.ItemSearches.{value_of_line}
 use Rattle.asn1_components.proofs.enumerated.Enumerated.from_extended_enumeration_index.Goals as goal
 
 pub returns : goal.returns

@@ -2,8 +2,8 @@ use Rattle.std.proofs.Common.{◌≡◌, IfSome, [], sym, ◌∙◌, subst}
 use Rattle.std.specs.Str.{bytes_eq}
 use Rattle.std.proofs.lemmas.Slice.Eq.{bytes_eq-Decides}
 use Rattle.asn1_components.specs.Enumerations.{name_of}
-use Rattle.asn1_components.proofs.Labels.{back, only}
-use Rattle.asn1_components.proofs.Lines.{value_found}
+use Rattle.asn1_components.proofs.EnumerationFacts.{back, only}
+use Rattle.asn1_components.proofs.ItemSearches.{value_found}
 use Rattle.asn1_components.proofs.enumerated.Enumerated.from_identifier.Goals as goal
 
 pub returns-clause-back : goal.returns-clause-back

@@ -1,7 +1,7 @@
 use Rattle.std.proofs.Common.{◌↔◌, IsTrue, Contains, sym, subst}
 use Rattle.asn1_components.specs.Enumerations.{added, values}
-use Rattle.asn1_components.proofs.Labels.{is_found}
-use Rattle.asn1_components.proofs.Lines.{index_found}
+use Rattle.asn1_components.proofs.EnumerationFacts.{is_found}
+use Rattle.asn1_components.proofs.ItemSearches.{index_found}
 use Rattle.asn1_components.proofs.enumerated.Enumerated.is_extended_variant.Goals as goal
 
 pub returns : goal.returns

@@ -4,7 +4,7 @@ use Rattle.std.specs.Ordering.{int_eq}
 use Rattle.std.proofs.lemmas.Int.{to_z-of_z}
 use Rattle.asn1_components.specs.LabelLaws.{added_labels_are}
 use Rattle.asn1_components.specs.Labels.{label_of}
-use Rattle.asn1_components.proofs.LabelledLines.{index_of_number}
+use Rattle.asn1_components.proofs.LabelSearches.{index_of_number}
 use Rattle.asn1_components.proofs.enumerated_table.AnyEnumeratedTable.added_index.Goals as goal
 
 pub returns : goal.returns

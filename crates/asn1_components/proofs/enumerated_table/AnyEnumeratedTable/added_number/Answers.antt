@@ -1,7 +1,7 @@
 use Rattle.std.proofs.Common.{ap, map, sym, ◌∙◌}
 use Rattle.asn1_components.specs.LabelLaws.{added_labels_are}
 use Rattle.asn1_components.specs.Labels.{label_of}
-use Rattle.asn1_components.proofs.LabelledLines.{number_at_index}
+use Rattle.asn1_components.proofs.LabelSearches.{number_at_index}
 use Rattle.asn1_components.proofs.enumerated_table.AnyEnumeratedTable.added_number.Goals as goal
 
 pub returns : goal.returns

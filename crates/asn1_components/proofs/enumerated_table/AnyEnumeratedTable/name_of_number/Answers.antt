@@ -3,7 +3,7 @@ use Rattle.std.specs.List.{find}
 use Rattle.std.specs.Option.{option_map}
 use Rattle.std.specs.Ordering.{int_eq}
 use Rattle.std.proofs.lemmas.Int.{to_z-of_z}
-use Rattle.asn1_components.proofs.LabelledLines.{part_found}
+use Rattle.asn1_components.proofs.LabelSearches.{part_found}
 use Rattle.asn1_components.proofs.enumerated_table.AnyEnumeratedTable.name_of_number.Goals as goal
 
 pub returns : goal.returns

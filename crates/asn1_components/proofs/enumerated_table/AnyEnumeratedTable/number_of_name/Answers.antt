@@ -1,6 +1,6 @@
 use Rattle.std.proofs.Common.{◌∙◌}
 use Rattle.std.specs.Str.{bytes_eq}
-use Rattle.asn1_components.proofs.LabelledLines.{part_found}
+use Rattle.asn1_components.proofs.LabelSearches.{part_found}
 use Rattle.asn1_components.proofs.enumerated_table.AnyEnumeratedTable.number_of_name.Goals as goal
 
 pub returns : goal.returns

@@ -3,7 +3,7 @@ use Rattle.std.specs.List.{position}
 use Rattle.std.specs.Ordering.{int_eq}
 use Rattle.std.proofs.lemmas.Int.{to_z-of_z}
 use Rattle.asn1_components.specs.Labels.{label_of}
-use Rattle.asn1_components.proofs.LabelledLines.{index_of_number}
+use Rattle.asn1_components.proofs.LabelSearches.{index_of_number}
 use Rattle.asn1_components.proofs.enumerated_table.AnyEnumeratedTable.root_index.Goals as goal
 
 pub returns : goal.returns

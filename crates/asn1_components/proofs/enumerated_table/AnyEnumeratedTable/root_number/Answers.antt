@@ -1,6 +1,6 @@
 use Rattle.std.proofs.Common.{ap, map, ◌∙◌}
 use Rattle.asn1_components.specs.Labels.{label_of}
-use Rattle.asn1_components.proofs.LabelledLines.{number_at_index}
+use Rattle.asn1_components.proofs.LabelSearches.{number_at_index}
 use Rattle.asn1_components.proofs.enumerated_table.AnyEnumeratedTable.root_number.Goals as goal
 
 pub returns : goal.returns

@@ -1,6 +1,6 @@
 use Rattle.std.proofs.Common.{rules}
 use Rattle.std.proofs.lemmas.Result.{err_from_is_err_and}
-use Rattle.asn1_components.proofs.LabelledValues.{has_number}
+use Rattle.asn1_components.proofs.LabelsOfValues.{has_number}
 use Rattle.asn1_components.specs.Enumerations.{number_of}
 use Rattle.asn1_dec.proofs.decoder.Decoder.decode_enumerated.Goals as goal
 

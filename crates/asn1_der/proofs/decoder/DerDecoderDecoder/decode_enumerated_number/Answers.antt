@@ -3,7 +3,7 @@ use Rattle.std.proofs.lemmas.Result.{err_from_is_err_and}
 use Rattle.asn1_components.specs.Labels.{all_labels}
 use Rattle.asn1_model.specs.ConstraintSets.{unconstrained}
 use Rattle.asn1_model.specs.Records.{discriminant}
-use Rattle.asn1_components.proofs.NumbersFound.{same_has_item}
+use Rattle.asn1_components.proofs.NumbersInTables.{same_has_item}
 use Rattle.asn1_der.proofs.decoder.DerDecoderDecoder.decode_enumerated_number.Goals as goal
 
 pub returns-in_err-number-clause-read : goal.returns-in_err-number-clause-read

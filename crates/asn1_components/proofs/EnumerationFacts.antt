@@ -9,7 +9,7 @@ use Rattle.std.proofs.lemmas.List.Elements.{Contains-append_cases}
 use Rattle.std.proofs.lemmas.Option.{none-some, same_Some, slice_get-get_or, slice_get-map}
 use Rattle.asn1_components.specs.Enumerations.{Item, Enumeration, Differ, added, items, item_of, values}
 use Rattle.asn1_tags.proofs.ListPositions.{Contains-from_slice_get, position-found, position-missing}
-use Rattle.asn1_components.proofs.Searches.{across, found, find_only}
+use Rattle.asn1_components.proofs.ListSearches.{across, found, find_only}
 
 abbrev pub value_in : {V : Type 0} → Option (Item V) → Option V
 value_in o = option_map (λ i. i.value) o

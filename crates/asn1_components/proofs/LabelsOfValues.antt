@@ -7,8 +7,8 @@ use Rattle.std.proofs.lemmas.Simd.{map-map}
 use Rattle.asn1_components.specs.Enumerations.{Item, Enumeration, Differ, item_of, items, number_of}
 use Rattle.asn1_components.specs.LabelLaws.{all_labels_are}
 use Rattle.asn1_components.specs.Labels.{HasNumber, label_of, labels_of, numbers_in}
-use Rattle.asn1_components.proofs.Labels.{its_item, value_in}
-use Rattle.asn1_components.proofs.Searches.{found}
+use Rattle.asn1_components.proofs.EnumerationFacts.{its_item, value_in}
+use Rattle.asn1_components.proofs.ListSearches.{found}
 
 image : {X Y : Type 0} (f : X → Y) (xs : List X) (x : X) → Contains xs x → Contains (map f xs) (f x)
 image f xs x (k, within, is) = (k, omega (arith, within, length-map xs f), get_or-map f xs k x (f x) within ∙ ap f is)

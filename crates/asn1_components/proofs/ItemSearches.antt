@@ -7,9 +7,9 @@ use Rattle.std.proofs.lemmas.Option.{slice_get-map}
 use Rattle.asn1_components.specs.Enumerations.{Item, Enumeration, added, items, values}
 use Rattle.asn1_components.specs.ItemTables.{line_item, table_items}
 use Rattle.asn1_components.specs.declared.items.EnumerationItem.{EnumerationItem}
-use Rattle.asn1_components.proofs.Labels.{value_in}
+use Rattle.asn1_components.proofs.EnumerationFacts.{value_in}
 use Rattle.asn1_tags.proofs.ListPositions.{position-map}
-use Rattle.asn1_components.proofs.Searches.{find-map}
+use Rattle.asn1_components.proofs.ListSearches.{find-map}
 
 of_item : {V : Type 0} (line : Option (EnumerationItem V)) → option_map (λ (l : EnumerationItem V). l.value) line ≡ value_in (option_map line_item line)
 of_item (Some l) = refl

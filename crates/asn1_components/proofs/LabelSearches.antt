@@ -11,8 +11,8 @@ use Rattle.asn1_components.specs.Labels.{all_labels, label_of, labels_of, number
 use Rattle.asn1_components.specs.ItemTables.{line_item, table_items}
 use Rattle.asn1_components.specs.declared.items.EnumerationItem.{EnumerationItem}
 use Rattle.asn1_tags.proofs.ListPositions.{position-map}
-use Rattle.asn1_components.proofs.Lines.{line_found}
-use Rattle.asn1_components.proofs.Searches.{find-map}
+use Rattle.asn1_components.proofs.ItemSearches.{line_found}
+use Rattle.asn1_components.proofs.ListSearches.{find-map}
 
 numbers_of_lines : {V : Type 0} (lines : List (EnumerationItem V)) → map (λ (l : EnumerationItem V). l.number) lines ≡ numbers_in (map label_of (table_items lines))
 numbers_of_lines [] = refl
