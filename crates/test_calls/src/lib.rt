@@ -18,6 +18,7 @@
 //! | [`NumberedCalls`], [`numbered_calls_come_back`] | what is tried of several calls in a row |
 //! | [`made`] | values that cases make |
 //! | [`samples`], [`sets`], [`sample_calls`], [`sample_depth`] | the same with the sample types |
+//! | [`Request`] | the words of a request to a program that tries or measures codecs |
 //!
 //! What the contracts promise: over a codec that keeps the laws, a valid value never comes back as another one
 //! (`never_another` of [`comes_back`]), and what comes back was written (`written`). So a case of [`types`] can fail only where
@@ -32,6 +33,7 @@ mod failure;
 pub mod made;
 mod recoding;
 pub mod refusals;
+mod request;
 mod round_trips;
 pub mod sample_calls;
 pub mod sample_depth;
@@ -47,6 +49,7 @@ pub use call_rules::{
 pub use depth::{is_read, needs_depth, nested_lists_need_their_depth};
 pub use failure::{Failure, one_passes};
 pub use recoding::{goes_there_and_back, is_not_recoded};
+pub use request::Request;
 pub use round_trips::{
     comes_back, comes_back_as, is_not_read, is_refused, is_same, is_this, made_comes_back,
 };

@@ -1,11 +1,8 @@
 //! Calls for groups of additions, items of an ENUMERATED, a CHOICE under a tag, and a type whose own constraints take memory.
-use crate::samples::contact;
-use crate::sets;
 use crate::calls::{comes_back_by_entry_points, comes_back_under};
 use crate::made::letters;
-use crate::{
-    CallRules, Calls, FIRST, Failure, NAME, answers, answers_none, calls_come_back,
-};
+use crate::samples::contact;
+use crate::{CallRules, Calls, FIRST, Failure, NAME, answers, answers_none, calls_come_back, sets};
 use asn1_dec::Decoder;
 use asn1_enc::{EncodeError, Encoder};
 use asn1_samples::{Color, Contact, Plate, Shape};

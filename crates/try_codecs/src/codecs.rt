@@ -1,5 +1,4 @@
 //! The codecs that are tried.
-use crate::request::Request;
 use crate::{damage, growths, nested};
 use asn1_bench::BenchRules;
 use asn1_der::DerRules;
@@ -7,6 +6,7 @@ use asn1_rules::Rules;
 use asn1_tagform::TagRules;
 use std::alloc::Global;
 use std::io;
+use test_calls::Request;
 
 /// `NULL` as one item of the packed form and of the tag form.
 const NULL: &[u8] = &[1, 0, 0, 0, 0, 5, 4, 0, 0, 0, 0];

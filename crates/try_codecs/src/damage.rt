@@ -1,13 +1,12 @@
 //! Bytes that are damaged, and what is read of them. Undamaged, they are read as the value that was written.
-use crate::request::Request;
 use crate::source::Source;
-use test_calls::{Failure, ValueCase, is_same};
 use asn1_dec::Decode;
 use asn1_enc::Encode;
 use asn1_rules::Rules;
-use test_calls::samples::each_sample_passes;
 use std::alloc::Global;
 use std::io;
+use test_calls::samples::each_sample_passes;
+use test_calls::{Failure, Request, ValueCase, is_same};
 
 /// How many nested scopes are opened.
 const DEPTH: usize = 16;

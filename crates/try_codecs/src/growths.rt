@@ -1,13 +1,12 @@
 //! A value of each sample type that is written and read, whole, in a list of two and out of pieces, where a growth may be refused.
 use asn1_bench::{BenchReader, BenchRules};
-use test_calls::{Failure, ValueCase, is_same};
 use asn1_dec::Decode;
 use asn1_enc::Encode;
-use asn1_rules::{Rules, round_trip};
-use test_calls::samples::each_sample_passes;
-use asn1_rules::{Pieces, read_pieces, write_list};
+use asn1_rules::{Pieces, Rules, read_pieces, round_trip, write_list};
 use std::alloc::Global;
 use std::io;
+use test_calls::samples::each_sample_passes;
+use test_calls::{Failure, ValueCase, is_same};
 
 /// How many nested scopes are opened.
 const DEPTH: usize = 4;

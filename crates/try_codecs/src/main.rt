@@ -21,11 +21,10 @@ mod codecs;
 mod damage;
 mod growths;
 mod nested;
-mod request;
 mod source;
 
-use request::Request;
 use std::{env, io};
+use test_calls::Request;
 
 fn main(rt: HostRuntime) -> io::Result<()> {
     let words: Vec<String> = env::args(&rt)?.skip(1).collect(rt.alloc())?;

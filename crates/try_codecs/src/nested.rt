@@ -1,15 +1,14 @@
 //! Values that hold themselves.
-use crate::request::Request;
-use test_calls::Failure;
-use test_calls::made::units;
 use asn1_dec::Decode;
 use asn1_enc::Encode;
 use asn1_recursive::Filter;
 use asn1_rules::Rules;
-use test_calls::samples::{flag_inside, node_chain, null_inside_instances};
 use asn1_types::SetOf;
 use std::alloc::Global;
 use std::io;
+use test_calls::made::units;
+use test_calls::samples::{flag_inside, node_chain, null_inside_instances};
+use test_calls::{Failure, Request};
 
 /// Makes a value that holds itself, and does with it what is asked for.
 pub(crate) fn run<R: Rules<Output = Vec<u8>>>(

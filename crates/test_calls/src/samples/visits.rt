@@ -1,6 +1,6 @@
 //! `Visit`.
-use crate::samples::contact;
 use crate::made::text;
+use crate::samples::contact;
 use crate::{Failure, ValueCase};
 use asn1_samples::{Contact, Visit};
 use std::alloc::Global;
