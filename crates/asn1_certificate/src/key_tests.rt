@@ -1,36 +1,12 @@
 //! Reports of public keys, with known sizes and without; the octets were made by hand.
+use crate::certificates::{NO_NAME, least_certificate, sequence};
 use asn1_certificate_input::{OutputFormat, output_of};
-use asn1_der_items::{begin_element, end_element};
-use asn1_tags::Tag;
 use std::alloc::Global;
 use std::process::Abort;
 
-/// A SEQUENCE in DER of these contents octets.
-fn sequence(rt: &impl Abort, alloc: Global, contents: &[u8]) -> Vec<u8> {
-    let mut bytes = Vec::new(alloc);
-    begin_element(&mut bytes, Tag::SEQUENCE, true).expect(rt, "memory");
-    let start = bytes.len();
-    bytes.extend_from_slice(contents).expect(rt, "memory");
-    end_element(&mut bytes, start).expect(rt, "memory");
-    bytes
-}
-
-/// A certificate in DER with this `SubjectPublicKeyInfo`, and as little else as its types allow: no names, and empty times.
-fn certificate_of(rt: &impl Abort, alloc: Global, key: &[u8]) -> Vec<u8> {
-    let front = [
-        2, 1, 1, 0x30, 4, 6, 2, 0x2a, 3, 0x30, 0, 0x30, 4, 0x17, 0, 0x17, 0, 0x30, 0,
-    ];
-    let mut signed = Vec::from_slice(alloc, &front).expect(rt, "memory");
-    signed.extend_from_slice(key).expect(rt, "memory");
-    let mut parts = sequence(rt, alloc, &signed);
-    let back = [0x30, 4, 6, 2, 0x2a, 3, 3, 1, 0];
-    parts.extend_from_slice(&back).expect(rt, "memory");
-    sequence(rt, alloc, &parts)
-}
-
-/// Asserts what is shown of a key.
+/// Asserts the line on a key.
 fn assert_key(rt: &impl Abort, alloc: Global, key: &[u8], shown: &str) {
-    let input = certificate_of(rt, alloc, key);
+    let input = least_certificate(rt, alloc, NO_NAME, NO_NAME, key);
     let Ok(lines) = output_of(alloc, OutputFormat::Report, input) else {
         rt.panic("not shown");
     };
@@ -44,12 +20,10 @@ fn assert_key(rt: &impl Abort, alloc: Global, key: &[u8], shown: &str) {
 
 /// A key of RSA (RFC 3279, 2.3.1) with this element as its BIT STRING.
 fn key_of_rsa(rt: &impl Abort, alloc: Global, bit_string: &[u8]) -> Vec<u8> {
-    let algorithm = [
+    let algorithm: &[u8] = &[
         0x30, 13, 6, 9, 0x2a, 0x86, 0x48, 0x86, 0xf7, 0x0d, 1, 1, 1, 5, 0,
     ];
-    let mut parts = Vec::from_slice(alloc, &algorithm).expect(rt, "memory");
-    parts.extend_from_slice(bit_string).expect(rt, "memory");
-    sequence(rt, alloc, &parts)
+    sequence(rt, alloc, &[algorithm, bit_string])
 }
 
 #[test]

@@ -11,6 +11,8 @@
 
 mod arguments;
 #[cfg(test)]
+mod certificates;
+#[cfg(test)]
 mod key_tests;
 #[cfg(test)]
 mod refusal_tests;

@@ -1,4 +1,5 @@
 //! Values that no name can have, bad parameters of algorithms, and reports of values that are not of their type.
+use crate::certificates::{NO_KEY, NO_NAME, least_certificate};
 use asn1_certificate_input::{InputError, OutputFormat, output_of};
 use asn1_certificate_reader::{
     MAX_DEPTH, NameFault, ParameterType, ValueFault, bad_parameters, first_name_fault,
@@ -153,16 +154,19 @@ fn bad_parameters_are_refused(rt: HostRuntime) {
     assert!(rt; bad_position(&rt, alloc, &certificate(0xff, 0, 2)) == Some(65));
 }
 
-/// A certificate in DER without a version. The common names of its issuer and its subject have these values of four octets.
-const fn of_names(issuer: [u8; 6], subject: [u8; 6]) -> [u8; 73] {
-    let [a, b, c, d, e, f] = issuer;
-    let [u, v, w, x, y, z] = subject;
+/// A name with this value, of four octets, as its common name.
+const fn of_common_name(value: [u8; 6]) -> [u8; 17] {
+    let [a, b, c, d, e, f] = value;
     [
-        0x30, 71, 0x30, 60, 2, 1, 1, 0x30, 4, 6, 2, 0x2a, 3, 0x30, 15, 0x31, 13, 0x30, 11, 6, 3,
-        0x55, 4, 3, a, b, c, d, e, f, 0x30, 4, 0x17, 0, 0x17, 0, 0x30, 15, 0x31, 13, 0x30, 11, 6,
-        3, 0x55, 4, 3, u, v, w, x, y, z, 0x30, 9, 0x30, 4, 6, 2, 0x2a, 3, 3, 1, 0, 0x30, 4, 6, 2,
-        0x2a, 3, 3, 1, 0,
+        0x30, 15, 0x31, 13, 0x30, 11, 6, 3, 0x55, 4, 3, a, b, c, d, e, f,
     ]
+}
+
+/// A certificate in DER without a version. The common names of its issuer and its subject have these values.
+fn of_names(rt: &impl Abort, alloc: Global, issuer: [u8; 6], subject: [u8; 6]) -> Vec<u8> {
+    let issuer = of_common_name(issuer);
+    let subject = of_common_name(subject);
+    least_certificate(rt, alloc, &issuer, &subject, NO_KEY)
 }
 
 const UTF8: [u8; 6] = [0x0c, 4, b'A', b'n', b'n', b'a'];
@@ -180,9 +184,9 @@ fn bad_name(rt: &impl Abort, alloc: Global, certificate: &[u8]) -> Option<usize>
 #[test]
 fn bad_values_in_names_are_refused(rt: HostRuntime) {
     let alloc = rt.alloc();
-    assert!(rt; refusal(&rt, alloc, &of_names(UTF8, UTF8)).is_none());
-    assert!(rt; bad_name(&rt, alloc, &of_names(NO_STRING, UTF8)) == Some(24));
-    assert!(rt; bad_name(&rt, alloc, &of_names(UTF8, NO_STRING)) == Some(47));
+    assert!(rt; refusal(&rt, alloc, &of_names(&rt, alloc, UTF8, UTF8)).is_none());
+    assert!(rt; bad_name(&rt, alloc, &of_names(&rt, alloc, NO_STRING, UTF8)) == Some(24));
+    assert!(rt; bad_name(&rt, alloc, &of_names(&rt, alloc, UTF8, NO_STRING)) == Some(47));
 }
 
 /// A certificate in DER with a version. Its issuer has two parts, the second with two attributes, and the value of the second of these
@@ -196,24 +200,20 @@ const TWO_PARTS: &[u8] = &[
     1, 0, 0x30, 4, 6, 2, 0x2a, 3, 3, 1, 0,
 ];
 
-/// A certificate without a version. The parameters of its key are no BOOLEAN.
-const BAD_KEY: &[u8] = &[
-    0x30, 0x46, 0x30, 0x3b, 2, 1, 1, 0x30, 4, 6, 2, 0x2a, 3, 0x30, 0, 0x30, 0x1e, 0x17, 0x0d, b'2',
-    b'0', b'0', b'1', b'0', b'1', b'0', b'0', b'0', b'0', b'0', b'0', b'Z', 0x17, 0x0d, b'3', b'0',
-    b'0', b'1', b'0', b'1', b'0', b'0', b'0', b'0', b'0', b'0', b'Z', 0x30, 0, 0x30, 0x0c, 0x30, 7,
-    6, 2, 0x2a, 3, 1, 1, 2, 3, 1, 0, 0x30, 4, 6, 2, 0x2a, 3, 3, 1, 0,
-];
+/// A key with parameters that are no BOOLEAN.
+const BAD_KEY: &[u8] = &[0x30, 12, 0x30, 7, 6, 2, 0x2a, 3, 1, 1, 2, 3, 1, 0];
 
 #[test]
 fn positions_are_those_of_each_path(rt: HostRuntime) {
     let alloc = rt.alloc();
+    let bad_key = least_certificate(&rt, alloc, NO_NAME, NO_NAME, BAD_KEY);
     assert!(rt; bad_name(&rt, alloc, TWO_PARTS) == Some(86));
-    assert!(rt; bad_position(&rt, alloc, BAD_KEY) == Some(57));
+    assert!(rt; bad_position(&rt, alloc, &bad_key) == Some(31));
 }
 
 /// Asserts that the common name of the issuer of a certificate is shown as this text.
 fn assert_shown(rt: &impl Abort, alloc: Global, value: [u8; 6], expected: &str) {
-    let input = Vec::from_slice(alloc, &of_names(value, UTF8)).expect(rt, "memory");
+    let input = of_names(rt, alloc, value, UTF8);
     let bytes = output_of(alloc, OutputFormat::Report, input).expect(rt, "a certificate");
     let text = str::from_utf8(&bytes).expect(rt, "a text");
     assert!(rt; text.contains(expected));
