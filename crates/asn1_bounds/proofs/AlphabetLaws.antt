@@ -19,7 +19,7 @@ is_permitted-iff alphabet character = (
   λ h. is_permitted-exchanged alphabet character ∙ list_any-from_Contains nat_eq_equiv character alphabet h,
 )
 
--- what the common characters permit is what both permit
+-- the common characters permit a character if and only if both alphabets do
 pub common_characters-test : (a b : List ℕ) (character : ℕ) → is_permitted (common_characters a b) character ≡ (is_permitted a character && is_permitted b character)
 common_characters-test a b character =
     any-filter_same (λ c. nat_eq c character) (is_permitted b) (is_permitted b character) (λ c e. ap (is_permitted b) (eqb-true c character e)) a

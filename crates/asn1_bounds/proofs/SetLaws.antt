@@ -17,7 +17,7 @@ use Rattle.asn1_bounds.specs.declared.value.Value.{Value}
 use Rattle.asn1_bounds.proofs.AlphabetLaws.{common_characters-assoc, common_characters-members}
 use Rattle.asn1_bounds.proofs.KindLaws.{value_intersection-assoc, value_intersection-members, size_intersection-assoc, size_intersection-members}
 
--- what is extensible of three is so of all three
+-- the intersection of three parts is extensible if and only if all three are
 kept_assoc : {X : Type 0} (a b c : Option X) → cond (is_some c) (cond (is_some b) a None) None ≡ cond (is_some (cond (is_some c) b None)) a None
 kept_assoc a b None = refl
 kept_assoc a b (Some z) = refl
@@ -102,7 +102,7 @@ set_intersection-lengths a b n = parts-lengths a.size b.size n
 pub set_intersection-characters : (a b : Constraints) (n : ℕ) → AdmitsCharacter (set_intersection a b) n ↔ (AdmitsCharacter a n × AdmitsCharacter b n)
 set_intersection-characters a b n = parts-characters a.permitted_alphabet b.permitted_alphabet n
 
--- what a set of a list admits each of its constraints does
+-- the set of a list admits whatever each of its constraints admits
 module _ (Admits : Constraints → Type 0) (none : Admits no_constraints) (both : (a b : Constraints) → Admits (set_intersection a b) ↔ (Admits a × Admits b)) where
   all-admit : (cs : List Constraint) → Admits (set_of_all cs) ↔ All (λ c. Admits (set_of_one c)) cs
   all-admit [] = (λ _. All-nil (λ c. Admits (set_of_one c)), λ _. none)
@@ -144,7 +144,7 @@ set_of_all-without_alphabet (c ∷ cs) h =
 pub set_of_some-without_alphabet : (cs : List Constraint) (i : ℕ) → All (λ c. IsNone (alphabet_of c)) cs → IsNone (set_of_all (take i cs)).permitted_alphabet
 set_of_some-without_alphabet cs i h = set_of_all-without_alphabet (take i cs) (All-take (λ c. IsNone (alphabet_of c)) i cs h)
 
--- what follows of a set that is the intersection of two
+-- consequences for a set that is the intersection of two
 pub record IsIntersection (a b set : Constraints) : Type 0 where
   pub values : (n : ℤ) → AdmitsValue set n ↔ (AdmitsValue a n × AdmitsValue b n)
   pub lengths : (n : ℕ) → AdmitsLength set n ↔ (AdmitsLength a n × AdmitsLength b n)

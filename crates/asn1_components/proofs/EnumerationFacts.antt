@@ -56,7 +56,7 @@ module _ {V : Type 0} (eq : V → V → Bool) (laws : IsEquivalence eq) (e : Enu
       let f = position-found (λ (i : Item V). eq i.value v) table k (its_item v).0 is in
       slice_get-map (λ (i : Item V). i.value) table k ∙ (ap value_in f.1 ∙ ap Some (same_value f.0.value v f.2))
 
-  -- where none is found, no item has the value
+  -- if none is found, no item has the value
   pub value_missing : (table : List (Item V)) (v : V) → position (λ (i : Item V). eq i.value v) table ≡ None → ¬ Contains (values table) v
   value_missing table v none (k, within, is) =
       let i = at_item table k v (slice_get-get_or (values table) k v within ∙ ap Some is) in
@@ -90,7 +90,7 @@ module _ {V : Type 0} (eq : V → V → Bool) (laws : IsEquivalence eq) (e : Enu
       let differ = (across (Differ eq) e.root (added e) distinct k l i.0 j.0 i.1 j.1).value in
       false≢true (sym differ ∙ (ap (λ u. eq u j.0.value) i.2 ∙ (ap (eq v) j.2 ∙ laws.refl v)))
 
-  -- where `label` is what tells two items apart: their number, or their name
+  -- `label` tells two items apart: it is their number, or their name
   module _ {N : Type 0} (label : Item V → N) (same : N → N → Bool) (decides : (m n : N) → Decides (same m n) (m ≡ n))
       (differ : AllPairs (λ i j. label i ≢ label j) (items e)) (default wanted : N) where
     -- the label of a value

@@ -47,7 +47,7 @@ module _ {V : Type 0} (e : Enumeration V) (p : Label → Bool) (root additions :
       of_line None = refl
       of_line (Some l) = refl
 
-  -- what the line that is found says, the label says
+  -- the line that is found agrees with the label
   pub part_found : {X : Type 0} (part : Label → X) → option_map (λ (l : EnumerationItem V). part (label_of (line_item l))) line ≡ option_map part (find p (all_labels (labels_of e)))
   part_found part = by line ∙ ap (option_map part) label_found
     where

@@ -16,7 +16,7 @@ find-map {X = X} {Y = Y} p f (x ∷ xs) = by (p (f x)) (find-map p f xs)
     by true h = refl
     by false h = h
 
--- what is found is in the list, and passes the test
+-- an element that is found is in the list, and passes the test
 pub found : {X : Type 0} (p : X → Bool) (xs : List X) (x : X) → find p xs ≡ Some x → Contains xs x × (p x ≡ true)
 found p [] x e = absurd (none-some x e)
 found {X = X} p (y ∷ ys) x e = by (p y) refl (found p ys x) e
@@ -40,7 +40,7 @@ find_only {X = X} p (y ∷ ys) x apart (k, within, is) passes =
     by false first rest zero within is = absurd (false≢true (sym first ∙ (ap p is ∙ passes)))
     by false first rest (suc k) within is = rest (k, omega arith, is)
 
--- what holds of each two elements of two lists holds of one of the first and one of the second
+-- a relation between any two elements of two lists holds of one of the first and one of the second
 pub across : {X : Type 0} (R : X → X → Type 0) (xs ys : List X) → AllPairs R (xs ++ ys) → (i j : ℕ) (x y : X) → slice_get xs i ≡ Some x →
     slice_get ys j ≡ Some y → R x y
 across {X = X} R xs ys pairs i j x y at_i at_j =

@@ -67,7 +67,7 @@ abbrev pub choice_holding_itself : {V : Type 0} (name : List ℕ)
 choice_holding_itself name alternatives_with means pick agree =
     choice_by_meanings name (alternatives_with_itself name alternatives_with means) pick means agree
 
--- what the alternative that is the CHOICE itself, under this tag, says of a value, by what the CHOICE says of it
+-- the meaning of a value as the alternative that is the CHOICE itself under this tag, by its meaning in the CHOICE
 abbrev pub itself_under : List ℕ → Table Line → Tag → ValueMeaning → ValueMeaning
 itself_under name table t meaning = record meaning {
   records = choice_records (first_tag meaning.records) table meaning.records unconstrained (Some name) t
@@ -76,9 +76,9 @@ itself_under name table t meaning = record meaning {
       unconstrained (Some name) (meaning.well_formed accepts valid);
 }
 
--- The law of a CHOICE type: its meaning is that of its alternatives. Its tags are theirs, and each value is there, and is
--- what was chosen; it is well tagged if and only if they have distinct tags and can be chosen; and what a value has, and
--- whether it is valid, the chosen alternative says.
+-- The law of a CHOICE type: its meaning is that of its alternatives. Its tags are theirs. Each value is there, and has the
+-- records of the chosen alternative, which also decides whether it meets its invariant and whether it is valid. The type is
+-- well tagged if and only if the alternatives have distinct tags and can be chosen.
 pub record AgreesWithChoice {V : Type 0} (alts : Alternatives) (pick : V → OneOf (all_of alts)) (m : Meaning V) : Type 0 where
   pub tag : m.tag ≡ CHOICE
   pub tree : (t : Tag) → m.tree t ≡ choice_tree (choice (trees_of (all_of alts))) t

@@ -49,7 +49,7 @@ none_has t (a ∷ alts) can no_leaf = (
   none_has t alts can.1 (λ leaf. no_leaf (Contains-append_right (leaves a.type.tree) (leaves_of (trees_of alts)) t leaf)),
 )
 
--- where they have distinct tags, no other alternative has the chosen tag
+-- if they have distinct tags, no other alternative has the chosen tag
 pub others_lack : (alts : List Alternative) → HaveDistinctTags alts → Each CanBeChosen alts → (x : OneOf alts) → Each (LacksTag (chosen_tag alts x)) (others alts x)
 others_lack [] apart can x = absurd x
 others_lack (a ∷ alts) apart can (inl w) =

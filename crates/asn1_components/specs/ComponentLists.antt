@@ -50,7 +50,7 @@ abbrev pub EachMayBeAbsent : {V : Type 0} → List (ComponentType V) → Type 0
 EachMayBeAbsent [] = ⊤
 EachMayBeAbsent (c ∷ cs) = IsTrue (may_be_absent c.presence) × EachMayBeAbsent cs
 
--- each can be on this side
+-- each can be on this side of the extension marker
 abbrev pub EachCanBeOn : {V : Type 0} → Side → List (ComponentType V) → Type 0
 EachCanBeOn side [] = ⊤
 EachCanBeOn side (c ∷ cs) = c.CanBeOn side × EachCanBeOn side cs

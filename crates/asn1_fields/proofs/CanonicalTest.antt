@@ -69,7 +69,7 @@ module _ {X : Type 0} (seen : X → Component) where
       (some_not_in_order (y ∷ xs) k (omega arith)
       (λ d. subst (λ z. false ≡ in_order (seen (get_or (y ∷ xs) k d)) (seen z)) (ap (λ n. get_or (x ∷ (y ∷ xs)) n d) (add-one (suc k)) ∙ sym (ap (λ n. get_or (y ∷ xs) n d) (add-one k))) (h d)))
 
-  -- what all neighbours answer is what the test answers
+  -- the test passes if and only if all neighbours are in order
   pub canonical-seen : (xs : List X) (answer : Bool) → IsAllAdjacentAnswer (λ x y b. b ≡ in_order (seen x) (seen y)) xs answer → answer ≡ canonical (map seen xs)
   canonical-seen xs true h = sym (all_in_order xs h)
   canonical-seen xs false h = sym (some_not_in_order xs h.0 h.1 h.2)

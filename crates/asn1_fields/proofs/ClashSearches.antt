@@ -11,7 +11,7 @@ use Rattle.asn1_fields.specs.DistinctTags.{first_clash, rivals, share_tag, up_to
 use Rattle.asn1_fields.specs.Entries.{Component, component_of, components, entries, entry_of, may_be_absent}
 use Rattle.asn1_fields.specs.declared.field.Field.{Field}
 
--- what the first of the fields that is always there answers
+-- the search for the first field that is always there
 abbrev pub is_required : Field → Bool
 is_required f = not (may_be_absent f.presence)
 
@@ -65,7 +65,7 @@ shifted-shifted m n (Some p) =
     let second : p.1 + n + m ≡ p.1 + (m + n) = omega arith in
     λ i. Some (first i, second i)
 
--- what is found among all fields is what is found from an index on
+-- the search among all fields continues from an index on
 abbrev pub IsLeft : (Component → List Component → List Component) → List Field → ℕ → Type 0
 IsLeft others fs i = first_clash others (components fs) ≡ shifted i (first_clash others (components (drop i fs)))
 
@@ -73,7 +73,7 @@ module _ (others : Component → List Component → List Component) (fs : List F
   pub search_ends : (i : ℕ) → length fs ≤ i → IsLeft others fs i → first_clash others (components fs) ≡ None
   search_ends i past left = left ∙ ap (λ gs. shifted i (first_clash others (components gs))) (drop_all i fs past)
 
-  -- what is found at an index, or after it
+  -- the pair that is found at an index, or after it
   at_index : ℕ → Option ℕ → Option (ℕ × ℕ)
   at_index i o = option_or (option_map (λ j. (0, j + 1)) o) (shifted 1 (first_clash others (components (drop (i + 1) fs))))
 

@@ -8,7 +8,7 @@ use Rattle.asn1_fields.specs.declared.field.Field.{Field}
 use Rattle.asn1_fields.specs.declared.presence.FieldPresence.{FieldPresence}
 use Rattle.asn1_fields.specs.declared.presence.FieldPresence.TheVariants.{Required, Optional, Default}
 
--- what may not be absent is required
+-- a field that may not be absent is required
 Required-from_test : (p : FieldPresence) → not (may_be_absent p) ≡ true → p ≡ Required
 Required-from_test Required h = refl
 Required-from_test Optional h = absurd (false≢true h)

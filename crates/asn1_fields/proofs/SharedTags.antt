@@ -61,7 +61,7 @@ test-from_ShareTag s t h = by_cases (open_or_leaf s h.tag h.of_first) (open_or_l
         or_right (is_open s || is_open t) common
         (have_common_tag-from_HaveCommonTag (leaves s) (leaves t) (record { tag = h.tag; in_first = e; in_second = f }))
 
--- what tells whether two lists have a tag in common is `have_common_tag`
+-- a test that decides whether two lists have a tag in common equals `have_common_tag`
 pub have_common_tag-is : (ts us : List Tag) (b : Bool) → (IsTrue b → HaveCommonTag ts us) → (HaveCommonTag ts us → IsTrue b) → b ≡ have_common_tag ts us
 have_common_tag-is ts us true f g = sym (have_common_tag-from_HaveCommonTag ts us (f refl))
 have_common_tag-is ts us false f g = by_test (have_common_tag ts us) refl

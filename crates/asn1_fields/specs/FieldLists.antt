@@ -28,6 +28,6 @@ fields_left it = iter_rest it.left
 abbrev pub optional_left : OptionalFieldIter → List Field
 optional_left it = optional_fields (iter_rest it.left)
 
--- what one over the names has left
+-- the names left in an iterator over the names
 abbrev pub names_left : IdentifierIter → List (List ℕ)
 names_left it = names_of (iter_rest it.left)

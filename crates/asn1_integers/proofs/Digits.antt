@@ -22,12 +22,12 @@ magnitude-take_le bytes i =
 
 -- ---- the order of magnitudes
 
--- what was read before the bytes counts for as much as its place is worth
+-- the number before the bytes counts by its place value
 number_after_worth : (n : ℕ) (ds : List ℕ) → n * 256 ^ length ds ≤ number_from_digits_after 256 n ds
 number_after_worth n [] = omega arith
 number_after_worth n (d ∷ ds) = rw pow-suc (omega (arith, number_after_worth (n * 256 + d) ds))
 
--- what was read before decides, where as many bytes follow
+-- the numbers before decide if equally many bytes follow
 number_after_less : (m n : ℕ) (xs ys : List ℕ) → AllBelowBase 256 xs → length xs ≡ length ys → m < n → number_from_digits_after 256 m xs < number_from_digits_after 256 n ys
 number_after_less m n xs ys below as_long less =
     let upper = number_after_lt 256 m xs below in
@@ -35,7 +35,7 @@ number_after_less m n xs ys below as_long less =
     let lower : n * 256 ^ length xs ≤ number_from_digits_after 256 n ys = rw as_long (number_after_worth n ys) in
     omega arith
 
--- what an order says of two numbers of bytes
+-- the order of two numbers by their bytes
 abbrev Ranks : Ordering → ℕ → List ℕ → ℕ → List ℕ → Type 0
 Ranks o m xs n ys = MatchOrdering o (number_from_digits_after 256 m xs < number_from_digits_after 256 n ys) (xs ≡ ys) (number_from_digits_after 256 n ys < number_from_digits_after 256 m xs)
 

@@ -23,7 +23,7 @@ unsigned_abs-signed false n = refl
 unsigned_abs-signed true zero = refl
 unsigned_abs-signed true (suc n) = refl
 
--- what does not fit lies beyond what does
+-- a number that does not fit lies beyond each that does
 pub beyond : (z : ℤ) (m : ℕ) → (m < 2 ^ 127 → FitsSigned w128 z) → ¬ FitsSigned w128 z → 2 ^ 127 ≤ m
 beyond z m near wide = ⊎_elim (λ small. absurd (wide (near small))) (λ far. far) (cases_lt m (2 ^ 127))
 

@@ -30,7 +30,7 @@ picked : (b alone : Bool) (A B C : Tags) → (b && alone) ≡ false → (alone �
 picked true alone A B C h f = f h
 picked false alone A B C h f = refl
 
--- what follows a record that is no mark is not seen
+-- records after one that is no mark do not matter
 pub first_stays : (rs rest : List Record) → presence_marks_alone rs ≡ false → first_tags (rs ++ rest) ≡ first_tags rs
 first_stays [] rest h = cc
 first_stays (r ∷ rs) rest h = picked (is_presence_mark r) (presence_marks_alone rs) (first_tags (rs ++ rest)) (first_tags rs) (record_tags r) h (first_stays rs rest)

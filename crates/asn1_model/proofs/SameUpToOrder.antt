@@ -107,7 +107,7 @@ held_carried rs qs ss moved all =
       moved = subst (λ l. IsPermutation l (listed ss)) (sym (listed-held h.between)) h.moved;
     }
 
--- what is the same as the same
+-- sameness is transitive
 mutual
   pub SameRecord-trans : {r s t : Record} → SameRecord r s → SameRecord s t → SameRecord r t
   SameRecord-trans (equal r) q = q
@@ -238,5 +238,5 @@ pub same_as_none : (qs : List Record) → SameAll (held qs) (held []) → qs ≡
 same_as_none [] all = refl
 same_as_none (q ∷ qs) all = elim all [ ]
 
--- what a law of sameness is proved with
+-- the lemmas for the laws of sameness
 pub ruleset sameness = (equal, SameRecord-sym, SameRecord-trans, SameAll-refl, SameAll-sym, SameAll-trans)

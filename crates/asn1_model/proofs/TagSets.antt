@@ -20,7 +20,7 @@ lies_every : (a : Tags) → LiesIn a every
 lies_every every = tt
 lies_every (among ts) = λ t h. tt
 
--- what shares no tag with a set shares none with what lies in it
+-- a set that shares no tag with another shares none with its subsets
 pub apart_within : (a b c : Tags) → ShareNone a c → LiesIn b c → ShareNone a b
 apart_within a b c apart lies = λ t of_a of_b. apart t of_a (lies_has b c lies t of_b)
 

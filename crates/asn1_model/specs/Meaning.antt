@@ -17,23 +17,22 @@ pub record Meaning (V : Type 0) : Type 1 where
   pub tree : Tag → Tree
   -- the type is a CHOICE
   pub is_choice : Bool
-  -- the value is there, as each is that is no option
+  -- whether the value is there, as each is but an option without one
   pub is_present : V → Bool
   -- the records of a value under a tag, constraints and a name
   pub records : V → Tag → ConstraintSet → Name → List Record
-  -- each value is a single record: so for every type but an option, which may be absent, a type without any content, and
-  -- what holds one of these and means the same
+  -- each value is a single record. This holds of every type but an option, which may be absent, a type without any
+  -- content, and a wrapper of one of these
   pub IsSingleRecord : Type 0
   -- the type can be written under this tag; where it has components or alternatives, these have distinct tags (X.680,
   -- 25.6, 27.3 and 29.3); and the types inside it are well tagged
   pub HasDistinctTags : Tag → Type 0
-  -- the value meets its type's invariant, as every value does that a program can make: its numbers are within
+  -- the value meets its type's invariant, as every value of a program does: its numbers are within
   -- the range of their types, its strings have the units of their kinds (a UTF8String the bytes of a text), its arrays
   -- are as long as they say
   pub IsOfType : V → Type 0
-  -- what is asked of whoever writes the value: each open type in it holds one value of the codec, which tells by a test
-  -- the byte strings that it takes as one; each group that is there writes a component; and each INTEGER with limits is
-  -- within them
+  -- the value is valid, which a writer has to ensure: each open type in it holds one value of the codec, by the codec's
+  -- test of byte strings; each group that is there writes a component; and each INTEGER with limits is within them
   pub IsValid : (List ℕ → Bool) → V → Type 0
   -- The law of types: where each value is a single record and the type's tags are distinct, that record is no presence mark,
   -- and begins with one of the type's tags.

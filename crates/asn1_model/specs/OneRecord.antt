@@ -32,7 +32,7 @@ scope_is_one t head inside at = record {
   within = subst (λ u. LiesIn (only u) (only t)) (sym (own_tag t head at)) (λ _ h. h);
 }
 
--- what is in a list of one tag is that tag
+-- the only element of a list of one tag is that tag
 pub alone_in : (t u : Tag) → Contains (t ∷ []) u → t ≡ u
 alone_in t u (zero, below, same) = same
 alone_in t u (suc k, below, same) = absurd (omega arith)

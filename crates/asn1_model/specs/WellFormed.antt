@@ -36,7 +36,7 @@ well_formed_append accepts [] ss first later = later
 well_formed_append accepts (r ∷ rs) ss first later =
     (first.0, well_formed_append accepts rs ss first.1 later)
 
--- what is no alternative has no tag of what is inside
+-- a head that is no alternative has no tag of the contents
 no_alternative : (u : Tag) (head : Head) (rs : List Record) → HasOwnTag u head → HoldsItsTag head rs
 no_alternative u (sequence t table n) rs own = tt
 no_alternative u (set t table n) rs own = tt

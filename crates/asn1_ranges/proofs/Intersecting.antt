@@ -33,7 +33,7 @@ module _ {T : Type 0} (number : T → ℤ) where
   member-ends (bounded.Single v) n = grind (arith, ints)
   member-ends (bounded.Range start end) n = (λ h. h, λ h. h)
 
-  -- where the bound between two ends is to be a single, both are there, and the end is not above the start
+  -- if the bound between two ends is to be a single, both are there, and the end is not above the start
   abbrev pub IsTight : Bool → Option T → Option T → Type 0
   IsTight single s e = single ≡ true → IsSomeAnd s (λ x. IsSomeAnd e (λ y. number y ≤ℤ number x))
 
@@ -149,7 +149,7 @@ module _ {T : Type 0} (number : T → ℤ) where
   intersection-disjoint (bounded.Range s e) (bounded.Single w) = common-disjoint (bounded.Range s e) (bounded.Single w)
   intersection-disjoint (bounded.Range s e) (bounded.Range s' e') = common-disjoint (bounded.Range s e) (bounded.Range s' e')
 
-  -- where neither side is inverted, an intersection has a member
+  -- if neither side is inverted, an intersection has a member
   pub intersection-inhabited : (a b : Bounded T) → IsOrdered number a → IsOrdered number b → IfSome (intersection number a b) (λ both. (n : ℤ) × IsMember number both n)
   intersection-inhabited bounded.None b p q = ordered-inhabited b q
   intersection-inhabited (bounded.Single v) bounded.None p q = ordered-inhabited (bounded.Single v) p
@@ -190,7 +190,7 @@ module _ {T : Type 0} (number : T → ℤ) where
     single-intersection v (bounded.Single w) h = single-common v (bounded.Single w) h
     single-intersection v (bounded.Range s e) h = single-common v (bounded.Range s e) h
 
-  -- what follows of an answer that is the intersection
+  -- consequences of an answer that is the intersection
   pub record IsCommon (a b : Bounded T) (answer : Option (Bounded T)) : Type 0 where
     pub members : IfSome answer (λ both. (n : ℤ) → IsMember number both n ↔ (IsMember number a n × IsMember number b n))
     pub disjoint : IfNone answer ((n : ℤ) → IsMember number a n → IsMember number b n → ⊥)
@@ -206,13 +206,13 @@ module _ {T : Type 0} (number : T → ℤ) where
         single = λ v is held. rw is (single-intersection distinct v b held);
       })
 
-  -- what no bound on the right leaves
+  -- the intersection with no bound on the right
   pub intersection-None : (a b : Bounded T) → b ≡ bounded.None → Some a ≡ intersection number a b
   intersection-None bounded.None b e = rw e refl
   intersection-None (bounded.Single v) b e = rw e refl
   intersection-None (bounded.Range start end) b e = rw e refl
 
-  -- what two bounds leave that both restrict
+  -- the intersection of two bounds that both restrict
   pub intersection-common : (a b : Bounded T) → (a ≡ bounded.None → ⊥) → (b ≡ bounded.None → ⊥) → common number a b ≡ intersection number a b
   intersection-common bounded.None b p q = absurd (p refl)
   intersection-common (bounded.Single v) bounded.None p q = absurd (q refl)

@@ -73,7 +73,7 @@ module _ {T : Type 0} (number : T → ℤ) where
     intersection-comm (bounded.Range s e) (bounded.Single w) = common-comm (bounded.Range s e) (bounded.Single w)
     intersection-comm (bounded.Range s e) (bounded.Range s' e') = common-comm (bounded.Range s e) (bounded.Range s' e')
 
-    -- what takes the place of no intersection: the range from x to a lesser y
+    -- the bound in place of no intersection: the range from x to a lesser y
     module _ (x y : T) (inverted : number y <ℤ number x) where
       abbrev empty : Bounded T
       empty = bounded.Range (Some x) (Some y)

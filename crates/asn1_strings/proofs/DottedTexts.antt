@@ -34,7 +34,7 @@ all_ascii_digits-is (b ∷ bs) = ap (λ rest. is_ascii_digit b && rest) (all_asc
 
 -- ---- one arc
 
--- what the tests of a text answer, where it is an arc
+-- the tests of a text that is an arc
 arc_of-tests : (empty digits leads fits : Bool) (n arc : ℕ) → cond empty (Err Empty) (cond (not digits) (Err NotADigit) (cond leads (Err LeadingZero) (cond fits (Ok n) (Err TooGreat)))) ≡ Ok arc → (empty ≡ false) × (digits ≡ true) × (leads ≡ false) × (fits ≡ true) × (n ≡ arc)
 arc_of-tests true digits leads fits n arc e = absurd cc
 arc_of-tests false false leads fits n arc e = absurd cc
@@ -69,7 +69,7 @@ has_leading_zero-decimal : (arc : ℕ) → arc < 2 ^ 32 → has_leading_zero (de
 has_leading_zero-decimal zero small = has_leading_zero-one (decimal 0) (ap length (decimal_digit 0 (omega arith)))
 has_leading_zero-decimal (suc arc) small = has_leading_zero-above (decimal (suc arc)) (first_decimal (suc arc) (omega arith) (omega arith))
 
--- what is written of an arc is read as that arc
+-- the text of an arc is read as that arc
 pub arc_of-decimal : (arc : ℕ) → arc < 2 ^ 32 → arc_of (decimal arc) ≡ Ok arc
 arc_of-decimal arc small =
     let some = decimal_nonempty arc (omega arith) in
@@ -77,7 +77,7 @@ arc_of-decimal arc small =
     let value = digits_value-decimal digit_texts arc (omega arith) in
     arc_of-passed _ _ _ _ _ (grind (arith, nat_tests)) digits (has_leading_zero-decimal arc small) (rw value (grind (arith, nat_tests))) ∙ ap Ok value
 
--- what `parse` answers of digits
+-- the answer of `parse` for digits
 pub arc_of_digits-parsed : {E : Type 0} (digits : List ℕ) (r : Result ℕ E) → ParsesUnsigned 32 10 digits r → 0 < length digits → all_ascii_digits digits ≡ true → MatchResult r (λ arc. Ok arc ≡ arc_of_digits digits) (λ _. Err TooGreat ≡ arc_of_digits digits)
 arc_of_digits-parsed {E = E} digits r parsed some all = by r (parse_digits digit_texts 32 digits r parsed all)
   where
@@ -117,7 +117,7 @@ arcs_after-decimals done (arc ∷ arcs) small =
     let fits = All-head (λ a. a < 2 ^ 32) arc arcs small in
     ap (λ r. after_arc r (length done) (λ a. arcs_after (done ++ a ∷ []) (map decimal arcs))) (arc_of-decimal arc fits) ∙ arcs_after-decimals (done ++ arc ∷ []) arcs (All-tail (λ a. a < 2 ^ 32) arc arcs small) ∙ ap Ok (append_assoc done (arc ∷ []) arcs)
 
--- what is written of arcs is read as these arcs
+-- the text of arcs is read as these arcs
 pub arcs_of-dotted : (arcs : List ℕ) → 0 < length arcs → All (λ a. a < 2 ^ 32) arcs → arcs_of (dotted arcs) ≡ Ok arcs
 arcs_of-dotted [] some small = absurd (omega arith)
 arcs_of-dotted (arc ∷ arcs) some small = ap (arcs_after []) (split-dotted arc arcs small) ∙ arcs_after-decimals [] (arc ∷ arcs) small

@@ -29,7 +29,7 @@ arc_of text =
     (if not (all_ascii_digits text) then Err NotADigit else
     (if has_leading_zero text then Err LeadingZero else arc_of_digits text))
 
--- what follows an arc; of a text that is none, its index and why
+-- the text after an arc; for a text that is none, its index and the reason
 abbrev pub after_arc : Result ℕ ArcError → ℕ → (ℕ → Result (List ℕ) ObjectIdentifierError) → Result (List ℕ) ObjectIdentifierError
 after_arc (Ok arc) index next = next arc
 after_arc (Err why) index next = Err (Arc index why)

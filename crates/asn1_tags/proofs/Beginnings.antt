@@ -4,7 +4,7 @@ use Rattle.asn1_tags.specs.Tags.{has}
 use Rattle.asn1_tags.proofs.TagListTests.{Contains-from_has, has-from_Contains}
 use Rattle.asn1_tags.specs.declared.tags.Tag.{Tag}
 
--- where the test finds the tag and no choice of nothing, it is a leaf
+-- if the test finds the tag and no choice of nothing, it is a leaf
 pub leaf-from_begins : (wide : Bool) (t : Tag) (ts : List Tag) → (wide || has t ts) ≡ true → wide ≡ false → Contains ts t
 leaf-from_begins false t ts found shut = Contains-from_has t ts found
 leaf-from_begins true t ts found shut = cc

@@ -22,7 +22,7 @@ use Rattle.asn1_tags.specs.declared.tags.Tag.{Tag}
 pub entry_total : IsTotalOrder entry_cmp
 entry_total = then_total (on_total (λ e. e.0) tag_total) (on_total (λ e. e.1) nat_cmp_total)
 
--- what an entry that fits says: that its tag is at its position
+-- the tag of an entry that fits is at its position
 pub tag_from_fit : (tags : List Tag) (table : List Entry) (i : ℕ) (d : Entry) → i < length table → EntryFits tags table i →
     slice_get tags (get_or table i d).1 ≡ Some (get_or table i d).0
 tag_from_fit tags table i d lt fit = subst (λ o. IfSome o (λ e. slice_get tags e.1 ≡ Some e.0)) (slice_get-get_or table i d lt) fit.has_tag
@@ -170,5 +170,5 @@ pub tag_at_position : (tags : List Tag) (table : List Entry) → TableFits tags 
     get_or tags (get_or table i d).1 t ≡ (get_or table i d).0
 tag_at_position tags table fits i d t lt = get_or_from_slice_get tags (get_or table i d).1 (get_or table i d).0 t (tag_from_fit tags table i d lt (fits.each_fits i lt))
 
--- what tests of an entry say
+-- the tests of an entry
 pub ruleset entries = (tag_from_fit, less_from_fit_at, first_fits, next_fits_at)

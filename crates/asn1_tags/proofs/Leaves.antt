@@ -257,7 +257,7 @@ pub ruleset beginnings = (shape-Leaf, shape-Choice, is_nothing-shapes, begins_mo
 -- steps of the walk that looks for a choice of nothing
 pub ruleset openings = (shape-Leaf, shape-Choice, is_nothing-shapes, is_any_open_more, is_any_open_at)
 
--- what a tree is, by its cases
+-- the shape of a tree, by its cases
 pub ruleset tree_shapes = (shape-Leaf, shape-Choice)
 
 -- steps of walks that look and count

@@ -19,7 +19,7 @@ position-map p f xs =
     let index : ℕ → ℕ → Option ℕ = λ m n. cond (nat_lt m n) (Some m) None in
     ap (λ m. index m (length (map f xs))) (prefix_len-map (λ y. not (p y)) f xs) ∙ ap (index at) (length-map xs f)
 
--- what an index that is found says
+-- facts about an index that is found
 pub position-found : {X : Type 0} (p : X → Bool) (xs : List X) (i : ℕ) (d : X) → position p xs ≡ Some i →
     (x : X) × (slice_get xs i ≡ Some x) × (p x ≡ true) × ((k : ℕ) (y : X) → k < i → slice_get xs k ≡ Some y → p y ≡ false)
 position-found p xs i d e =
@@ -37,7 +37,7 @@ position-missing p xs k y e at =
     let within = slice_get_within xs k y at in
     subst (λ x. p x ≡ false) (get_or_from_slice_get xs k y y at) (fails_before_first p xs k y (omega arith))
 
--- what is at an index is in the list
+-- an element at an index is in the list
 pub Contains-from_slice_get : {X : Type 0} (xs : List X) (i : ℕ) (x : X) → slice_get xs i ≡ Some x → Contains xs x
 Contains-from_slice_get xs i x at = (i, slice_get_within xs i x at, get_or_from_slice_get xs i x x at)
 

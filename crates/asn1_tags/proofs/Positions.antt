@@ -120,7 +120,7 @@ slice_get-position t ts h =
     let within = some_there q ts h in
     slice_get-get_or ts (position_or_len q ts) t within ∙ ap Some (tag_eq-true (get_or ts (position_or_len q ts) t) t (passes_at_first q ts t within))
 
--- where each tag occurs once, an index is the first index of its tag
+-- if each tag occurs once, an index is the first index of its tag
 pub position_of-unique : (t : Tag) (ts : List Tag) (k : ℕ) → AllPairs (λ s u. s ≢ u) ts → slice_get ts k ≡ Some t → position_of t ts ≡ Some k
 position_of-unique t ts k apart e =
     let q : Tag → Bool = λ s. tag_eq s t in
@@ -141,7 +141,7 @@ pub IsTagAfter-is : (ts : List Tag) (k : ℕ) (r : Result Tag ℕ) → IsTagAfte
 IsTagAfter-is ts k (Ok t) h = sym (slice_get-get_or ts k t h.0 ∙ ap Some (sym h.1))
 IsTagAfter-is ts k (Err left) h = sym (slice_get_past ts k (omega arith))
 
--- what is at an index has that first index, where each tag occurs once
+-- the tag at an index has that first index, if each tag occurs once
 pub position_of-slice_get : (ts : List Tag) (k : ℕ) (r : Option Tag) → r ≡ slice_get ts k → AllPairs (λ s u. s ≢ u) ts →
     IfSome r (λ t. position_of t ts ≡ Some k)
 position_of-slice_get ts k None e apart = tt

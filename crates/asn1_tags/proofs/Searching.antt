@@ -75,7 +75,7 @@ not_tag_eq s t ne = by_test (tag_eq s t) refl
         let same : s ≡ t = tag_eq-true s t e in
         absurd (false≢true (sym ne ∙ ap is_eq (subst (λ x. tag_cmp s x ≡ Equal) same (tied_itself tag_total s))))
 
--- what comes before an entry has a tag that is no greater
+-- an earlier entry has a tag that is no greater
 not_after : (o p : Ordering) → ordering_then o p ≡ Less → is_gt o ≡ false
 not_after Less p e = refl
 not_after Equal p e = refl
@@ -343,5 +343,5 @@ pub few_from_fits : (tags : List Tag) (table : List Entry) (count : ℕ) → Tab
     count ≤ length tags
 few_from_fits tags table count fits few = omega (arith, few, digits_within (length table), fits.same_length)
 
--- what a search of a table that fits says of the list
+-- the result for the list of a search of a table that fits
 pub ruleset searches = (sorted_fits, position_from_fits, few_from_fits)

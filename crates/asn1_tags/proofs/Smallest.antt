@@ -28,7 +28,7 @@ IsAtMost-antisym s t (inl p) (inr q) = absurd (omega arith)
 IsAtMost-antisym s t (inr p) (inl q) = absurd (omega arith)
 IsAtMost-antisym s t (inr p) (inr q) = same_tag s t p.0 (omega arith)
 
--- what comes before is at most
+-- a lesser tag is at most the other
 pub IsAtMost-from_less : (s t : Tag) → is_lt (tag_cmp s t) ≡ true → IsAtMost s t
 IsAtMost-from_less s t h = by_class (nat_lt (class_number s.class) (class_number t.class)) refl
   where
@@ -52,7 +52,7 @@ lesser-cases s t = by_test (is_lt (tag_cmp t s)) refl
     by_test true e = inl (IsAtMost-from_less t s e, ap (λ b. cond b t s) e)
     by_test false e = inr (IsAtMost-from_not_less t s e, ap (λ b. cond b t s) e)
 
--- what is at most the tag is at most all that the tag is at most
+-- the order of tags is transitive
 All-IsAtMost : (s t : Tag) (ts : List Tag) → IsAtMost s t → All (IsAtMost t) ts → All (IsAtMost s) ts
 All-IsAtMost s t ts h all k d within = IsAtMost-trans s t (get_or ts k d) h (all k d within)
 

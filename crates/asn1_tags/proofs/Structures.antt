@@ -26,7 +26,7 @@ structures_more ts us i d e lt lu =
 nat_cmp-suc : (m n : ℕ) → nat_cmp (suc m) (suc n) ≡ nat_cmp m n
 nat_cmp-suc m n = grind (arith, nat_tests, common_steps)
 
--- where one list ends, the lengths decide
+-- if one list ends, the lengths decide
 pub structures_end : (ts us : List TagTree) (i : ℕ) → i ≡ min (length ts) (length us) →
     structures_cmp (shapes (drop i ts)) (shapes (drop i us)) ≡ nat_cmp (length ts) (length us)
 structures_end [] [] zero e = refl

@@ -29,7 +29,7 @@ Contains-from_has t ts h =
 pub has-from_Contains : (t : Tag) (ts : List Tag) → Contains ts t → has t ts ≡ true
 has-from_Contains t ts c = list_any_at (λ s. tag_eq s t) ts c.0 t c.1 (subst (λ s. tag_eq s t ≡ true) (sym c.2) (tag_eq-refl t))
 
--- where the test finds no tag twice, any two indices have two tags
+-- if the test finds no tag twice, any two indices have two tags
 pub AllPairs-from_distinct : (ts : List Tag) → distinct ts ≡ true → AllPairs (λ s t. s ≢ t) ts
 AllPairs-from_distinct [] h i j d lt within = absurd (omega arith)
 AllPairs-from_distinct (t ∷ ts) h zero zero d lt within = absurd (omega arith)
@@ -71,7 +71,7 @@ have_common_tag-from_HaveCommonTag ts us c =
     list_any_at (λ t. has t us) ts in_first.0 c.tag in_first.1
     (subst (λ t. has t us ≡ true) (sym in_first.2) (has-from_Contains c.tag us c.in_second))
 
--- where the test finds no tag twice in two lists that follow one another, it finds none in the second
+-- if the test finds no tag twice in two lists that follow one another, it finds none in the second
 pub distinct-after : (ts us : List Tag) → distinct (ts ++ us) ≡ true → distinct us ≡ true
 distinct-after [] us h = h
 distinct-after (t ∷ ts) us h = distinct-after ts us (and_parts (not (has t (ts ++ us))) (distinct (ts ++ us)) h).1

@@ -110,7 +110,7 @@ tree_cmp-refl t = tied_itself tree_cmp-total t
 pub tree_total : IsTotalOrder (on shape tree_cmp)
 tree_total = on_total shape tree_cmp-total
 
--- what has the same structure is equivalent
+-- trees of the same structure are equivalent
 pub structure_equiv : IsEquivalence (eq_by_cmp (on shape structure_cmp))
 structure_equiv = eq_by_cmp_equiv (on_total shape structure_total)
 

@@ -65,7 +65,7 @@ pub record IsSmallest (ts : List Tag) (t : Tag) : Type 0 where
   pub least : All (IsAtMost t) ts
   pub none : ts ≡ [] → t ≡ greatest
 
--- what `{}` writes of a class
+-- the text of a class
 abbrev pub class_text : Class → List ℕ
 class_text Universal = codes "universal"
 class_text Application = codes "application"
@@ -79,6 +79,6 @@ class_name Application = codes "Application"
 class_name Context = codes "Context"
 class_name Private = codes "Private"
 
--- what `{}` writes of a tag, as in `Context 0`
+-- the text of a tag, as in `Context 0`
 abbrev pub tag_text : Tag → List ℕ
 tag_text t = class_name t.class ++ codes " " ++ decimal t.value

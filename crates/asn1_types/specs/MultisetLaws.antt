@@ -57,7 +57,7 @@ module _ {T : Type 0} (eq : T → T → Bool) where
       (lt-ltb 0 (count_of eq z xs) (one_at_least z o others equal.0 (as_many z)))
       (found_by xs zs others (λ y. no_fewer y o others (as_many y)) equal.1)
 
-  -- where there are as many of each, and some, counting says so
+  -- if there are equally many of each, and some, counting agrees
   all_counted : (zs xs ys : List T) → all_found zs xs ≡ true → ((z : T) → count_of eq z xs ≡ count_of eq z ys) →
       list_all (occurs_as_often eq xs ys) zs ≡ true
   all_counted [] xs ys found h = refl
@@ -84,7 +84,7 @@ module _ {T : Type 0} (eq : T → T → Bool) where
       both_true found.0 (found_of zs xs ys parts.1)
 
 module _ {T : Type 0} {eq : T → T → Bool} (laws : IsPartialEquivalence eq) where
-  -- what is equal to one of two equal elements is equal to the other, and what is equal to any is equal to itself
+  -- an element that equals one of two equal elements equals the other, and one that equals any equals itself
   one_if-equal : (z x y : T) → eq x y ≡ true → one_if eq z x ≡ one_if eq z y
   one_if-equal z x y e = ap (λ b. cond b 1 0) (laws.symm z x ∙ per_alike laws x y z e ∙ laws.symm y z)
 
@@ -137,7 +137,7 @@ module _ {T : Type 0} {eq : T → T → Bool} (laws : IsPartialEquivalence eq) w
     equal : eq x element ≡ true
     rearranged : IsPermutation (element ∷ others) ys
 
-  -- where there is one, one can be taken
+  -- if there is one, one can be taken
   take_one : (x : T) (ys : List T) → nat_lt 0 (count_of eq x ys) ≡ true → Taken x ys
   take_one x [] found = absurd (false≢true found)
   take_one x (y ∷ ys) found = by_test (eq x y) refl (take_one x ys)
@@ -201,7 +201,7 @@ module _ {T : Type 0} {eq : T → T → Bool} (laws : IsPartialEquivalence eq) w
       (lt-ltb 0 (count_of eq x ys)
       (one_at_least eq x x xs kept.0 (subst (λ n. count_of eq x (x ∷ xs) ≤ n) as_many (le_refl (count_of eq x (x ∷ xs))))))
 
-  -- what was taken in front of others with the same elements
+  -- an element taken in front of others with the same elements
   one_more : {x : T} {xs ys : List T} (one : Taken x ys) → ((taken : Taken x ys) → SameElements eq xs taken.others) → SameElements eq (x ∷ xs) ys
   one_more {ys = ys} one rest =
       let others = rest one in
@@ -214,7 +214,7 @@ module _ {T : Type 0} {eq : T → T → Bool} (laws : IsPartialEquivalence eq) w
         equal = both_true one.equal others.equal;
       }
 
-  -- where each element of the first list is as often in the second, which is as long, they have the same elements
+  -- if each element of the first list is as often in the second, which is as long, they have the same elements
   same_where_kept : (xs ys : List T) → length xs ≡ length ys → all_kept xs xs ys ≡ true → SameElements eq xs ys
   same_where_kept [] [] l h = record { order = []; rearranged = IsPermutation-refl []; equal = refl }
   same_where_kept [] (y ∷ ys) l h = absurd (suc-ne-zero (length ys) (sym l))

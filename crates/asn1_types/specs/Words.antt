@@ -15,7 +15,7 @@ pub use Rattle.asn1_components.specs.EnumerationLaws.{by_test}
 pub use Rattle.asn1_components.specs.Enumerations.{item, closed as closed_enumeration, extensible as extensible_enumeration}
 pub use Rattle.asn1_components.specs.Labels.{labels_of}
 pub use Rattle.asn1_components.specs.EnumerationTypes.{enumeration_type, enumeration_agrees}
--- what a type means: that it is well tagged, and the records of a value
+-- the meaning of a type: whether it is well tagged, and the records of a value
 pub use Rattle.asn1_model.specs.Meaning.{IsWellTagged, IsWellTaggedUnder, own_records}
 pub use Rattle.asn1_model.specs.Records.{holding, scalar, open_type, presence_mark, null, boolean, number, discriminant, arcs, bits, units, octet, utf8, visible, general, graphic, ia5, printable, numeric, teletex, bmp}
 pub use Rattle.asn1_model.specs.Records.{sequence as sequence_head, set as set_head, sequence_of, set_of, explicit_tag, alternative as alternative_head}

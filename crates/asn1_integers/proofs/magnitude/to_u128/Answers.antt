@@ -3,7 +3,7 @@ use Rattle.std.proofs.lemmas.Int.Digits.{number_more}
 use Rattle.asn1_integers.proofs.Digits.{magnitude-take_le}
 use Rattle.asn1_integers.proofs.magnitude.to_u128.Goals as goal
 
--- what was read so far does not fit with one more byte, so the whole does not
+-- the number so far does not fit with one more byte, so the whole does not
 pub returns-in_err-number : goal.returns-in_err-number
 returns-in_err-number c =
     let bytes = c.args.bytes.now in
