@@ -1,4 +1,4 @@
--- What the author of a type writes: the words that say what the type means, and the steps of a reader's proof, from one place.
+-- The words for authors of types: the meaning of a type, and the steps of a reader's proof.
 
 -- tags, and types under tags (X.680, 31)
 pub use Rattle.asn1_types.specs.Words.{universal, application, context, private, untagged, tagged, explicitly_tagged, explicitly_tagged_as}
@@ -6,7 +6,7 @@ pub use Rattle.asn1_types.specs.Words.{universal, application, context, private,
 pub use Rattle.asn1_types.specs.Words.{required, optional, with_default, addition, addition_with_default}
 pub use Rattle.asn1_types.specs.Words.{lines, group, sequence, extensible_sequence, set, extensible_set}
 -- the same, each with the slot into which it is read
-pub use Rattle.asn1_slots.specs.Slots.{required_slot, optional_slot, default_slot, default_slot_by, is_empty_list, addition_slot, addition_with_default_slot, addition_with_default_slot_by, group_slot}
+pub use Rattle.asn1_slots.specs.Slots.{required_slot, optional_slot, default_slot, empty_list_slot, addition_slot, addition_with_default_slot, addition_with_empty_list_slot, group_slot}
 pub use Rattle.asn1_slots.specs.Slots.{sequence_of_slots, extensible_sequence_after, set_of_slots, extensible_set_after, slots_agree}
 -- the type of a component under constraints of its own
 pub use Rattle.asn1_slots.specs.Taggings.{under_constraints}

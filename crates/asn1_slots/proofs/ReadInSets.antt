@@ -9,9 +9,10 @@ use Rattle.asn1_components.specs.ComponentTypes.{ComponentType}
 use Rattle.asn1_components.specs.Following.{AllApart}
 use Rattle.asn1_laws.proofs.ReadingSets.{ComponentComes, PartsRead, Through, comes, comes_at, filled, further, start, through}
 use Rattle.asn1_laws.proofs.SetRecords.{at_most_one, records}
-use Rattle.asn1_laws.specs.Reading.{Advances, HasAdvanced, IsNextTag, Outside, Reader, ReadsBack, marks_passed, records_in}
+use Rattle.asn1_laws.specs.Reading.{Advances, HasAdvanced, IsNextTag, MayFail, Outside, Reader, ReadsBack, marks_passed, records_in}
 use Rattle.asn1_laws.specs.SetParts.{CanBeginWith, EachIsOneRecord, parts_at, unmarked, written_of}
 use Rattle.asn1_laws.specs.declared.decode_error.DecodeError.{DecodeError}
+use Rattle.asn1_laws.specs.declared.decode_error.DecodeError.TheVariants.{Depth, Memory}
 use Rattle.asn1_model.specs.Records.{Record, highest}
 use Rattle.asn1_tags.specs.declared.tags.Tag.{Tag}
 use Rattle.asn1_slots.specs.Slots.{AllAreKept, AreEmpty, AreSlotsOf, HoldBefore, IsKept, OthersAreKept, ReadsOnceAt, Slot, has_no_group}
@@ -136,6 +137,12 @@ module _ {S V : Type 0} where
   reads_at R (c ∷ cs) (h ∷ hs) all single (suc j) old new before after result reads empty v rest outer can of_type valid some =
       let singles = and_parts h.is_single (has_no_group hs) single in
       reads_at R cs hs all.1 singles.1 j old new before after result reads empty v rest outer can.1 of_type.1 valid.1 some
+
+-- an answer in the place of an error, which is the error where memory or depth was not enough
+pub same_failure : {depth height : ℕ} {error answer : DecodeError} → (error ≡ Memory → answer ≡ Memory) → (error ≡ Depth → answer ≡ Depth) →
+    MayFail depth height error → MayFail depth height answer
+same_failure memory depth (inl is) = inl (memory is)
+same_failure memory depth (inr is) = inr (depth is.0, is.1)
 
 module _ {D S V : Type 0} (R : Reader D) (cs : List (ComponentType V)) (hs : List (Slot S V)) (v : V) where
   -- Some components were read into their slots, and others are left. The records of all are so high.

@@ -163,8 +163,8 @@ module _ {S V W : Type 0} (name : List ℕ) where
   addition_slot = optional_slot_in in_additions
 
   -- of one with a default, on this side: where the slot is empty, the value passes the test for it
-  abbrev default_slot_by_in : Side → (V → W) → (W → Bool) → (S → Option W) → TaggedType W → (W → W → Bool) → Slot S V
-  default_slot_by_in side get test slot type eq = record {
+  abbrev default_slot_in : Side → (V → W) → (W → Bool) → (S → Option W) → TaggedType W → (W → W → Bool) → Slot S V
+  default_slot_in side get test slot type eq = record {
     component = default_in side name get (λ v. test (get v)) type;
     is_single = true;
     IsEmpty = λ s. slot s ≡ None;
@@ -188,20 +188,13 @@ module _ {S V W : Type 0} (name : List ℕ) where
         (written_default type can side (test (get v)) (get v)) empty none);
   }
 
-  -- of the root, and of the additions
-  abbrev pub default_slot_by : (V → W) → (W → Bool) → (S → Option W) → TaggedType W → (W → W → Bool) → Slot S V
-  default_slot_by = default_slot_by_in in_root
-
-  abbrev pub addition_with_default_slot_by : (V → W) → (W → Bool) → (S → Option W) → TaggedType W → (W → W → Bool) → Slot S V
-  addition_with_default_slot_by = default_slot_by_in in_additions
-
-  -- of one default value
+  -- of one default value, in the root and among the additions
   abbrev pub default_slot : (V → W) → W → (S → Option W) → TaggedType W → (W → W → Bool) → Slot S V
-  default_slot get default_value slot type eq = default_slot_by get (λ w. eq w default_value) slot type eq
+  default_slot get default_value slot type eq = default_slot_in in_root get (λ w. eq w default_value) slot type eq
 
   abbrev pub addition_with_default_slot : (V → W) → W → (S → Option W) → TaggedType W → (W → W → Bool) → Slot S V
   addition_with_default_slot get default_value slot type eq =
-      addition_with_default_slot_by get (λ w. eq w default_value) slot type eq
+      default_slot_in in_additions get (λ w. eq w default_value) slot type eq
 
   -- of a group of additions, which is in no SET that is read into slots
   abbrev pub group_slot : (V → Option W) → (S → Option W) → Components W → (W → W → Bool) → Slot S V
@@ -219,6 +212,18 @@ module _ {S V W : Type 0} (name : List ℕ) where
     reads_once = λ R old new before after result wrong. no_group wrong;
     is_absent = λ wrong. no_group wrong;
   }
+
+module _ {S V T A : Type 0} (name : List ℕ) where
+  -- The slot of a list whose default is the empty list (DEFAULT {}), in the root and among the
+  -- additions, by the equality of the elements and of the lists.
+  abbrev pub empty_list_slot : (V → Vec T A) → (S → Option (Vec T A)) → TaggedType (Vec T A) → (T → T → Bool) →
+      (Vec T A → Vec T A → Bool) → Slot S V
+  empty_list_slot get slot type element_eq eq = default_slot_in name in_root get (is_empty_list element_eq) slot type eq
+
+  abbrev pub addition_with_empty_list_slot : (V → Vec T A) → (S → Option (Vec T A)) → TaggedType (Vec T A) →
+      (T → T → Bool) → (Vec T A → Vec T A → Bool) → Slot S V
+  addition_with_empty_list_slot get slot type element_eq eq =
+      default_slot_in name in_additions get (is_empty_list element_eq) slot type eq
 
 module _ {S V : Type 0} where
   -- the components of the slots

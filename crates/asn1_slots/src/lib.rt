@@ -28,9 +28,8 @@
 //! What the contracts promise, and the words that they use:
 //!
 //! - A component and its slot are a `Slot` (`specs/Slots.antt`). Words for each kind of component make one: `required_slot`,
-//!   `optional_slot`, `default_slot`, `addition_slot`, `addition_with_default_slot` and `group_slot`; `default_slot_by` and
-//!   `addition_with_default_slot_by` take a test in place of the default value, as `is_empty_list`. Of the list of these are
-//!   made the components of the type, by `sequence_of_slots`, `set_of_slots`, and with an extension marker by
+//!   `optional_slot`, `default_slot`, `empty_list_slot` (`DEFAULT {}`), `addition_slot`, `addition_with_default_slot`,
+//!   `addition_with_empty_list_slot` and `group_slot`. The list of these makes the components of the type, by `sequence_of_slots`, `set_of_slots`, and with an extension marker by
 //!   `extensible_sequence_after` and `extensible_set_after`.
 //! - A call that reads a component into its slot reads what the component's records are: then the slot holds an equal value
 //!   (`Fills`, `FillsOptional`, `FillsGroup` of `specs/Filling.antt`). In a SET the slot was empty before, or the component has

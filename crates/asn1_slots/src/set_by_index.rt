@@ -1,6 +1,7 @@
 //! SET types that are read by index.
 ghost use Rattle.asn1_laws.specs.Reading.{KeepsDepth, NeedsDepth, ReadsValue};
 ghost use Rattle.asn1_laws.specs.ReadingTypes.{ReadsComponents};
+ghost use Rattle.asn1_laws.specs.declared.decode_error.DecodeError.TheVariants.{Depth, Memory};
 ghost use Rattle.asn1_components.specs.Components.{is_set};
 ghost use Rattle.asn1_model.specs.ConstraintSets.{ConstraintSet};
 ghost use Rattle.asn1_slots.specs.Slots.{AreEmpty, IsLayoutOf, MakesValueOfSlots, OthersAreKept, ReadsOnceAt, ReadsSlotsLeft, RefusesMissing, Slot, has_no_group};
@@ -65,11 +66,55 @@ fn read_slots<S: DecodeSetByIndex + FieldTable, D: Decoder>(
         };
         match S::decode_field(index, &mut slots, decoder) {
             Ok(()) => {}
-            Err(error) => return Err(decoder.refuse(error)),
+            Err(error) => return Err(refuse_component::<S, D>(decoder, count, bound, error)),
         }
     }
     let _ = decoder.next_component::<S>()?;
     Ok(slots)
+}
+
+/// Reads the components that are left in a SET from a component that came before, and closes the SET. Their values are dropped.
+fn read_rest<S: DecodeSetByIndex + FieldTable, D: Decoder>(
+    decoder: &mut D,
+    first: usize,
+    bound: usize,
+) -> Result<(), DecodeError> {
+    for count in first..bound {
+        let tag = match decoder.next_component::<S>()? {
+            Some(tag) => tag,
+            None => return decoder.close(),
+        };
+        let index = match component_with_tag::<S>(tag) {
+            Some(index) => index,
+            None => return Err(DecodeError::UnknownField { index: count, tag }),
+        };
+        let mut slots = S::Slots::default();
+        S::decode_field(index, &mut slots, decoder)?;
+    }
+    decoder.close()
+}
+
+/// The error of a component that was not read. Where it came before, the rest of the SET is read first, so that an error in the rest
+/// is the answer: also that bytes are left which no component takes, as where a component of no bytes came again.
+#[cold]
+#[inline(never)]
+fn refuse_component<S: DecodeSetByIndex + FieldTable, D: Decoder>(
+    decoder: &mut D,
+    count: usize,
+    bound: usize,
+    error: DecodeError,
+) -> DecodeError
+    ensures memory { error ≡ Memory → result ≡ Memory }
+    ensures depth { error ≡ Depth → result ≡ Depth }
+    ensures has_failed { D.reader.failed decoder.new ≡ true }
+{
+    match error {
+        DecodeError::DuplicateField(_) => match read_rest::<S, D>(decoder, count, bound) {
+            Ok(()) | Err(DecodeError::Failed) => decoder.refuse(error),
+            Err(other) => decoder.refuse(other),
+        },
+        _ => decoder.refuse(error),
+    }
 }
 
 /// A SET under a tag.

@@ -12,7 +12,7 @@
 //! EmployeeNumber ::= [APPLICATION 2] IMPLICIT INTEGER
 //! ```
 ghost use Rattle.std.specs.Prelude.{[], codes, refl, ◌∷◌, ◌≡◌, List, Bool, ℕ};
-ghost use Rattle.asn1_slots.specs.Slots.{default_slot_by, is_empty_list, required_slot, set_of_slots};
+ghost use Rattle.asn1_slots.specs.Slots.{empty_list_slot, required_slot, set_of_slots};
 ghost use Rattle.asn1_types.specs.Words.{IsWellTagged, application, constructed_agrees, constructed_type_under, context, explicitly_tagged, number, tagged, untagged};
 
 use crate::personnel::{ChildInformation, Date, Name};
@@ -97,9 +97,9 @@ impl DecodeSetByIndex for PersonnelRecord {
         (explicitly_tagged (context 1) ⟦<Date as AsnType>⟧.meaning) ⟦<Date as PartialEq>⟧.eq ∷
         required_slot (codes "nameOfSpouse") (λ v. v.name_of_spouse) (λ s. s.4)
         (explicitly_tagged (context 2) ⟦<Name as AsnType>⟧.meaning) ⟦<Name as PartialEq>⟧.eq ∷
-        default_slot_by (codes "children") (λ v. v.children)
-        (is_empty_list ⟦<ChildInformation as PartialEq>⟧.eq) (λ s. s.5)
-        (tagged (context 3) ⟦<Children as AsnType>⟧.meaning) ⟦<Children as PartialEq>⟧.eq ∷ [] };
+        empty_list_slot (codes "children") (λ v. v.children) (λ s. s.5)
+        (tagged (context 3) ⟦<Children as AsnType>⟧.meaning) ⟦<ChildInformation as PartialEq>⟧.eq
+        ⟦<Children as PartialEq>⟧.eq ∷ [] };
 
     fn from_slots(alloc: Global, slots: Self::Slots) -> Result<PersonnelRecord, DecodeError> {
         Ok(PersonnelRecord {

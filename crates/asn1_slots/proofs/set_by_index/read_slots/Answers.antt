@@ -7,7 +7,7 @@ use Rattle.asn1_model.specs.Records.{set}
 use Rattle.asn1_laws.proofs.ReadingSteps.{fails_below}
 use Rattle.asn1_laws.proofs.SetRecords.{records}
 use Rattle.asn1_laws.proofs.ReadingSets.{comes, not_told}
-use Rattle.asn1_slots.proofs.ReadInSets.{as_many_as_can, begin, comes_next, none_is_left, one_more, reads}
+use Rattle.asn1_slots.proofs.ReadInSets.{as_many_as_can, begin, comes_next, none_is_left, one_more, reads, same_failure}
 use Rattle.asn1_slots.proofs.set_by_index.read_slots.Goals as goal
 
 pub loop-count-init : goal.loop-count-init
@@ -58,7 +58,8 @@ returns-in-Err-clause-read g c = λ all v tag n items rest outer can of_type val
     let a = comes_next R cs g.S.DecodeSetByIndex.layout v all g.met.S.DecodeSetByIndex.no_group can.0 c.next_component.new.self c.in-Some.tag c.in-Some-component_with_tag.index m (set_apart cs can.1.0) c.in-Some-component_with_tag.ensures
     (rw c.in-Some.is at (c.in_ok-tag.ensures.read tag n can (records m.so_far.todo) rest outer)) c.in_ok-tag.ensures.opens_nothing.keeps_depth.same_depth in
     let r = reads R cs g.S.DecodeSetByIndex.layout v all g.met.S.DecodeSetByIndex.no_group can.0 c.decode_field.new.decoder c.decode_field.new.slots _ a of_type valid c.in-Err.ensures.read a.next.at in
-    rw c.refuse-in-Err.ensures.same (fails_below _ _ _ (omega (arith, c.loop-count.invariant.kept, c.in_ok-tag.ensures.opens_nothing.keeps_depth.same_depth)) (omega (arith, a.next.no_deeper)) r)
+    same_failure c.refuse_component.ensures.memory c.refuse_component.ensures.depth
+    (fails_below _ _ _ (omega (arith, c.loop-count.invariant.kept, c.in_ok-tag.ensures.opens_nothing.keeps_depth.same_depth)) (omega (arith, a.next.no_deeper)) r)
 
 pub returns-in_err-next_component-clause-read : goal.returns-in_err-next_component-clause-read
 returns-in_err-next_component-clause-read g c = λ all v tag n items rest outer can of_type valid moved few at.

@@ -21,4 +21,4 @@ pub returns-in-5-clause-kept : goal.returns-in-5-clause-kept
 returns-in-5-clause-kept g c = rw c.in-5.is (λ v. ((λ x. x, λ x. x), ((λ x. x, λ x. x), ((λ x. x, λ x. x), ((λ x. x, λ x. x), ((λ x. x, λ x. x), tt))))))
 
 pub returns-in_default-clause-kept : goal.returns-in_default-clause-kept
-returns-in_default-clause-kept g c = λ v. as_they_were personnel.layout c.args.place c.args.slots.now v
+returns-in_default-clause-kept g c = λ v. as_they_were personnel.layout c.args.index c.args.slots.now v
