@@ -173,11 +173,11 @@ pub found_at : (trees : List TagTree) (tags : List Tag) (t : Tag) (position : �
     Some position ≡ position_of t tags →
     ((u : Tag) → slice_get (leaves_of (shapes trees)) position ≡ Some u → MatchOption answer ⊥ (λ k. BeginsAt (shapes trees) k u)) →
     IsIndexOf t (shapes trees) answer
-found_at trees tags t position answer all at found =
+found_at trees tags t position answer all at begins =
     let found = position-found (λ s. tag_eq s t) tags position t (sym at) in
     let same : found.0 ≡ t = tag_eq-true found.0 t found.2 in
     let there : slice_get (leaves_of (shapes trees)) position ≡ Some t = subst (λ ts. slice_get ts position ≡ Some t) all (found.1 ∙ ap Some same) in
-    is_index answer (found t there)
+    is_index answer (begins t there)
   where
     is_index : (answer : Option ℕ) → MatchOption answer ⊥ (λ k. BeginsAt (shapes trees) k t) → IsIndexOf t (shapes trees) answer
     is_index None wrong = absurd wrong
