@@ -60,10 +60,6 @@ flat-flat_tree (t ∷ ts) e = λ i. flat_tree (leaves-flat_tree (t ∷ ts) e i) 
 pub flat_twice : (c : Component) → flat_component (flat_component c) ≡ flat_component c
 flat_twice c = λ i. record { presence = c.presence; tree = flat-flat_tree (leaves c.tree) (is_open c.tree) i }
 
-pub flat_all_twice : (cs : List Component) → map flat_component (map flat_component cs) ≡ map flat_component cs
-flat_all_twice [] = refl
-flat_all_twice (c ∷ cs) = λ i. flat_twice c i ∷ flat_all_twice cs i
-
 -- a component and its flat one look alike to the rules on tags
 looks-flat : (cs : List Component) → map look_at (map flat_component cs) ≡ map look_at cs
 looks-flat [] = refl

@@ -32,10 +32,6 @@ read_more r mid_r new_r w mid_w new_w mid new bytes before took accepts = record
 pub read_none : (r mid_r new_r w written : Option (List ℕ)) (c : Checker) → ReadUpTo r mid_r w written c → Keeps mid_r new_r → ReadUpTo r new_r w written c
 read_none r mid_r new_r w written c before kept = record { given = before.given; took = Consumes-kept r mid_r new_r before.given before.took kept; taken = before.taken }
 
--- a read failed
-pub read_so_far : (r new_r w written : Option (List ℕ)) (c : Checker) → ReadUpTo r new_r w written c → ReadSoFar r new_r w written
-read_so_far r new_r w written c before = record { given = before.given; took = before.took; text = before.taken.text }
-
 -- the end is met, and the last text is written
 pub read_to_end : (r mid_r new_r w mid_w new_w : Option (List ℕ)) (c : Checker) (understood : Bool) → ReadUpTo r mid_r w mid_w c → Consumes mid_r new_r [] → IsAtEnd new_r →
     Ends mid_w new_w c understood → ReadToEnd r new_r w new_w understood

@@ -93,13 +93,6 @@ not_true : (b : Bool) → (b ≡ true → ⊥) → b ≡ false
 not_true true never = absurd (never refl)
 not_true false never = refl
 
--- what comes before the first line feed, and after it
-pub no_feed_before : (bytes : List ℕ) (k : ℕ) → IsFirstByte (is_byte 10) bytes (Some k) → HasNoFeed (take k bytes)
-no_feed_before bytes k found = λ j d lt.
-    let short = length-take k bytes in
-    let before : j < k = omega arith in
-    ap (λ byte. byte == 10) (get_or-take k bytes j d before ∙ get_or_default bytes j d 0 (omega arith)) ∙ not_true (get_or bytes j 0 == 10) (found.0.before j (omega arith) before)
-
 at_feed : (bytes : List ℕ) (k : ℕ) → IsFirstByte (is_byte 10) bytes (Some k) → bytes ≡ take k bytes ++ 10 ∷ drop (k + 1) bytes
 at_feed bytes k found =
     let within = found.0.high in
@@ -121,14 +114,6 @@ takes_both : {xs ys : List ℕ} {u v w : Option (List ℕ)} {a b c : Checker} �
 takes_both {xs} {ys} {u} {v} {w} {a} {b} {c} first second = record {
   after = λ given before taken.
       subst (λ all. HasTaken all before w c) (append_assoc given xs ys) (second.after (given ++ xs) before (first.after given before taken));
-}
-
--- none is yet
-pub nothing_taken : (bytes : List ℕ) (written : Option (List ℕ)) (checker : Checker) → TakenSoFar bytes bytes written written checker checker
-nothing_taken bytes written checker = record {
-  front = [];
-  parts = refl;
-  accepts = record { after = λ given before taken. subst (λ all. HasTaken all before written checker) (sym (append-nil given)) taken };
 }
 
 -- the rest of a slice from an offset on

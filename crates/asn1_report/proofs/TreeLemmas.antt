@@ -23,14 +23,6 @@ is_any_open-join none us = refl
 is_any_open-join (more t ts) us =
     ap (λ rest. is_open t || rest) (is_any_open-join ts us) ∙ sym (or_assoc (is_open t) (is_any_open ts) (is_any_open us))
 
-join_assoc : (ts us vs : Trees) → join (join ts us) vs ≡ join ts (join us vs)
-join_assoc none us vs = refl
-join_assoc (more t ts) us vs = ap (more t) (join_assoc ts us vs)
-
-join-none : (ts : Trees) → join ts none ≡ ts
-join-none none = refl
-join-none (more t ts) = ap (more t) (join-none ts)
-
 -- what is kept of several trees was added to what was kept before
 pub record AddsAll (old new : FlatTree) (trees : Trees) : Type 0 where
   pub tags : new.tags.items ≡ old.tags.items ++ leaves_of trees

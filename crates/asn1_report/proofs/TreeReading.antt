@@ -83,28 +83,6 @@ too_deep depth text inside is_zero opens (leaf tag) rest begins =
     tag_no_bracket tag.class 40 (decimal tag.value ++ rest) inside (omega arith) (sym begins.spelled ∙ opens)
 too_deep depth text inside is_zero opens (choice trees) rest begins = absurd (omega (arith, begins.shallow))
 
--- a text that begins with no bracket and no tag begins with no tree
-pub no_tag_no_tree : (depth : ℕ) (text : List ℕ) → ((inside : List ℕ) → text ≡ 40 ∷ inside → ⊥) → ((tag : Tag) (left : List ℕ) → ¬ BeginsWithTree 0 text (leaf tag) left) →
-    BeginsWithNoTree depth text
-no_tag_no_tree depth text no_bracket no_tag (leaf tag) rest begins =
-    no_tag tag rest (record { spelled = begins.spelled; shallow = omega arith; small = begins.small; whole = begins.whole })
-no_tag_no_tree depth text no_bracket no_tag (choice trees) rest begins = no_bracket ((spelling_of trees ++ 41 ∷ []) ++ rest) begins.spelled
-
--- a tag that was read is a tree
-pub tag_read : (depth : ℕ) (text left : List ℕ) (tag : Tag) (old new : FlatTree) → BeginsWithTree 0 text (leaf tag) left → Adds old new (leaf tag) → ReadsTree depth text left old new
-tag_read depth text left tag old new begins added = record {
-  tree = leaf tag;
-  begins = record { spelled = begins.spelled; shallow = omega arith; small = begins.small; whole = begins.whole };
-  added = added;
-}
-
--- a choice of nothing
-pub nothing_read : (depth : ℕ) (left : List ℕ) (old new : FlatTree) → Adds old new (choice none) → ReadsChoice depth (41 ∷ left) left old new
-nothing_read depth left old new added = record {
-  trees = none;
-  begins = record { spelled = refl; shallow = omega arith; small = All-nil HasSmallNumber };
-  added = added;
-}
 
 -- the texts of trees, with a space after each
 abbrev spelling_before : Trees → List ℕ

@@ -54,13 +54,3 @@ whole_read true depth text [] old new is reads =
 whole_read true depth text (byte ∷ bytes) old new is reads = let none_left : ◌≡◌ {A = ℕ} (length (byte ∷ bytes)) 0 = eqb-true (length (byte ∷ bytes)) 0 (sym is) in absurd (omega arith)
 whole_read false depth text [] old new is reads = absurd (false≢true is)
 whole_read false depth text (byte ∷ bytes) old new is reads = no_tree_with_more depth text reads.tree byte bytes reads.begins
-
--- what an empty flat tree is, once a tree was added to it
-pub tree_added : (found : Option Tree) (old new kept : FlatTree) → old.tags.items ≡ [] → old.has_empty_choice ≡ false → IsSomeAnd found (Adds old new) → kept ≡ new →
-    Some (tree_view kept) ≡ option_map flat found
-tree_added None old new kept no_tags no_choice added same = absurd added
-tree_added (Some tree) old new kept no_tags no_choice added same =
-    ap (λ tree. Some (tree_view tree)) same
-    ∙ λ i. Some
-    (flat_tree ((added.tags ∙ ap (λ front. front ++ leaves tree) no_tags) i)
-    ((added.empty_choice ∙ ap (λ front. front || is_open tree) no_choice) i))
