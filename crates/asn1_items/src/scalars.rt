@@ -4,7 +4,6 @@ ghost use Rattle.asn1_items.specs.Items.{HoldsContent, IsItemOf, IsLong};
 ghost use Rattle.asn1_items.specs.Numbers.{Appended, IsInteger};
 ghost use Rattle.asn1_items.specs.declared.error.BufferError.TheVariants.{Memory};
 ghost use Rattle.asn1_model.specs.Records as model;
-ghost use Rattle.asn1_types.specs.AnyStrings.{content_of_str};
 ghost use Rattle.asn1_values.specs.Numbers.{IsShortest, magnitude, signed};
 ghost use Rattle.std.specs.Prelude.{◌≡◌, ◌≢◌, ◌↔◌, ◌<ℤ◌, ◌≤◌, ◌^◌, ◌∷◌, [], IfErr, IfOk, IsTrue, ℤ, length, pos, unsigned_abs};
 
@@ -44,26 +43,10 @@ pub(crate) fn push_item(
             ContentKind::Discriminant,
             number as i128,
         ),
-        Content::Arcs(_) => push_measured(bytes, alloc, tag, content),
-        Content::String(string) => push_string(bytes, alloc, tag, string),
-    }
-}
-
-/// Appends an item of a string.
-#[inline(always)]
-fn push_string(
-    bytes: &mut Vec<u8>,
-    alloc: Global,
-    tag: Tag,
-    string: AnyStr<'_>,
-) -> Result<(), BufferError>
-    ensures appended { IfOk result (λ _.
-        Appended (IsItemOf tag (content_of_str string.entry)) bytes.old.items bytes.new.items) }
-    ensures too_long { IfErr result (λ e. e ≢ Memory → IsLong (content_of_str string.entry)) }
-{
-    match string {
-        AnyStr::Octets(kind, octets) => push_sized(bytes, tag, kind_of_octets(kind), octets),
-        _ => push_measured(bytes, alloc, tag, Content::String(string)),
+        Content::String(AnyStr::Octets(kind, octets)) => {
+            push_sized(bytes, tag, kind_of_octets(kind), octets)
+        }
+        Content::Arcs(_) | Content::String(_) => push_measured(bytes, alloc, tag, content),
     }
 }
 
