@@ -1,9 +1,9 @@
 //! Bytes that are appended to a stream in pieces, and blocks that are taken from it.
 use crate::blocks::BlockReader;
+use crate::request::Request;
 use asn1_rules::{Iter, iter_of};
 use std::alloc::{AllocError, Global};
 use std::io;
-use test_calls::Request;
 
 /// Appends bytes in pieces, and prints how many blocks were taken.
 pub(crate) fn run(rt: &impl Print, alloc: Global, request: Request<'_>) -> io::Result<()> {

@@ -1,11 +1,11 @@
 //! The codecs that are measured.
 use crate::lists;
+use crate::request::Request;
 use asn1_bench::BenchRules;
 use asn1_der::DerRules;
 use asn1_tagform::TagRules;
 use std::alloc::Global;
 use std::io;
-use test_calls::Request;
 
 /// Does what is asked for with each codec of which it is asked.
 pub(crate) fn run(rt: &impl Print, alloc: Global, request: Request<'_>) -> io::Result<()> {

@@ -1,13 +1,13 @@
 //! Lists that are written and read over and over.
 use crate::numbered::{Numbered, list};
+use crate::request::Request;
 use asn1_dec::Decode;
 use asn1_enc::Encode;
 use asn1_rules::Rules;
 use asn1_samples::{Badge, Person, Profile};
 use std::alloc::Global;
 use std::io;
-use test_calls::samples::node_chain;
-use test_calls::{Failure, Request};
+use test_calls::{Failure, node_chain};
 
 /// Makes what is asked for, and writes or reads it over and over.
 pub(crate) fn run<R: Rules<Output = Vec<u8>>>(

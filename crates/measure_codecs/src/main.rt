@@ -19,9 +19,10 @@ mod blocks;
 mod codecs;
 mod lists;
 mod numbered;
+mod request;
 
+use request::Request;
 use std::{env, io};
-use test_calls::Request;
 
 fn main(rt: HostRuntime) -> io::Result<()> {
     let words: Vec<String> = env::args(&rt)?.skip(1).collect(rt.alloc())?;

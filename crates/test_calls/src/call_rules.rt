@@ -1,8 +1,8 @@
 //! The calls of an encoder and of a decoder, each by itself.
-ghost use Rattle.std.specs.Prelude.{◌≡◌, IsOk, MatchResult, None, Ok, OnOk, Some, true};
+ghost use Rattle.std.specs.Prelude.{◌≡◌, Err, IsOk, MatchResult, None, Ok, OnErr, OnOk, Some, false, true};
+ghost use Rattle.test_calls.specs.declared.failure.Failure.TheVariants.{Another};
 
 use crate::failure::Failure;
-use crate::round_trips::is_same;
 use asn1_dec::{DecodeError, Decoder};
 use asn1_enc::{EncodeError, Encoder};
 use asn1_tags::{Class, Identifier, Tag};
@@ -197,5 +197,36 @@ pub fn answers_none<T: Drop>(answer: Result<Option<T>, DecodeError>) -> Result<(
         Ok(None) => Ok(()),
         Ok(Some(_)) => Err(Failure::Another),
         Err(error) => Err(Failure::of_reading(error)),
+    }
+}
+
+/// Whether two values are equal.
+///
+/// # Errors
+/// [`Failure::Another`] if they are not.
+pub fn is_same<T: PartialEq>(left: &T, right: &T) -> Result<(), Failure>
+    ensures equal { T.eq left.now right.now ≡ true → IsOk result }
+    ensures unequal { T.eq left.now right.now ≡ false → result ≡ Err Another }
+    ensures only { OnOk result (T.eq left.now right.now ≡ true) }
+{
+    if *left == *right {
+        Ok(())
+    } else {
+        Err(Failure::Another)
+    }
+}
+
+/// Whether an error is the expected one.
+///
+/// # Errors
+/// The error, if it is another.
+pub fn is_this(error: DecodeError, expected: DecodeError) -> Result<(), Failure>
+    ensures expected { OnOk result (⟦<DecodeError as PartialEq>⟧.eq error expected ≡ true) }
+    ensures other { OnErr result (⟦<DecodeError as PartialEq>⟧.eq error expected ≡ false) }
+{
+    if error == expected {
+        Ok(())
+    } else {
+        Err(Failure::of_reading(error))
     }
 }

@@ -6,7 +6,7 @@ ghost use Rattle.std.specs.Prelude.{◌≡◌, ◌≢◌, ◌⊎◌, IsOk, OnOk}
 
 use asn1_dec::DecodeError;
 use asn1_enc::EncodeError;
-use asn1_rules::{RecodeError, RoundTripError};
+use asn1_rules::RoundTripError;
 use std::alloc::AllocError;
 
 /// Why a case of a codec fails.
@@ -54,16 +54,6 @@ impl Failure {
         match error {
             RoundTripError::Writing(error) => Failure::of_writing(error),
             RoundTripError::Reading(error) => Failure::of_reading(error),
-        }
-    }
-
-    /// Why a case fails whose value did not go from one codec to another.
-    pub fn of_recoding(error: RecodeError) -> Failure
-        ensures not_another { result ≢ Another }
-    {
-        match error {
-            RecodeError::Read(error) => Failure::of_reading(error),
-            RecodeError::Write(error) => Failure::of_writing(error),
         }
     }
 }

@@ -1,57 +1,28 @@
-//! Assertions on a case, and on the bytes of a value.
-use asn1_dec::{Decode, DecodeError};
-use asn1_der::DerRules;
-use asn1_enc::{Encode, EncodeError};
-use asn1_rules::Rules;
-use std::alloc::Global;
+//! What is asserted of a case and of bytes, and bytes that several tests have.
 use std::process::Abort;
 use test_calls::Failure;
-use test_calls::made::list;
 
-/// The number of scopes that a value may be nested in.
-const DEPTH: usize = 16;
+/// The person Ann, of age 30, in packed form and in the tag form.
+pub(crate) const PERSON: &[u8] = &[
+    0x02, 0x00, 0x00, 0x00, 0x00, 0x10, 0x00, 0x00, 0x00, 0x1b, 0x01, 0x00, 0x00, 0x00, 0x00, 0x02,
+    0x02, 0x00, 0x00, 0x00, 0x02, 0x00, 0x1e, 0x01, 0x00, 0x00, 0x00, 0x00, 0x0c, 0x08, 0x00, 0x00,
+    0x00, 0x03, 0x41, 0x6e, 0x6e,
+];
+
+/// The same person in DER.
+pub(crate) const PERSON_IN_DER: &[u8] = &[0x30, 8, 2, 1, 30, 0x0c, 3, 0x41, 0x6e, 0x6e];
 
 /// Asserts that a case passes.
 pub(crate) fn assert_passes(rt: &impl Abort, case: &str, answer: Result<(), Failure>) {
     assert!(rt; answer.is_ok(), "{case}: {answer:?}");
 }
 
-/// Asserts the bytes that a codec writes of a value.
-pub(crate) fn assert_bytes<R: Rules<Output = Vec<u8>>, T: Encode>(
-    rt: &impl Abort,
-    rules: &R,
-    value: &T,
-    bytes: &[u8],
-) {
-    let written = rules.write_value(value, DEPTH).expect(rt, "memory");
-    assert!(rt; written.as_slice() == bytes);
+/// Asserts that bytes are these.
+pub(crate) fn assert_bytes(rt: &impl Abort, bytes: &[u8], expected: &[u8]) {
+    assert!(rt; bytes == expected);
 }
 
-/// Asserts the DER of a value.
-pub(crate) fn assert_der<T: Encode>(rt: &impl Abort, alloc: Global, value: &T, bytes: &[u8]) {
-    assert_bytes(rt, &DerRules::new(alloc), value, bytes);
-}
-
-/// Asserts that a value has no DER, with this text as the error.
-pub(crate) fn assert_no_der<T: Encode>(
-    rt: &impl Abort,
-    alloc: Global,
-    value: &T,
-    text: &'static str,
-) {
-    match DerRules::new(alloc).write_value(value, DEPTH) {
-        Ok(_) => assert!(rt; false),
-        Err(error) => assert!(rt; error == EncodeError::Custom(text)),
-    }
-}
-
-/// The error of reading bytes that are no value of the type.
-pub(crate) fn read_error<T: Decode, R: Rules<Output = Vec<u8>>>(
-    rt: &impl Abort,
-    alloc: Global,
-    rules: &R,
-    bytes: &[u8],
-) -> Option<DecodeError> {
-    let bytes = list(alloc, bytes).expect(rt, "memory");
-    rules.read_value::<T>(&bytes, DEPTH).err()
+/// Asserts that a condition holds.
+pub(crate) fn assert_that(rt: &impl Abort, condition: bool) {
+    assert!(rt; condition);
 }

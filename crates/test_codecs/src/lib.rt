@@ -1,58 +1,36 @@
-//! Tests of the packed codec and of the tag form: what no contract says, by calls, and the cases of every codec. What bytes say by
-//! themselves is a line of `test_vectors`.
+//! Tests of the codecs over bytes by single calls, each written once and run for the packed codec, the tag form and DER. Values
+//! and their bytes are lines of `test_vectors`; damaged bytes and refused growths are lines of `try_codecs`.
 //!
 //! | Module | What it tries |
 //! |---|---|
-//! | `bytes` | the bytes of worked values that no line of `test_vectors` can have |
-//! | `types` | a value of each type, and what no codec reads |
-//! | `samples` | the sample types, and from one codec to the other |
-//! | `calls` | each call of the encoder and of the decoder |
-//! | `refusals` | bytes that are damaged, begun or told to be long |
-//! | `depth` | how long nested values are, and what is answered where no scope may be opened |
-//! | `streams` | values one after another, out of bytes that come in pieces |
-//! | `failures` | errors of writing, and an encoder after an error |
-//! | `memory`, `no_memory` | memory that runs out |
+//! | `calls` | each call of an encoder and of a decoder (`each_call_comes_back` of `test_calls`) |
+//! | `encoding` | errors of writing, an encoder after an error, and a group without components |
+//! | `decoding` | errors of reading, and a decoder after an error |
+//! | `memory` | memory that a type wants for itself, beside the codec |
+//! | `streams` | values one after another, out of bytes that come byte by byte |
+//! | `recoding` | a value that goes from one codec to another |
+//! | `der_buffers` | what a buffer of DER sorts and rejects |
+//! | `der_decoder` | the order of a SET's elements, presence by the next tag, and long contents |
+//! | `price` | the first type of docs/USING.md, through packed bytes and DER |
 #![tactic(auto)]
 
-#[cfg(test)]
-mod bytes;
 #[cfg(test)]
 mod calls;
 #[cfg(test)]
 mod cases;
 #[cfg(test)]
-mod depth;
+mod decoding;
 #[cfg(test)]
-mod der_memory;
+mod der_buffers;
 #[cfg(test)]
-mod der_streams;
+mod der_decoder;
 #[cfg(test)]
-mod elements;
-#[cfg(test)]
-mod failures;
-#[cfg(test)]
-mod known;
+mod encoding;
 #[cfg(test)]
 mod memory;
 #[cfg(test)]
-mod no_memory;
-#[cfg(test)]
 mod price;
 #[cfg(test)]
-mod reading;
-#[cfg(test)]
-mod refusals;
-#[cfg(test)]
-mod rules;
-#[cfg(test)]
-mod samples;
-#[cfg(test)]
-mod scalars;
-#[cfg(test)]
-mod scopes;
+mod recoding;
 #[cfg(test)]
 mod streams;
-#[cfg(test)]
-mod strict;
-#[cfg(test)]
-mod types;

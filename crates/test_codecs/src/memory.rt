@@ -1,96 +1,110 @@
-//! Memory that runs out: what a type wants for itself, beside the decoder, and any of what a value is written and read with.
+//! Memory that a type wants for itself, beside the codec.
 //!
 //! `rt try --test --fail-alloc N` refuses the Nth growth of each test. All is done twice, so that one of the two has its memory.
-use crate::bytes::{NULL, PLATE, written};
-use crate::cases::assert_passes;
-use asn1_bench::{BenchRules, ItemDecoder, PackedDecoder};
+use crate::cases::{assert_bytes, assert_that};
+use asn1_bench::{ItemBuffer, ItemDecoder, PackedBuffer, PackedDecoder};
+use asn1_buffers::{RecordBuffer, WholeDecoder, write_whole};
 use asn1_dec::{Decode, DecodeError, Decoder};
-use asn1_rules::Rules;
+use asn1_der::{DerBuffer, DerDecoder};
+use asn1_enc::EncodeError;
 use asn1_samples::Plate;
-use asn1_tagform::{NextItem, TagRules};
+use asn1_tagform::NextItem;
 use std::alloc::Global;
 use std::process::Abort;
 use test_calls::made::letters;
-use test_calls::samples::each_sample_passes;
-use test_calls::types::each_type_comes_back;
-use test_calls::{ComesBack, ValueCase, one_passes};
 
-/// Whether a value is read; else memory was short for what the type makes of what was read. The decoder is then after it.
-fn reads_or_passes<T: Decode>(rt: &impl Abort, alloc: Global, records: &[u8]) -> bool {
-    let mut decoder = PackedDecoder::new(alloc, records, 0);
-    let error = T::decode(&mut decoder).err();
+/// The number 7 as an item.
+const SEVEN: &[u8] = &[1, 0, 0, 0, 0, 2, 2, 0, 0, 0, 2, 0, 7];
+
+/// The plate `AB` as an item.
+const PLATE: &[u8] = &[1, 0, 0, 0, 0, 26, 9, 0, 0, 0, 2, 0x41, 0x42];
+
+/// The plate `AB` in DER.
+const PLATE_IN_DER: &[u8] = &[0x1a, 2, 0x41, 0x42];
+
+/// Whether a box of a number is read. A box is made after its content was read; if there is no memory for it, the decoder is after
+/// the content.
+fn reads_box<D: WholeDecoder>(rt: &impl Abort, mut decoder: D) -> bool {
+    let error = Box::<u8>::decode(&mut decoder).err();
     assert!(rt; error == None || error == Some(DecodeError::Memory));
-    assert!(rt; decoder.finish().is_ok());
+    assert!(rt; decoder.end().is_ok());
     error == None
 }
 
-/// Asserts that of two readings one has read all.
-fn assert_read(rt: &impl Abort, first: bool, second: bool) {
-    assert!(rt; first || second);
+fn reads_packed_box(rt: &impl Abort, alloc: Global) -> bool {
+    reads_box(rt, PackedDecoder::new(alloc, SEVEN, 0))
 }
 
-/// A box is made after its content was read: where there is no memory for it, the decoder is after the content.
+fn reads_box_in_der(rt: &impl Abort, alloc: Global) -> bool {
+    reads_box(rt, DerDecoder::new(alloc, &[2, 1, 7], 0))
+}
+
 #[test]
 fn memory_for_a_box_runs_out(rt: HostRuntime) {
-    let records = written(&rt, rt.alloc(), &7u8);
-    let first = reads_or_passes::<Box<u8>>(&rt, rt.alloc(), &records);
-    let second = reads_or_passes::<Box<u8>>(&rt, rt.alloc(), &records);
-    assert_read(&rt, first, second);
+    let first = reads_packed_box(&rt, rt.alloc());
+    assert_that(&rt, first || reads_packed_box(&rt, rt.alloc()));
+    let first = reads_box_in_der(&rt, rt.alloc());
+    assert_that(&rt, first || reads_box_in_der(&rt, rt.alloc()));
 }
 
-/// Whether a value is read; else memory was short. Where it was so for the constraints of the type, the decoder is as it was, and
-/// else it has failed.
-fn reads_or_stays<T: Decode, D: Decoder>(rt: &impl Abort, decoder: &mut D) -> bool {
-    let first = T::decode(decoder).err();
+/// Whether a plate is read. If there is no memory for the constraints of the type, the decoder is as it was, and else it has
+/// failed.
+fn reads_plate<D: Decoder>(rt: &impl Abort, decoder: &mut D) -> bool {
+    let first = Plate::decode(decoder).err();
     if first == None {
         return true;
     }
     assert!(rt; first == Some(DecodeError::Memory));
-    let again = T::decode(decoder).err();
+    let again = Plate::decode(decoder).err();
     assert!(rt; again == None || again == Some(DecodeError::Failed));
     false
 }
 
-fn reads_plate(rt: &impl Abort, alloc: Global) -> bool {
-    reads_or_stays::<Plate, _>(rt, &mut PackedDecoder::new(alloc, PLATE, 0))
+fn reads_packed_plate(rt: &impl Abort, alloc: Global) -> bool {
+    reads_plate(rt, &mut PackedDecoder::new(alloc, PLATE, 0))
 }
 
 fn reads_plate_without_marks(rt: &impl Abort, alloc: Global) -> bool {
-    reads_or_stays::<Plate, _>(rt, &mut ItemDecoder::<NextItem>::new(alloc, PLATE, 0))
+    reads_plate(rt, &mut ItemDecoder::<NextItem>::new(alloc, PLATE, 0))
+}
+
+fn reads_plate_in_der(rt: &impl Abort, alloc: Global) -> bool {
+    reads_plate(rt, &mut DerDecoder::new(alloc, PLATE_IN_DER, 0))
 }
 
 #[test]
-fn memory_for_an_alphabet_runs_out(rt: HostRuntime) {
-    let first = reads_plate(&rt, rt.alloc());
-    assert_read(&rt, first, reads_plate(&rt, rt.alloc()));
-}
-
-#[test]
-fn memory_for_an_alphabet_runs_out_without_presence_marks(rt: HostRuntime) {
+fn memory_to_read_an_alphabet_runs_out(rt: HostRuntime) {
+    let first = reads_packed_plate(&rt, rt.alloc());
+    assert_that(&rt, first || reads_packed_plate(&rt, rt.alloc()));
     let first = reads_plate_without_marks(&rt, rt.alloc());
-    assert_read(&rt, first, reads_plate_without_marks(&rt, rt.alloc()));
+    assert_that(&rt, first || reads_plate_without_marks(&rt, rt.alloc()));
+    let first = reads_plate_in_der(&rt, rt.alloc());
+    assert_that(&rt, first || reads_plate_in_der(&rt, rt.alloc()));
 }
 
-/// Asserts that of two runs of a case over these rules one passes, and the other passes or has no memory.
-fn tells_of_refused_growths<R: Rules>(rt: &impl Abort, alloc: Global, rules: &R) {
-    let case = ComesBack(rules);
-    let first = case.try_made(letters(alloc, b"AB").map(Plate));
-    let second = case.try_made(letters(alloc, b"AB").map(Plate));
-    assert_passes(rt, "plate", one_passes(first, second));
-    let first = each_type_comes_back(rules, alloc, NULL);
-    let second = each_type_comes_back(rules, alloc, NULL);
-    assert_passes(rt, "types", one_passes(first, second));
-    let first = each_sample_passes(&case, alloc, NULL);
-    let second = each_sample_passes(&case, alloc, NULL);
-    assert_passes(rt, "samples", one_passes(first, second));
+/// Whether a plate is written as these bytes. Else memory ran out.
+fn writes_plate<B: RecordBuffer>(rt: &impl Abort, alloc: Global, bytes: &[u8]) -> bool {
+    let Ok(letters) = letters(alloc, b"AB") else {
+        return false;
+    };
+    match write_whole::<B, Plate>(alloc, &Plate(letters), 0) {
+        Ok(written) => assert_bytes(rt, &written, bytes),
+        Err(error) => {
+            assert_that(rt, error == EncodeError::Memory);
+            return false;
+        }
+    }
+    true
+}
+
+fn assert_one_writes_plate<B: RecordBuffer>(rt: &impl Abort, alloc: Global, bytes: &[u8]) {
+    let first = writes_plate::<B>(rt, alloc, bytes);
+    assert_that(rt, first || writes_plate::<B>(rt, alloc, bytes));
 }
 
 #[test]
-fn a_refused_growth_is_told(rt: HostRuntime) {
-    tells_of_refused_growths(&rt, rt.alloc(), &BenchRules::new(rt.alloc()));
-}
-
-#[test]
-fn a_refused_growth_is_told_without_presence_marks(rt: HostRuntime) {
-    tells_of_refused_growths(&rt, rt.alloc(), &TagRules::new(rt.alloc()));
+fn memory_to_write_an_alphabet_runs_out(rt: HostRuntime) {
+    assert_one_writes_plate::<PackedBuffer>(&rt, rt.alloc(), PLATE);
+    assert_one_writes_plate::<ItemBuffer<NextItem>>(&rt, rt.alloc(), PLATE);
+    assert_one_writes_plate::<DerBuffer>(&rt, rt.alloc(), PLATE_IN_DER);
 }

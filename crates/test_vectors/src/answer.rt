@@ -1,9 +1,9 @@
 //! What a codec answers to a request.
-use crate::request::{Action, Request};
 use asn1_dec::{Decode, DecodeError, Needed};
 use asn1_enc::{Encode, EncodeError};
 use std::alloc::Global;
 use std::fmt;
+use test_calls::{Codec, Request, TypeCase, try_named};
 
 /// As many nested scopes as the other codec needs.
 const ENOUGH: usize = usize::MAX;
@@ -23,46 +23,96 @@ pub(crate) enum Answer {
     NoValue(DecodeError),
     /// The other codec does not write the value.
     NotTold(EncodeError),
-    /// There is no type of this name.
-    NoType,
 }
 
-/// The answer to a request for a value of this type.
-pub(crate) fn ask<T: Encode + Decode>(alloc: Global, request: &Request<'_>) -> Answer {
-    match request.action {
-        Action::Read => read::<T>(alloc, request),
-        Action::ReadFront => read_front::<T>(alloc, request),
-        Action::Write => write::<T>(alloc, request),
+/// What is asked of a codec.
+#[derive(Clone, Copy, Drop)]
+enum Action {
+    /// To read a value from all of the bytes.
+    Read,
+    /// To read a value from the front of the bytes.
+    ReadFront,
+    /// To write the value that the other codec reads from the bytes.
+    Write,
+}
+
+impl Action {
+    /// The action of this name.
+    fn of_name(name: &str) -> Option<Action> {
+        match name {
+            "read" => Some(Action::Read),
+            "front" => Some(Action::ReadFront),
+            "write" => Some(Action::Write),
+            _ => None,
+        }
     }
 }
 
-fn read<T: Encode + Decode>(alloc: Global, request: &Request<'_>) -> Answer {
-    let read = request
-        .codec
-        .read::<T>(alloc, &request.bytes, request.depth);
-    match read {
-        Ok(value) => told(request.other.write(alloc, &value, ENOUGH)),
-        Err(error) => Answer::NotRead(error),
+/// A request for a value of some type.
+#[derive(Drop)]
+struct Question<'a> {
+    alloc: Global,
+    request: &'a Request<'a>,
+    action: Action,
+    /// The codec on the other side of the value.
+    other: Codec,
+}
+
+/// The answer to a request, if its words are some that `main` lists.
+pub(crate) fn answer_to(alloc: Global, request: &Request<'_>) -> Option<Answer> {
+    let question = Question {
+        alloc,
+        request,
+        action: Action::of_name(request.action)?,
+        other: Codec::of_name(request.word)?,
+    };
+    try_named(&question, request.type_name)
+}
+
+impl TypeCase for Question<'_> {
+    type Answer = Answer;
+
+    fn try_type<T: Encode + Decode>(&self) -> Answer {
+        match self.action {
+            Action::Read => self.read::<T>(),
+            Action::ReadFront => self.read_front::<T>(),
+            Action::Write => self.write::<T>(),
+        }
     }
 }
 
-fn read_front<T: Encode + Decode>(alloc: Global, request: &Request<'_>) -> Answer {
-    let read = request
-        .codec
-        .read_front::<T>(alloc, &request.bytes, request.depth);
-    match read {
-        Ok((value, length)) => match request.other.write(alloc, &value, ENOUGH) {
-            Ok(written) => Answer::Front { written, length },
-            Err(error) => Answer::NotTold(error),
-        },
-        Err(error) => Answer::NotRead(error),
+impl Question<'_> {
+    fn read<T: Encode + Decode>(&self) -> Answer {
+        let request = self.request;
+        match request
+            .codec
+            .read::<T>(self.alloc, &request.bytes, request.depth)
+        {
+            Ok(value) => told(self.other.write(self.alloc, &value, ENOUGH)),
+            Err(error) => Answer::NotRead(error),
+        }
     }
-}
 
-fn write<T: Encode + Decode>(alloc: Global, request: &Request<'_>) -> Answer {
-    match request.other.read::<T>(alloc, &request.bytes, ENOUGH) {
-        Ok(value) => written(request.codec.write(alloc, &value, request.depth)),
-        Err(error) => Answer::NoValue(error),
+    fn read_front<T: Encode + Decode>(&self) -> Answer {
+        let request = self.request;
+        match request
+            .codec
+            .read_front::<T>(self.alloc, &request.bytes, request.depth)
+        {
+            Ok((value, length)) => match self.other.write(self.alloc, &value, ENOUGH) {
+                Ok(written) => Answer::Front { written, length },
+                Err(error) => Answer::NotTold(error),
+            },
+            Err(error) => Answer::NotRead(error),
+        }
+    }
+
+    fn write<T: Encode + Decode>(&self) -> Answer {
+        let request = self.request;
+        match self.other.read::<T>(self.alloc, &request.bytes, ENOUGH) {
+            Ok(value) => written(request.codec.write(self.alloc, &value, request.depth)),
+            Err(error) => Answer::NoValue(error),
+        }
     }
 }
 
@@ -94,7 +144,6 @@ impl fmt::Display for Answer {
             Answer::NotWritten(error) => write!(f, "not written: {error}"),
             Answer::NoValue(error) => write_refusal(f, "no value", *error),
             Answer::NotTold(error) => write!(f, "a value that is not told: {error}"),
-            Answer::NoType => write!(f, "no such type"),
         }
     }
 }

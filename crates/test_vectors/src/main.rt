@@ -9,7 +9,7 @@
 //! | `CODEC TYPE DEPTH write OTHER BYTES` | which bytes the codec writes of the value whose bytes in the other codec these are |
 //!
 //! `CODEC` and `OTHER` are `packed`, `tag` or `der`; `DEPTH` is how many nested scopes the first of them may open. `TYPE` is one of
-//! the names in `src/types.rt`. `BYTES` are in hexadecimal, with spaces wherever they help. Lines that are empty or begin with `#`
+//! the names in `crates/test_calls/src/named_types.rt`. `BYTES` are in hexadecimal, with spaces wherever they help. Lines that are empty or begin with `#`
 //! are written as they are.
 //!
 //! The stored run is the test. The answers in `stdout` were made by hand or with another tool, and a line
@@ -17,16 +17,11 @@
 #![tactic(auto)]
 
 mod answer;
-mod codec;
-mod context_tag;
-mod hollow;
-mod request;
-mod types;
 
-use request::Request;
+use answer::answer_to;
 use std::alloc::Global;
-use std::io;
-use std::io::{BufRead, BufReader};
+use std::io::{self, BufRead, BufReader};
+use test_calls::Request;
 
 fn main(rt: HostRuntime) -> io::Result<()> {
     let alloc = rt.alloc();
@@ -46,10 +41,21 @@ fn print_answer(rt: &impl Print, alloc: Global, line: &str) -> io::Result<()> {
         None => (line, ""),
     };
     match Request::of_words(alloc, words) {
-        Some(request) => {
-            let answer = types::of_request(alloc, &request);
-            println!(rt; "{words} -> {answer} ; {source}")
-        }
+        Some(request) => print_request(rt, alloc, words, &request, source),
         None => println!(rt; "{words} -> not understood"),
+    }
+}
+
+/// Prints a request, its answer and its source.
+fn print_request(
+    rt: &impl Print,
+    alloc: Global,
+    words: &str,
+    request: &Request<'_>,
+    source: &str,
+) -> io::Result<()> {
+    match answer_to(alloc, request) {
+        Some(answer) => println!(rt; "{words} -> {answer} ; {source}"),
+        None => println!(rt; "{words} -> no such type"),
     }
 }

@@ -1,89 +1,38 @@
 //! Bytes that are damaged, and what is read of them. Undamaged, they are read as the value that was written.
+use crate::report::Report;
 use crate::source::Source;
+use crate::trial::Trial;
 use asn1_dec::Decode;
 use asn1_enc::Encode;
-use asn1_rules::Rules;
 use std::alloc::Global;
-use std::io;
-use test_calls::samples::each_sample_passes;
-use test_calls::{Failure, Request, ValueCase, is_same};
+use test_calls::Failure;
 
-/// How many nested scopes are opened.
-const DEPTH: usize = 16;
+/// How often the bytes are damaged.
+const TRIES: u32 = 300;
 
-/// Damages the bytes of a value of each sample type, by this seed and this many times.
-#[derive(Drop)]
-struct Damage<'a, R> {
-    alloc: Global,
-    rules: &'a R,
+/// Damages the bytes of a value by this seed, and tries what is read of them.
+pub(crate) fn try_damage<T: Encode + Decode>(
+    trial: &Trial<'_>,
+    value: &T,
     seed: u32,
-    tries: u32,
+) -> Result<Report, Failure> {
+    let bytes = trial.written(value)?;
+    trial.is_read(&bytes, value)?;
+    let mut source = Source::new(seed);
+    for _try in 0..TRIES {
+        try_damaged::<T>(trial, &damaged(trial.alloc, &bytes, &mut source)?)?;
+    }
+    Ok(Report::ComesBack)
 }
 
-/// Damages the bytes of a value of each sample type, and prints what became of what was read. `null` is one value of an open type.
-pub(crate) fn run<R: Rules<Output = Vec<u8>>>(
-    rt: &impl Print,
-    alloc: Global,
-    rules: &R,
-    null: &[u8],
-    request: Request<'_>,
-) -> io::Result<()> {
-    let damage = Damage {
-        alloc,
-        rules,
-        seed: request.number(2),
-        tries: request.number(3),
-    };
-    match each_sample_passes(&damage, alloc, null) {
-        Ok(()) => println!(rt; "what was read comes back"),
-        Err(failure) => println!(rt; "{failure:?}"),
-    }
-}
-
-impl<R: Rules<Output = Vec<u8>>> ValueCase for Damage<'_, R> {
-    fn try_value<T: Encode + Decode>(&self, value: T) -> Result<(), Failure> {
-        match self.rules.write_value(&value, DEPTH) {
-            Ok(bytes) => {
-                self.try_same(&bytes, &value)?;
-                self.try_bytes::<T>(&bytes)
-            }
-            Err(error) => Err(Failure::of_writing(error)),
+/// Whether what is read of these bytes comes back, if something is.
+fn try_damaged<T: Encode + Decode>(trial: &Trial<'_>, bytes: &Vec<u8>) -> Result<(), Failure> {
+    match trial.read::<T>(bytes) {
+        Ok(value) => {
+            let again = trial.written(&value)?;
+            trial.is_read(&again, &value)
         }
-    }
-}
-
-impl<R: Rules<Output = Vec<u8>>> Damage<'_, R> {
-    /// Damages these bytes, and tries what is read of them.
-    fn try_bytes<T: Encode + Decode>(&self, bytes: &[u8]) -> Result<(), Failure> {
-        let mut source = Source::new(self.seed);
-        for _try in 0..self.tries {
-            self.try_damaged::<T>(&damaged(self.alloc, bytes, &mut source)?)?;
-        }
-        Ok(())
-    }
-
-    /// Whether what is read of these bytes comes back, if something is.
-    fn try_damaged<T: Encode + Decode>(&self, bytes: &Vec<u8>) -> Result<(), Failure> {
-        match self.rules.read_value::<T>(bytes, DEPTH) {
-            Ok(value) => self.try_back(&value),
-            Err(_) => Ok(()),
-        }
-    }
-
-    /// Whether a value comes back.
-    fn try_back<T: Encode + Decode>(&self, value: &T) -> Result<(), Failure> {
-        match self.rules.write_value(value, DEPTH) {
-            Ok(bytes) => self.try_same(&bytes, value),
-            Err(error) => Err(Failure::of_writing(error)),
-        }
-    }
-
-    /// Whether this value is read of these bytes.
-    fn try_same<T: Decode>(&self, bytes: &Vec<u8>, value: &T) -> Result<(), Failure> {
-        match self.rules.read_value::<T>(bytes, DEPTH) {
-            Ok(back) => is_same(&back, value),
-            Err(error) => Err(Failure::of_reading(error)),
-        }
+        Err(_) => Ok(()),
     }
 }
 

@@ -1,32 +1,72 @@
-//! Tries codecs over bytes, by its arguments. The first word is a codec, `packed`, `tag` or `der`, or `each` for
-//! all of them:
+//! Tries codecs over bytes, by lines that it reads from standard input: `CODEC TYPE DEPTH ACTION WORD BYTES`, where `BYTES` are
+//! those of a value, which the codec writes and reads with at most `DEPTH` nested scopes.
 //!
-//! | Words | What is done | What is written |
+//! | Words | Work | Answer |
 //! |---|---|---|
-//! | `each damage SEED TRIES` | the bytes of a value of each sample type are damaged, this many times, and read | a line for each codec, and one for each damage of which another value comes back |
-//! | `each growths` | a value of each sample type is written and read, and written in a list | a line for each codec: whether all come back, or there was no memory |
-//! | `packed pieces` | the same out of two pieces of packed bytes | such a line |
-//! | `packed nest TYPE LEVELS` | a value that holds itself is made, written, read and dropped | a line after each step |
-//! | `packed drop TYPE LEVELS` | such a value is made and dropped | the same |
+//! | `damage SEED` | the bytes of the value are damaged, 300 times, and read; what is read is written and read again | `comes back` |
+//! | `growths -` | the value is written and read, alone, in a list, and out of two pieces | `comes back`, or `no memory` |
+//! | `pieces -` | two values come out of two pieces, wherever their bytes are cut | `comes back` |
+//! | `begun -` | each beginning of the bytes is read | the number of beginnings that are too short, which all have to be |
+//! | `changed -` | each byte of the bytes is replaced by each byte; what is read has to be written as these bytes | the places at which not one byte alone makes a value, with the number of those bytes |
+//! | `nest LEVELS` | a value that holds itself is made, written, read and dropped | a line after each step |
+//! | `drop LEVELS` | such a value is made and dropped | the same |
 //!
-//! `TYPE` is `node`, `not` or `and` for two kinds of filter, `nested` or `open`.
+//! `CODEC` and `TYPE` are as in `test_vectors`; after `nest` and `drop` the type is `node`, `not` or `and` for two kinds of filter,
+//! `nested` or `open`. Lines that are empty or begin with `#` are written as they are, and ` ; ` begins a comment.
 //!
 //! `bench/run.py` runs it, to measure how deep the machine's stack reaches, to damage bytes for as long as is wanted, and to refuse
-//! each growth in turn; how fast codecs are is the job of `measure_codecs`. No contract speaks of what is written here: that a valid
-//! value comes back is the theorem of `round_trip`, and that no call panics is proved of each. The program asks both of what was
-//! built.
+//! each growth in turn; how fast codecs are is the job of `measure_codecs`. No contract covers the answers: that a valid value
+//! comes back is the theorem of `round_trip`, and that no call panics is proved of each. The program asks both of what was built.
 #![tactic(auto)]
 
-mod codecs;
+mod bytes;
 mod damage;
 mod growths;
 mod nested;
+mod report;
 mod source;
+mod trial;
 
-use std::{env, io};
+use std::alloc::Global;
+use std::io::{self, BufRead, BufReader};
 use test_calls::Request;
 
 fn main(rt: HostRuntime) -> io::Result<()> {
-    let words: Vec<String> = env::args(&rt)?.skip(1).collect(rt.alloc())?;
-    codecs::run(&rt, rt.alloc(), &Request { words: &words })
+    let alloc = rt.alloc();
+    for line in BufReader::new(alloc, rt.reader())?.lines(alloc) {
+        print_answer(&rt, alloc, line?.as_str())?;
+    }
+    Ok(())
+}
+
+/// Prints a line, with the answer to it if it is a request.
+fn print_answer(rt: &impl Print, alloc: Global, line: &str) -> io::Result<()> {
+    if line.is_empty() || line.starts_with('#') {
+        return println!(rt; "{line}");
+    }
+    let words = match line.split_once(" ; ") {
+        Some((words, _)) => words,
+        None => line,
+    };
+    match Request::of_words(alloc, words) {
+        Some(request) => print_request(rt, alloc, line, &request),
+        None => println!(rt; "not understood: {line}"),
+    }
+}
+
+/// Prints what is said of a request, and then the line.
+fn print_request(
+    rt: &impl Print,
+    alloc: Global,
+    line: &str,
+    request: &Request<'_>,
+) -> io::Result<()> {
+    if request.action == "nest" || request.action == "drop" {
+        println!(rt; "{line}")?;
+        return nested::run(rt, alloc, request);
+    }
+    match trial::answer_to(alloc, request) {
+        Some(answer) => println!(rt; "{answer} <- {line}"),
+        None => println!(rt; "not understood: {line}"),
+    }
 }

@@ -1,10 +1,9 @@
 //! Components with a default.
 use crate::call_rules::{
     CallRules, Calls, FIRST, NAME, NumberedCalls, answers, answers_none, answers_some,
-    calls_come_back, done, numbered_calls_come_back,
+    calls_come_back, done, is_this, numbered_calls_come_back,
 };
 use crate::failure::Failure;
-use crate::round_trips::is_this;
 use asn1_bounds::Constraints;
 use asn1_dec::{DecodeError, Decoder};
 use asn1_enc::{EncodeError, Encoder};

@@ -4,7 +4,6 @@ use crate::failure::Failure;
 use asn1_bounds::Constraints;
 use asn1_dec::{Decode, Decoder};
 use asn1_enc::{Encode, EncodeError, Encoder};
-use std::alloc::Global;
 
 /// A value, by six entry points.
 #[derive(Drop)]
@@ -41,14 +40,6 @@ impl<T: Encode + Decode> NumberedCalls for EntryPoints<T> {
             ),
         }
     }
-}
-
-/// Whether a text is written and read by each entry point.
-///
-/// # Errors
-/// Why it was not.
-pub fn entry_points_come_back<R: CallRules>(rules: &R, alloc: Global) -> Result<(), Failure> {
-    comes_back_by_entry_points(rules, String::from_str(alloc, "7")?)
 }
 
 /// Whether a value is written and read by each entry point of its type.

@@ -1,7 +1,6 @@
 //! What a call answers where the type inside refuses what it reads.
-use crate::call_rules::{CallRules, Calls, FIRST, NAME, calls_come_back};
+use crate::call_rules::{CallRules, Calls, FIRST, NAME, calls_come_back, is_this};
 use crate::failure::Failure;
-use crate::round_trips::is_this;
 use asn1_bounds::Constraints;
 use asn1_dec::{DecodeError, Decoder};
 use asn1_enc::{EncodeError, Encoder};

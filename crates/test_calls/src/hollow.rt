@@ -14,7 +14,7 @@ use std::marker::PhantomData;
 
 /// A SET with a component that takes no byte.
 #[derive(PartialEq, Eq, Debug, Drop)]
-pub(crate) struct Hollow {
+pub struct Hollow {
     nothing: PhantomData<u8>,
 }
 

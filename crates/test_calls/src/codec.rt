@@ -1,4 +1,4 @@
-//! The codecs that are asked.
+//! The codecs over bytes, by their names.
 use asn1_bench::{BenchReader, BenchRules};
 use asn1_dec::{Decode, DecodeError};
 use asn1_der::{DerReader, DerRules};
@@ -9,7 +9,7 @@ use std::alloc::Global;
 
 /// A codec, by its name.
 #[derive(Clone, Copy, Drop)]
-pub(crate) enum Codec {
+pub enum Codec {
     /// The packed codec.
     Packed,
     /// The tag form.
@@ -20,7 +20,7 @@ pub(crate) enum Codec {
 
 impl Codec {
     /// The codec of this name.
-    pub(crate) fn of_name(name: &str) -> Option<Codec> {
+    pub fn of_name(name: &str) -> Option<Codec> {
         match name {
             "packed" => Some(Codec::Packed),
             "tag" => Some(Codec::TagForm),
@@ -30,7 +30,10 @@ impl Codec {
     }
 
     /// Reads a value of all of the bytes.
-    pub(crate) fn read<T: Decode>(
+    ///
+    /// # Errors
+    /// As `Rules::read_value` of the codec.
+    pub fn read<T: Decode>(
         self,
         alloc: Global,
         bytes: &Vec<u8>,
@@ -44,7 +47,10 @@ impl Codec {
     }
 
     /// Reads a value of the front of the bytes. The tag form has no reader of streams, and takes them all.
-    pub(crate) fn read_front<T: Decode>(
+    ///
+    /// # Errors
+    /// As `FrontReader::read_front` of the codec's reader.
+    pub fn read_front<T: Decode>(
         self,
         alloc: Global,
         bytes: &Vec<u8>,
@@ -58,7 +64,10 @@ impl Codec {
     }
 
     /// Writes a value.
-    pub(crate) fn write<T: Encode>(
+    ///
+    /// # Errors
+    /// As `Rules::write_value` of the codec.
+    pub fn write<T: Encode>(
         self,
         alloc: Global,
         value: &T,

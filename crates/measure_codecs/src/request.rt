@@ -1,0 +1,30 @@
+//! What is asked for.
+
+/// The words by which something is asked for: a codec, what is done, and what it is done with.
+#[derive(Clone, Copy)]
+pub(crate) struct Request<'a> {
+    pub(crate) words: &'a [String],
+}
+
+impl<'a> Request<'a> {
+    /// The word at a place, or an empty one.
+    pub(crate) fn word(self, place: usize) -> &'a str {
+        match self.words.get(place) {
+            Some(word) => word.as_str(),
+            None => "",
+        }
+    }
+
+    /// The number at a place, or 0.
+    pub(crate) fn number(self, place: usize) -> u32 {
+        self.word(place).parse::<u32>().unwrap_or(0)
+    }
+
+    /// The request without its first words, this many.
+    pub(crate) fn after(self, count: usize) -> Request<'a> {
+        match self.words.split_at_checked(count) {
+            Some((_, words)) => Request { words },
+            None => Request { words: &[] },
+        }
+    }
+}
