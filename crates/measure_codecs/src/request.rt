@@ -7,17 +7,17 @@ pub(crate) struct Request<'a> {
 }
 
 impl<'a> Request<'a> {
-    /// The word at a place, or an empty one.
-    pub(crate) fn word(self, place: usize) -> &'a str {
-        match self.words.get(place) {
+    /// The word at an index, or an empty one.
+    pub(crate) fn word(self, index: usize) -> &'a str {
+        match self.words.get(index) {
             Some(word) => word.as_str(),
             None => "",
         }
     }
 
-    /// The number at a place, or 0.
-    pub(crate) fn number(self, place: usize) -> u32 {
-        self.word(place).parse::<u32>().unwrap_or(0)
+    /// The number at an index, or 0.
+    pub(crate) fn number(self, index: usize) -> u32 {
+        self.word(index).parse::<u32>().unwrap_or(0)
     }
 
     /// The request without its first words, this many.
