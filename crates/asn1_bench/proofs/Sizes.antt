@@ -90,7 +90,7 @@ length_of_bits (o ∷ octets) = omega (arith, length-append (bits_of_octet o) (b
 length_of_content_bits : (list : List Bool) (bytes : List ℕ) → AreBits list bytes → length bytes ≡ suc ((length list + 7) / 8)
 length_of_content_bits list bytes p =
     let all : length p.octets * 8 ≡ length list + p.unused = sym (length_of_bits p.octets) ∙ ap length p.same ∙ length-append list (replicate p.unused false) ∙ ap (λ n. length list + n) (length-replicate p.unused false) in
-    omega (arith, ap length p.are, all, p.few)
+    omega (arith, ap length p.are, all, p.below_eight)
 
 abbrev units_size : StringKind → List ℕ → ℕ
 units_size teletex list = length list * 4

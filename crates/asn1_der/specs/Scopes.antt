@@ -21,17 +21,17 @@ FinishesScope frame old new result = (h : Head) (rs : List Record) (before front
     IsFront frame.content_order frame.tag front → frame.tag ≡ head_tag h → frame.content_order ≡ content_order_of h → HaveDer (held rs) inside →
     MatchResult result (λ _. Appended (IsHeld h rs) before new) (λ e. e ≢ Memory → HasNoDer (holding h rs))
 
--- a call that ends an element of the bytes from a place on (X.690, 8.1.3)
+-- a call that ends an element of the bytes from an index on (X.690, 8.1.3)
 abbrev pub EndsAsWritten : {A : Type 0} → ℕ → List ℕ → List ℕ → Result A WriteError → Type 0
 EndsAsWritten start old new result = (t : Tag) (before front inside : List ℕ) → IsBegun t true front → old ≡ (before ++ front) ++ inside → start ≡ length (before ++ front) →
     MatchResult result (λ _. Appended (IsElement t true inside) before new) (λ e. e ≡ Memory)
 
--- a call that ends an element of the elements from a place on, which are sorted then (X.690, 10.3 and 11.6)
+-- a call that ends an element of the elements from an index on, which are sorted then (X.690, 10.3 and 11.6)
 abbrev pub EndsSorted : {A : Type 0} → Order → ℕ → List ℕ → List ℕ → Result A WriteError → Type 0
 EndsSorted order start old new result = (t : Tag) (before front inside : List ℕ) (elements : List (List ℕ)) → IsBegun t true front → old ≡ (before ++ front) ++ inside → start ≡ length (before ++ front) → AreJoined elements inside →
     MatchResult result (λ _. Appended (HoldsContents (AreSorted order elements) t true) before new) (λ e. e ≡ Memory)
 
--- a call that sorts the elements from a place on
+-- a call that sorts the elements from an index on
 abbrev pub SortsElements : {A : Type 0} → Order → ℕ → List ℕ → List ℕ → Result A WriteError → Type 0
 SortsElements order start old new result = (before inside : List ℕ) (elements : List (List ℕ)) → old ≡ before ++ inside → start ≡ length before → AreJoined elements inside →
     MatchResult result (λ _. Appended (AreSorted order elements) before new) (λ e. e ≡ Memory)

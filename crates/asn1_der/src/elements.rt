@@ -1,11 +1,11 @@
-//! Whether bytes are one element at most, and the bytes from a place on.
+//! Whether bytes are one element at most, and the bytes from an index on.
 ghost use Rattle.asn1_der_items.specs.Series.{IsElementOf, is_one_element};
 ghost use Rattle.std.specs.Prelude.{◌≡◌, ◌↔◌, ◌⊎◌, ◌++◌, [], IsSomeAnd, IsTrue, List, length, ℕ};
 
 use asn1_der_items::{find_element, is_one_element};
 use asn1_tags::Tag;
 
-/// The bytes from a place on, if there are as many before it.
+/// The bytes from an index on, if there are as many before it.
 pub(crate) fn bytes_from(bytes: &[u8], start: usize) -> Option<&[u8]>
     ensures { (before inside : List ℕ) → bytes.now ≡ before ++ inside → start ≡ length before →
         IsSomeAnd result (λ part. part.now ≡ inside) }

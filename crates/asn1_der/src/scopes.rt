@@ -53,7 +53,7 @@ pub(crate) fn finish_scope(
     }
 }
 
-/// Ends an element of the bytes from a place on.
+/// Ends an element of the bytes from an index on.
 #[inline(always)]
 fn end_as_written(bytes: &mut Vec<u8>, start: usize) -> Result<(), WriteError>
     ensures { EndsAsWritten start bytes.old.items bytes.new.items result }
@@ -64,7 +64,7 @@ fn end_as_written(bytes: &mut Vec<u8>, start: usize) -> Result<(), WriteError>
     }
 }
 
-/// Ends an element of the elements from a place on, after it has sorted them.
+/// Ends an element of the elements from an index on, after it has sorted them.
 fn end_sorted(
     alloc: Global,
     bytes: &mut Vec<u8>,
@@ -77,7 +77,7 @@ fn end_sorted(
     end_as_written(bytes, start)
 }
 
-/// Looks whether the bytes from a place on are the chosen alternative of a CHOICE: one element of its tag.
+/// Looks whether the bytes from an index on are the chosen alternative of a CHOICE: one element of its tag.
 ///
 /// # Errors
 /// [`WriteError::Rejected`] where they are not.

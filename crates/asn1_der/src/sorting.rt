@@ -37,7 +37,7 @@ struct Cut<'a> {
     rest: &'a [u8],
 }
 
-/// Sorts the elements of which the bytes consist from a place on. If they are in order they stay as they are, and one element
+/// Sorts the elements of which the bytes consist from an index on. If they are in order they stay as they are, and one element
 /// takes no memory.
 ///
 /// # Errors

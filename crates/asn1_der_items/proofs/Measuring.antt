@@ -7,7 +7,7 @@ use Rattle.asn1_der_items.specs.Elements.{IsBegun, IsElement}
 use Rattle.asn1_der_items.specs.Lengths.{IsMeasured}
 use Rattle.asn1_tags.specs.declared.tags.Tag.{Tag}
 
--- an octet was written over the one before a place
+-- an octet was written over the one before an index
 pub overwritten : (before contents xs : List ℕ) (room v start : ℕ) → xs ≡ before ++ room ∷ contents → start ≡ suc (length before) → set xs (start - 1) v ≡ before ++ v ∷ contents
 overwritten before contents xs room v start is at =
     let first : start - 1 - length before ≡ 0 = omega (arith, at) in

@@ -225,7 +225,7 @@ one_bits list own other below more a b =
     long octets n same = sym (bits_long octets) ∙ ap length same ∙ length-append list (replicate n false) ∙ ap (λ k. length list + k) (length-replicate n false)
 
     unused : a.unused ≡ b.unused
-    unused = omega (arith, long a.octets a.unused a.same, long b.octets b.unused b.same, a.few, b.few)
+    unused = omega (arith, long a.octets a.unused a.same, long b.octets b.unused b.same, a.below_eight, b.below_eight)
 
 one_units : (kind : StringKind) (list own other : List ℕ) → AreUnits kind list own → AreUnits kind list other → own ≡ other
 one_units octet list own other a b = a ∙ sym b

@@ -198,9 +198,9 @@ some_arcs (first ∷ second ∷ rest) fit = by (cases_lt 2 first) (cases_lt firs
 abbrev worth : Bool → ℕ
 worth b = if b then 1 else 0
 
-few : (b : Bool) → worth b ≤ 1
-few true = omega arith
-few false = omega arith
+at_most_one : (b : Bool) → worth b ≤ 1
+at_most_one true = omega arith
+at_most_one false = omega arith
 
 bit_is : (n : ℕ) (b : Bool) → n ≡ worth b → (n == 1) ≡ b
 bit_is n true is = ap (λ k. k == 1) is
@@ -211,10 +211,10 @@ abbrev octet_of : Bool → Bool → Bool → Bool → Bool → Bool → Bool →
 octet_of a b c d e f g h = worth a * 128 + worth b * 64 + worth c * 32 + worth d * 16 + worth e * 8 + worth f * 4 + worth g * 2 + worth h
 
 octet_below : (a b c d e f g h : Bool) → octet_of a b c d e f g h < 256
-octet_below a b c d e f g h = omega (arith, few a, few b, few c, few d, few e, few f, few g, few h)
+octet_below a b c d e f g h = omega (arith, at_most_one a, at_most_one b, at_most_one c, at_most_one d, at_most_one e, at_most_one f, at_most_one g, at_most_one h)
 
 octet_is : (a b c d e f g h : Bool) → bits_of_octet (octet_of a b c d e f g h) ≡ a ∷ b ∷ c ∷ d ∷ e ∷ f ∷ g ∷ h ∷ []
-octet_is a b c d e f g h = all (worth a) (worth b) (worth c) (worth d) (worth e) (worth f) (worth g) (worth h) (few a) (few b) (few c) (few d) (few e) (few f) (few g) (few h) refl refl refl refl refl refl refl refl
+octet_is a b c d e f g h = all (worth a) (worth b) (worth c) (worth d) (worth e) (worth f) (worth g) (worth h) (at_most_one a) (at_most_one b) (at_most_one c) (at_most_one d) (at_most_one e) (at_most_one f) (at_most_one g) (at_most_one h) refl refl refl refl refl refl refl refl
   where
     all : (A B C D E F G H : ℕ) → A ≤ 1 → B ≤ 1 → C ≤ 1 → D ≤ 1 → E ≤ 1 → F ≤ 1 → G ≤ 1 → H ≤ 1 → A ≡ worth a → B ≡ worth b → C ≡ worth c → D ≡ worth d → E ≡ worth e → F ≡ worth f → G ≡ worth g → H ≡ worth h →
         bits_of_octet (A * 128 + B * 64 + C * 32 + D * 16 + E * 8 + F * 4 + G * 2 + H) ≡ a ∷ b ∷ c ∷ d ∷ e ∷ f ∷ g ∷ h ∷ []
@@ -235,7 +235,7 @@ record HasOctetsOfBits (list : List Bool) : Type 0 where
   pub octets : List ℕ
   pub unused : ℕ
   pub same : bits_of_octets octets ≡ list ++ replicate unused false
-  pub few : unused < 8
+  pub below_eight : unused < 8
   pub are_octets : AllBelowBase 256 octets
 
 one_octet : (list : List Bool) (unused : ℕ) (a b c d e f g h : Bool) → unused < 8 → a ∷ b ∷ c ∷ d ∷ e ∷ f ∷ g ∷ h ∷ [] ≡ list ++ replicate unused false → HasOctetsOfBits list
@@ -243,12 +243,12 @@ one_octet list unused a b c d e f g h small same = record {
   octets = octet_of a b c d e f g h ∷ [];
   unused = unused;
   same = ap (λ l. l ++ []) (octet_is a b c d e f g h) ∙ same;
-  few = small;
+  below_eight = small;
   are_octets = (octet_below a b c d e f g h, tt);
 }
 
 octets_of_bits : (list : List Bool) → HasOctetsOfBits list
-octets_of_bits [] = record { octets = []; unused = 0; same = refl; few = omega arith; are_octets = tt }
+octets_of_bits [] = record { octets = []; unused = 0; same = refl; below_eight = omega arith; are_octets = tt }
 octets_of_bits (a ∷ []) = one_octet (a ∷ []) 7 a false false false false false false false (omega arith) refl
 octets_of_bits (a ∷ b ∷ []) = one_octet (a ∷ b ∷ []) 6 a b false false false false false false (omega arith) refl
 octets_of_bits (a ∷ b ∷ c ∷ []) = one_octet (a ∷ b ∷ c ∷ []) 5 a b c false false false false false (omega arith) refl
@@ -262,7 +262,7 @@ octets_of_bits (a ∷ b ∷ c ∷ d ∷ e ∷ f ∷ g ∷ h ∷ rest) =
       octets = octet_of a b c d e f g h ∷ later.octets;
       unused = later.unused;
       same = ap (λ l. l ++ bits_of_octets later.octets) (octet_is a b c d e f g h) ∙ ap (λ l. a ∷ b ∷ c ∷ d ∷ e ∷ f ∷ g ∷ h ∷ l) later.same;
-      few = later.few;
+      below_eight = later.below_eight;
       are_octets = (octet_below a b c d e f g h, later.are_octets);
     }
 
@@ -271,8 +271,8 @@ some_bits list =
     let o = octets_of_bits list in
     record {
       octets = o.unused ∷ o.octets;
-      are = record { unused = o.unused; octets = o.octets; are = refl; few = o.few; same = o.same };
-      are_octets = (omega (arith, o.few), o.are_octets);
+      are = record { unused = o.unused; octets = o.octets; are = refl; below_eight = o.below_eight; same = o.same };
+      are_octets = (omega (arith, o.below_eight), o.are_octets);
     }
 
 -- strings

@@ -31,7 +31,7 @@ pub record IsMeasured (contents bytes : List ℕ) : Type 0 where
   pub is_size : IsLength (length contents) size
   pub are : bytes ≡ size ++ contents
 
--- A call that writes the length of the bytes from this place on in front of them, over the byte before that place.
+-- A call that writes the length of the bytes from this index on in front of them, over the byte before that index.
 abbrev pub WritesLength : {V : Type 0} → ℕ → List ℕ → List ℕ → Result V ElementError → Type 0
 WritesLength start old new result =
     (before contents : List ℕ) (room : ℕ) → old ≡ before ++ room ∷ contents → start ≡ suc (length before) →

@@ -78,7 +78,7 @@ pub fn begin_element(bytes: &mut Vec<u8>, tag: Tag, constructed: bool) -> Result
     Ok(())
 }
 
-/// Ends the element whose contents octets are the bytes from a place on, and writes its length. They are moved only where the length
+/// Ends the element whose contents octets are the bytes from an index on, and writes its length. They are moved only where the length
 /// has more than one octet.
 ///
 /// # Errors

@@ -10,7 +10,7 @@ use crate::error::ElementError;
 use asn1_items::{ItemError, significant};
 use std::alloc::AllocError;
 
-/// Writes the length of the bytes from a place on in front of them. Its first octet is written over the one before that place.
+/// Writes the length of the bytes from an index on in front of them. Its first octet is written over the one before that index.
 #[inline(always)]
 pub(crate) fn write_length(bytes: &mut Vec<u8>, start: usize) -> Result<(), ElementError>
     ensures { WritesLength start bytes.old.items bytes.new.items result }
@@ -29,7 +29,7 @@ pub(crate) fn write_length(bytes: &mut Vec<u8>, start: usize) -> Result<(), Elem
     Ok(insert_octets(bytes, start, digits)?)
 }
 
-/// Puts octets in front of the bytes from a place on.
+/// Puts octets in front of the bytes from an index on.
 #[inline(never)]
 fn insert_octets(bytes: &mut Vec<u8>, place: usize, octets: &[u8]) -> Result<(), AllocError>
     requires { place ≤ length bytes.old.items }

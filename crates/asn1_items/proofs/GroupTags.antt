@@ -68,12 +68,12 @@ module _ {V : Type 0} (components : Components V) (t : Tag) where
   group_tags = tree_tags (choice (trees_of (all_components components)))
 
   -- a line of the table has the tag
-  pub by_line : (place : ℕ) (e : Entry) → slice_get (table components) place ≡ Some e → Has (tree_tags e.tree) t → Has group_tags t
-  by_line place e at has = of_one (all_components components) e.index t (found components t place e at has)
+  pub by_line : (index : ℕ) (e : Entry) → slice_get (table components) index ≡ Some e → Has (tree_tags e.tree) t → Has group_tags t
+  by_line index e at has = of_one (all_components components) e.index t (found components t index e at has)
 
   -- no line has it: the group can begin with it if and only if it has no components
   pub by_none : (count : ℕ) → count ≡ length (table components) →
-      ((place : ℕ) (e : Entry) → place < length (table components) → slice_get (table components) place ≡ Some e → Has (tree_tags e.tree) t → ⊥) →
+      ((index : ℕ) (e : Entry) → index < length (table components) → slice_get (table components) index ≡ Some e → Has (tree_tags e.tree) t → ⊥) →
       (eqb count 0 ≡ true → Has group_tags t) × (Has group_tags t → eqb count 0 ≡ true)
   by_none count is lines = (
     λ empty. of_nothing (all_components components) t (sym (table_long components) ∙ sym is ∙ eqb-true count 0 empty),

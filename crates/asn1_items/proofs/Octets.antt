@@ -29,7 +29,7 @@ no_rest bits left before bytes none m =
         unused = unused_of bits;
         octets = m.octets;
         are = refl;
-        few = omega arith;
+        below_eight = omega arith;
         same = sym (append-nil (bits_of_octets m.octets)) ∙ ap (λ l. bits_of_octets m.octets ++ l) (sym none) ∙ sym m.bits_are ∙ sym (append-nil bits) ∙ ap (λ n. bits ++ replicate n false) (sym whole);
       };
       joined = m.bytes_are;
@@ -45,7 +45,7 @@ with_rest bits left before bytes all o short some all_is is m =
         unused = unused_of bits;
         octets = m.octets ++ o ∷ [];
         are = refl;
-        few = omega arith;
+        below_eight = omega arith;
         same = flat-more m.octets o ∙ ap (λ l. bits_of_octets m.octets ++ l) is ∙ sym (append_assoc (bits_of_octets m.octets) left (replicate (8 - length left) false)) ∙ ap (λ l. l ++ replicate (8 - length left) false) (sym m.bits_are) ∙ ap (λ n. bits ++ replicate n false) unused;
       };
       joined = all_is ∙ ap (λ l. l ++ o ∷ []) m.bytes_are ∙ append_assoc before (unused_of bits ∷ m.octets) (o ∷ []);

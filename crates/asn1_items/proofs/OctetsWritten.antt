@@ -5,7 +5,7 @@ use Rattle.std.proofs.Math.Seq.{take-append_seam, take-length}
 use Rattle.asn1_items.specs.Bits.{AreOctetsOf, bits_of_octet, bits_of_octets}
 use Rattle.asn1_items.proofs.Octets.{BitsAppended, flat-more, unused_of}
 
--- From a place on, the first octets of these bits are written: this many.
+-- From an index on, the first octets of these bits are written: this many.
 pub record OctetsSoFar (bits : List Bool) (start : ℕ) (old new : List ℕ) (count : ℕ) : Type 0 where
   pub octets : List ℕ
   pub are : take (start + count) new ≡ take start old ++ octets

@@ -20,10 +20,10 @@ pub record AreBits (bits : List Bool) (bytes : List ℕ) : Type 0 where
   pub unused : ℕ
   pub octets : List ℕ
   pub are : bytes ≡ unused ∷ octets
-  pub few : unused < 8
+  pub below_eight : unused < 8
   pub same : bits_of_octets octets ≡ bits ++ replicate unused false
 
--- The bytes up to a place are as they were, and the others are the octets of these bits, but for those that are no whole octet.
+-- The bytes up to an index are as they were, and the others are the octets of these bits, but for those that are no whole octet.
 pub record AreOctetsOf (bits : List Bool) (start : ℕ) (old new : List ℕ) : Type 0 where
   pub octets : List ℕ
   pub are : new ≡ take start old ++ octets

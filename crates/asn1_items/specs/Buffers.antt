@@ -20,8 +20,8 @@ TellsOfGroup (outermost rs) has_records = ⊤
 TellsOfGroup (in_scope h rs w) has_records = ⊤
 TellsOfGroup (in_group table rs w) has_records = has_records ≡ not (presence_marks_alone rs)
 
--- A number leads out of a scope: it is the distance from the place at which the inside of the scope around it begins to the place of
--- its own. Or it is 0, and the outer place is the first of those that are far.
+-- A number leads out of a scope: it is the distance from the index at which the inside of the scope around it begins to the index of
+-- its own. Or it is 0, and the outer index is the first of those that are far.
 abbrev pub LeadsOut : ℕ → ℕ → List ℕ → ℕ → List ℕ → Type 0
 LeadsOut link start far outer outer_far = ((0 < link) × (start ≡ outer + link) × (far ≡ outer_far)) ⊎ ((link ≡ 0) × (far ≡ outer ∷ outer_far))
 
@@ -65,7 +65,7 @@ abbrev pub inward : {A : Type 0} → List A → List A → List A
 inward inner [] = inner
 inward inner (x ∷ xs) = inward (x ∷ inner) xs
 
--- The innermost list is that of a group, where the inside of the innermost scope begins at this place: the innermost group begins
+-- The innermost list is that of a group, where the inside of the innermost scope begins at this index: the innermost group begins
 -- there or after it.
 abbrev pub GroupIsInnermost : List Group → ℕ → Type 0
 GroupIsInnermost [] start = ⊥
@@ -103,7 +103,7 @@ module _ (marks : MarkBytes) where
   EndsGroup end absent old new result = (table : Table Line) (rs : List Record) (w : Written) → marks group_end ≡ end → marks group_absent ≡ absent → HasWritten marks (in_group table rs w) old →
       MatchResult result (λ _. HasWritten marks (followed_by w (group_records table (Some rs))) new) (λ e. e ≡ Memory)
 
--- A call that writes the length of what begins at a place over the four bytes before it, and answers the number that they held. It
+-- A call that writes the length of the bytes from an index on over the four bytes before it, and answers the number that they held. It
 -- fails where the length is 2^32 or more, and says so.
 abbrev pub FillsLength : List ℕ → ℕ → List ℕ → Result ℕ BufferError → Type 0
 FillsLength old start new result = (before inside : List ℕ) (number : ℕ) → number < 2 ^ 32 → old ≡ before ++ (four_bytes number ++ inside) → start ≡ length before + 4 →

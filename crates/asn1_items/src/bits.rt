@@ -27,17 +27,17 @@ pub(crate) fn append_bits(bytes: &mut Vec<u8>, bits: &[bool]) -> Result<(), Allo
     }
 }
 
-/// Writes the octets of bits over the bytes from a place on, but for the bits that are no whole octet.
+/// Writes the octets of bits over the bytes from an index on, but for the bits that are no whole octet.
 fn write_octets(bytes: &mut [u8], start: usize, bits: &[bool])
     requires { start + length bits.now / 8 ≡ length bytes.old }
     ensures { AreOctetsOf bits.now start bytes.old bytes.new }
 {
-    for place in 0..bits.len() / 8 {
-        bytes[start + place] = octet_at(bits, place * 8);
+    for index in 0..bits.len() / 8 {
+        bytes[start + index] = octet_at(bits, index * 8);
     }
 }
 
-/// The octet of the eight bits from a place on.
+/// The octet of the eight bits from an index on.
 #[inline(always)]
 fn octet_at(bits: &[bool], start: usize) -> u8
     requires { start + 8 ≤ length bits.now }
@@ -67,10 +67,10 @@ fn octet_of(a: bool, b: bool, c: bool, d: bool, e: bool, f: bool, g: bool, h: bo
 
 /// The octet of the last bits, fewer than eight, if there are some. Its other bits are 0.
 fn last_octet(bits: &[bool]) -> Option<u8>
-    ensures some { IfSome result (λ o. length bits.now < 8 →
+    ensures octet { IfSome result (λ o. length bits.now < 8 →
         bits_of_octet o ≡ bits.now ++ replicate (8 - length bits.now) false) }
-    ensures there { IfSome result (λ _. 1 ≤ length bits.now) }
-    ensures none { result ≡ None → bits.now ≡ [] }
+    ensures some_bits { IfSome result (λ _. 1 ≤ length bits.now) }
+    ensures no_bits { result ≡ None → bits.now ≡ [] }
 {
     match bits {
         [] => None,
@@ -133,12 +133,12 @@ fn write_bits(bits: &mut [bool], octets: &[u8])
     requires { length bits.old ≡ length octets.now * 8 }
     ensures { bits.new ≡ bits_of_octets octets.now }
 {
-    for place in 0..octets.len() {
-        write_octet(bits, place * 8, octets[place]);
+    for index in 0..octets.len() {
+        write_octet(bits, index * 8, octets[index]);
     }
 }
 
-/// Writes the bits of an octet over the eight from a place on.
+/// Writes the bits of an octet over the eight from an index on.
 #[inline(always)]
 fn write_octet(bits: &mut [bool], start: usize, octet: u8)
     requires { start + 8 ≤ length bits.old }

@@ -28,7 +28,7 @@ const SCOPE_HEADER: usize = 10;
 /// written when it is closed, so no byte is moved, however deep the scopes are.
 ///
 /// Until then its four bytes tell where the inside of the scope around it begins: how far it is to there, or 0 where the distance
-/// does not fit, and the place is kept apart. So no list of scopes grows beside the bytes, but for scopes 4 GiB apart.
+/// does not fit, and the index is kept apart. So no list of scopes grows beside the bytes, but for scopes 4 GiB apart.
 ///
 /// After an error nothing is promised about what has been written.
 #[derive(Drop)]
@@ -37,7 +37,7 @@ pub struct Buffer {
     bytes: Vec<u8>,
     /// The index at which the inside of the innermost open scope begins, and 0 if none is open.
     scope_start: usize,
-    /// The places that are too far from the scopes that lead to them, the innermost last.
+    /// The indices that are too far from the scopes that lead to them, the innermost last.
     far_starts: Vec<usize>,
     /// The groups that are open, the innermost last.
     groups: Vec<Group>,
@@ -137,8 +137,8 @@ impl Buffer {
         Ok(())
     }
 
-    /// The number that leads out of a scope whose inside begins at this place. If the scope around it is too far for a number, its
-    /// place is kept.
+    /// The number that leads out of a scope whose inside begins at this index. If the scope around it is too far for a number, its
+    /// index is kept.
     ///
     /// # Errors
     /// [`AllocError`].

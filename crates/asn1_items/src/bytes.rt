@@ -57,7 +57,7 @@ pub(crate) fn push_sized_header(
     Ok(())
 }
 
-/// Appends the header of an item of this kind that holds others, whose inside begins at this place, with this number where the
+/// Appends the header of an item of this kind that holds others, whose inside begins at this index, with this number where the
 /// length of what is inside will be.
 #[inline(always)]
 pub(crate) fn push_scope_header(
@@ -92,7 +92,7 @@ pub(crate) fn push_mark(bytes: &mut Vec<u8>, mark: &[u8]) -> Result<(), AllocErr
     }
 }
 
-/// Writes the length of what begins at a place over the four bytes before it, and answers the number that they held.
+/// Writes the length of the bytes from an index on over the four bytes before it, and answers the number that they held.
 #[inline(always)]
 pub(crate) fn write_length(bytes: &mut Vec<u8>, start: usize) -> Result<u32, BufferError>
     ensures written { FillsLength bytes.old.items start bytes.new.items result }
@@ -108,7 +108,7 @@ pub(crate) fn write_length(bytes: &mut Vec<u8>, start: usize) -> Result<u32, Buf
     Ok(exchange(bytes, start, size as u32))
 }
 
-/// Writes a number over the four bytes before a place, and answers the number that they held.
+/// Writes a number over the four bytes before an index, and answers the number that they held.
 #[inline(always)]
 fn exchange(bytes: &mut Vec<u8>, start: usize, new: u32) -> u32
     ensures { (before inside : List ℕ) (number : ℕ) → number < 2 ^ 32 →

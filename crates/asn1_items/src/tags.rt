@@ -15,8 +15,8 @@ pub fn group_can_begin_with<C: FieldTable>(tag: Tag) -> bool
         Has (tree_tags (choice (trees_of (all_components C.components)))) tag }
 {
     let count = C::field_count();
-    for place in 0..count {
-        if let Some(field) = C::field_at(place) {
+    for index in 0..count {
+        if let Some(field) = C::field_at(index) {
             if can_begin_with(field.tag_tree, tag) {
                 return true;
             }

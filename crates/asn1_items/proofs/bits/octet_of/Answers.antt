@@ -12,21 +12,21 @@ one : (n : ℕ) (b : Bool) → n ≡ worth b → (n == 1) ≡ b
 one n true is = ap (λ k. k == 1) is
 one n false is = ap (λ k. k == 1) is
 
-few : (n : ℕ) (b : Bool) → n ≡ worth b → n ≤ 1
-few n true is = omega (arith, is)
-few n false is = omega (arith, is)
+at_most_one : (n : ℕ) (b : Bool) → n ≡ worth b → n ≤ 1
+at_most_one n true is = omega (arith, is)
+at_most_one n false is = omega (arith, is)
 
 all : (a b c d e f g h : Bool) (A B C D E F G H n : ℕ) → A ≡ worth a → B ≡ worth b → C ≡ worth c → D ≡ worth d → E ≡ worth e → F ≡ worth f → G ≡ worth g → H ≡ worth h →
     n ≡ A * 128 + B * 64 + C * 32 + D * 16 + E * 8 + F * 4 + G * 2 + H → bits_of_octet n ≡ a ∷ b ∷ c ∷ d ∷ e ∷ f ∷ g ∷ h ∷ []
 all a b c d e f g h A B C D E F G H n p q r s t u v w is =
-    let p1 = few A a p in
-    let q1 = few B b q in
-    let r1 = few C c r in
-    let s1 = few D d s in
-    let t1 = few E e t in
-    let u1 = few F f u in
-    let v1 = few G g v in
-    let w1 = few H h w in
+    let p1 = at_most_one A a p in
+    let q1 = at_most_one B b q in
+    let r1 = at_most_one C c r in
+    let s1 = at_most_one D d s in
+    let t1 = at_most_one E e t in
+    let u1 = at_most_one F f u in
+    let v1 = at_most_one G g v in
+    let w1 = at_most_one H h w in
     let n7 : n / 128 % 2 ≡ A = omega arith in
     let n6 : n / 64 % 2 ≡ B = omega arith in
     let n5 : n / 32 % 2 ≡ C = omega arith in

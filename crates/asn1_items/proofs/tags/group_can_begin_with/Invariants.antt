@@ -6,5 +6,5 @@ use Rattle.asn1_fields.specs.Entries.{Entry}
 use Rattle.asn1_model.specs.Tags.{Has, tree_tags}
 use Rattle.asn1_items.proofs.tags.group_can_begin_with.Given as goal
 
-abbrev pub invariant-loop-place : goal.invariant-loop-place
-invariant-loop-place g l = (k : ℕ) (e : Entry) → k < l.place → slice_get (table g.C.FieldTable.components) k ≡ Some e → Has (tree_tags e.tree) l.tag → ⊥
+abbrev pub invariant-loop-index : goal.invariant-loop-index
+invariant-loop-index g l = (k : ℕ) (e : Entry) → k < l.index → slice_get (table g.C.FieldTable.components) k ≡ Some e → Has (tree_tags e.tree) l.tag → ⊥
