@@ -26,7 +26,7 @@ pub leaves-flat_tree : (ts : List Tag) (e : Bool) → leaves (flat_tree ts e) �
 leaves-flat_tree [] e = refl
 leaves-flat_tree (t ∷ ts) e = leaves-side_by_side (t ∷ ts) e
 
--- and is open as its clause states
+-- and is open if and only if it has an empty choice
 pub open-flat_tree : (t : Tag) (ts : List Tag) (e : Bool) → is_open (flat_tree (t ∷ ts) e) ≡ e
 open-flat_tree t ts e = open-side_by_side (t ∷ ts) e
 
@@ -51,14 +51,6 @@ open_unnoted (t ∷ ts) e is = let none : (length (t ∷ ts) == 0) ≡ false = g
 
 pub leaves-flat : (t : Tree) → leaves (flat t) ≡ leaves t
 leaves-flat t = leaves-flat_tree (leaves t) (is_open t)
-
--- a flat tree is its own flat tree
-pub flat-flat_tree : (ts : List Tag) (e : Bool) → flat (flat_tree ts e) ≡ flat_tree ts e
-flat-flat_tree [] e = refl
-flat-flat_tree (t ∷ ts) e = λ i. flat_tree (leaves-flat_tree (t ∷ ts) e i) (open-flat_tree t ts e i)
-
-pub flat_twice : (c : Component) → flat_component (flat_component c) ≡ flat_component c
-flat_twice c = λ i. record { presence = c.presence; tree = flat-flat_tree (leaves c.tree) (is_open c.tree) i }
 
 -- a component and its flat one look alike to the rules on tags
 looks-flat : (cs : List Component) → map look_at (map flat_component cs) ≡ map look_at cs

@@ -1,11 +1,11 @@
 -- The bytes and lines that a checker has taken.
-use Rattle.std.proofs.Common.{◌≡◌, ℕ, suc, Bool, true, false, ◌==◌, ◌+◌, ◌-◌, ◌<◌, Option, None, Some, Result, Ok, Err, List, [], ◌∷◌, ◌++◌, length, get_or, take, drop, drop-cons, length-append, length-drop, length-take, refl, sym, ap, subst, ◌∙◌, append_assoc, arith}
+use Rattle.std.proofs.Common.{◌≡◌, ℕ, suc, Bool, true, false, ◌==◌, ◌+◌, ◌-◌, Option, None, Some, Result, Ok, Err, List, [], ◌∷◌, ◌++◌, length, get_or, take, drop, drop-cons, length-append, length-drop, refl, sym, ap, subst, ◌∙◌, append_assoc, arith}
 use Rattle.std.specs.Prelude.{OnOk, option_and_then}
 use Rattle.std.specs.Io.KnownBytes.{Appends, Keeps}
 use Rattle.memchr.specs.Find.{IsFirstByte, is_byte}
 use Rattle.std.proofs.KnownBytes.{Appends-kept, Appends-trans}
 use Rattle.std.proofs.lemmas.Bool.{eqb-true}
-use Rattle.std.proofs.lemmas.List.{append-nil, get_or-take, get_or_default, take-append-drop, take_all}
+use Rattle.std.proofs.lemmas.List.{get_or_default, take-append-drop, take_all}
 use Rattle.std.proofs.lemmas.List.Sums.{fold_push}
 use Rattle.asn1_report.specs.Flattened.{Gives, HasAnswered, flat_state}
 use Rattle.asn1_report.specs.Lines.{lines_of, unended, whole_lines, within_limit}

@@ -6,7 +6,6 @@ use Rattle.std.proofs.lemmas.List.{append-nil, take_all}
 use Rattle.std.proofs.lemmas.List.Elements.{All-nil, All-append, All-head}
 use Rattle.asn1_tags.specs.declared.tags.Tag.{Tag}
 use Rattle.asn1_tags.specs.Trees.{Tree, Trees, leaf, choice, none, more, leaves, leaves_of, is_nothing}
-use Rattle.asn1_clash.specs.Views.{Adds}
 use Rattle.asn1_clash.specs.declared.flat_tree.FlatTree.{FlatTree}
 use Rattle.asn1_report.specs.NamesAndNumbers.{begins_with_digit, BeginsWithNumber}
 use Rattle.asn1_report.specs.Spelling.{letter_of, spelling, spelling_of, spelling_after, brackets, brackets_of, BeginsWithTree, BeginsWithTrees, ReadsTree, ReadsChoice}
@@ -82,7 +81,6 @@ pub too_deep : (depth : ℕ) (text inside : List ℕ) → depth ≡ 0 → text �
 too_deep depth text inside is_zero opens (leaf tag) rest begins =
     tag_no_bracket tag.class 40 (decimal tag.value ++ rest) inside (omega arith) (sym begins.spelled ∙ opens)
 too_deep depth text inside is_zero opens (choice trees) rest begins = absurd (omega (arith, begins.shallow))
-
 
 -- the texts of trees, with a space after each
 abbrev spelling_before : Trees → List ℕ

@@ -1,11 +1,10 @@
 -- A text is a tree if and only if it begins with that tree and nothing is left.
-use Rattle.std.proofs.Common.{◌≡◌, ℕ, Bool, true, false, ◌||◌, ◌==◌, List, [], ◌∷◌, ◌++◌, length, Option, Some, None, option_map, refl, sym, ap, subst, ◌∙◌, arith}
+use Rattle.std.proofs.Common.{◌≡◌, ℕ, Bool, true, false, ◌==◌, List, [], ◌∷◌, length, Option, Some, None, refl, sym, ap, subst, ◌∙◌, arith}
 use Rattle.std.specs.Prelude.{IsSomeAnd, MatchBool}
 use Rattle.std.proofs.lemmas.List.{append-nil}
 use Rattle.std.proofs.lemmas.Bool.{eqb-true, false≢true}
-use Rattle.asn1_tags.specs.Trees.{Tree, leaves, is_open}
-use Rattle.asn1_clash.specs.Flat.{flat, flat_tree}
-use Rattle.asn1_clash.specs.Views.{Adds, tree_view}
+use Rattle.asn1_tags.specs.Trees.{Tree}
+use Rattle.asn1_clash.specs.Views.{Adds}
 use Rattle.asn1_clash.specs.declared.flat_tree.FlatTree.{FlatTree}
 use Rattle.asn1_report.specs.Grammar.{tree_of}
 use Rattle.asn1_report.specs.Spelling.{spelling, BeginsWithTree, ReadsTree}
