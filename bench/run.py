@@ -263,20 +263,21 @@ def count_job(folder, plain, job):
     print(f"{job[2]}, {job[0]}, {job[1]}: {ours:.0f}; plain Rust, {beside}", flush=True)
 
 
-def reaches(words, step):
-    """Whether a program gets past a step on a stack of 8 MiB."""
+def reaches(request, step):
+    """Whether a request gets past a step on a stack of 8 MiB."""
     limit = lambda: resource.setrlimit(resource.RLIMIT_STACK, (8 << 20, 8 << 20))
-    return step in answer([TRIALS_PROGRAM, *words], preexec_fn=limit)
+    process = subprocess.run([TRIALS_PROGRAM], input=f"{request}\n".encode(), stdout=subprocess.PIPE, preexec_fn=limit)
+    return step in process.stdout.decode()
 
 
-def most_levels(words, step):
+def most_levels(request, step):
     """The most levels that get past a step, of which up to one in a thousand is missing. Where two million do, no more are tried."""
     low, high = 1, 2
-    while high < 2**21 and reaches([*words, str(high)], step):
+    while high < 2**21 and reaches(f"{request} {high}", step):
         low, high = high, 2 * high
     while high - low > max(1, low // 1000):
         middle = (low + high) // 2
-        low, high = (middle, high) if reaches([*words, str(middle)], step) else (low, middle)
+        low, high = (middle, high) if reaches(f"{request} {middle}", step) else (low, middle)
     return low
 
 
@@ -288,52 +289,63 @@ def measure_stack():
     """Prints how many nested scopes of each type that holds itself a stack of 8 MiB holds."""
     for name, (each, innermost) in SCOPES.items():
         for codec in CODECS:
-            steps = {step: most_levels([codec, "nest", name], step) for step in ("written", "read")}
-            steps["dropped"] = most_levels([codec, "drop", name], "dropped")
+            request = f"{codec} {name} {2**63}"
+            steps = {step: most_levels(f"{request} nest", step) for step in ("written", "read")}
+            steps["dropped"] = most_levels(f"{request} drop", "dropped")
             text = ", ".join(f"{step} {each * levels + innermost}" for step, levels in steps.items())
             print(f"{name} {codec}: {text}", flush=True)
 
 
+def requests(action):
+    """The lines of the stored run of try_codecs that have this action."""
+    with open(os.path.join(TRIALS, "stdin")) as lines:
+        return [line.rstrip("\n") for line in lines if line.split(" ")[3:4] == [action]]
+
+
 def damage(seconds):
-    """Damages bytes by one seed after another until the time is over, and stops where the program says anything else than that
-    what was read comes back."""
+    """Damages bytes by one seed after another until the time is over, and stops where the program answers anything else than that
+    each value comes back."""
     end, seed = time.monotonic() + seconds, 0
+    lines = [line.split(" ", 5) for line in requests("damage")]
     while time.monotonic() < end:
         seed += 1
-        process = subprocess.run([TRIALS_PROGRAM, "each", "damage", str(seed), "10000"], stdout=subprocess.PIPE)
-        said = process.stdout.decode()
-        if process.returncode != 0 or said.splitlines() != [f"{codec}: what was read comes back" for codec in CODECS]:
-            sys.exit(f"seed {seed}: status {process.returncode}, {said}")
+        asked = [" ".join([*words[:4], str(seed), *words[5:]]) for words in lines]
+        process = subprocess.run([TRIALS_PROGRAM], input="\n".join(asked).encode(), stdout=subprocess.PIPE)
+        said = process.stdout.decode().splitlines()
+        if process.returncode != 0 or said != [f"comes back <- {line}" for line in asked]:
+            sys.exit(f"seed {seed}: status {process.returncode}, {[line for line in said if not line.startswith('comes back')]}")
     print(f"{seed} seeds")
 
 
 def refuse_growths():
-    """Refuses each growth in turn, and stops where the program says anything else than that all come back or that there is no memory,
-    or where it does not say that all come back once no growth is refused."""
+    """Refuses each growth in turn, and stops where the program answers anything else than that a value comes back or that there is no
+    memory, or where it does not answer that the value comes back once no growth is refused."""
     with tempfile.TemporaryDirectory() as folder:
         library = os.path.join(folder, "librefuse.so")
         source = os.path.join(ROOT, "bench", "refuse.rs")
         subprocess.run(["rustc", "-O", "--edition", "2024", "--crate-type", "cdylib", source, "-o", library], check=True)
-        for job in [[codec, "growths"] for codec in CODECS] + [["packed", "pieces"]]:
-            print(f"{' '.join(job)}: {refused_growths(library, job)} growths", flush=True)
+        counts = {codec: 0 for codec in CODECS}
+        for line in requests("growths"):
+            counts[line.split(" ")[0]] += refused_growths(library, line)
+        for codec, count in counts.items():
+            print(f"{codec}: {count} growths", flush=True)
 
 
-def refused_growths(library, job):
-    """How many growths a job has, each of which was refused."""
+def refused_growths(library, line):
+    """How many growths a request has, each of which was refused."""
     number = 1
     while True:
         environment = {**os.environ, "LD_PRELOAD": library, "REFUSED": str(number)}
-        process = subprocess.run([TRIALS_PROGRAM, *job], env=environment, capture_output=True)
-        said = process.stdout.decode().rstrip()
-        name = job[1] if job[1] == "pieces" else job[0]
+        process = subprocess.run([TRIALS_PROGRAM], input=f"{line}\n".encode(), env=environment, capture_output=True)
+        said = process.stdout.decode().rstrip("\n")
         if b"a growth is refused" not in process.stderr:
-            if process.returncode != 0 or said != f"{name}: all come back":
-                sys.exit(f"{job}, no growth refused: status {process.returncode}, {said}")
+            if process.returncode != 0 or said != f"comes back <- {line}":
+                sys.exit(f"{line}, no growth refused: status {process.returncode}, {said}")
             return number - 1
-        # with status 1 the program had no memory for its arguments or its output
-        allowed = {0: (f"{name}: all come back", f"{name}: no memory"), 1: ("", f"{name}:")}
+        # a line that does not fit in memory is not understood, and with status 1 the program had no memory for its input or output
+        allowed = {0: [f"{text} <- {line}" for text in ("comes back", "no memory")] + [f"not understood: {line}"], 1: [""]}
         if said not in allowed.get(process.returncode, ()):
-            sys.exit(f"{job}, growth {number}: status {process.returncode}, {said}")
+            sys.exit(f"{line}, growth {number}: status {process.returncode}, {said}")
         number += 1
 
 

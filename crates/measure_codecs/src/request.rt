@@ -1,6 +1,6 @@
-//! What is asked for.
+//! The request to the program.
 
-/// The words by which something is asked for: a codec, what is done, and what it is done with.
+/// The words of a request: a codec, an action, and its operands.
 #[derive(Clone, Copy)]
 pub(crate) struct Request<'a> {
     pub(crate) words: &'a [String],

@@ -39,7 +39,7 @@ pub trait Calls: Drop {
 
 /// A codec whose encoder and decoder can be called by themselves.
 pub trait CallRules {
-    /// What the calls make.
+    /// The output of the calls.
     type Output: Drop;
 
     /// Makes writing calls with a new encoder.
@@ -51,7 +51,7 @@ pub trait CallRules {
     /// Makes reading calls with a new decoder, which then has nothing left to read.
     ///
     /// # Errors
-    /// What the reading calls answer, or why something was left.
+    /// The error of the reading calls, or of what they left.
     fn read_calls<C: Calls>(
         &self,
         calls: &C,
@@ -63,7 +63,7 @@ pub trait CallRules {
 /// Whether what the writing calls write is read by the reading calls, in a scope of its own.
 ///
 /// # Errors
-/// What the reading calls answer, or why the writing calls failed.
+/// The error of the reading calls, or of the writing calls.
 pub fn calls_come_back<R: CallRules, C: Calls>(rules: &R, calls: C) -> Result<(), Failure> {
     let inside = Inside(calls);
     match rules.write_calls(&inside, 4) {

@@ -16,9 +16,9 @@ pub enum Failure {
     Memory,
     /// A value was not written.
     NotWritten(EncodeError),
-    /// What was written was not read.
+    /// The output was not read.
     NotRead(DecodeError),
-    /// What was read is another value than was written, or a call answered what it should not.
+    /// Another value was read than was written, or a call gave a wrong answer.
     Another,
 }
 

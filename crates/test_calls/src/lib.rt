@@ -1,4 +1,4 @@
-//! What every codec is asked: the calls of an encoder and of a decoder one by one, and types and codecs by their names.
+//! The questions to every codec: the calls of an encoder and of a decoder one by one, and types and codecs by their names.
 //!
 //! | Item | Contents |
 //! |---|---|

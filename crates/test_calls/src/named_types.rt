@@ -20,12 +20,12 @@ use asn1_x509::RdnSequence;
 use std::borrow::Cow;
 use std::marker::PhantomData;
 
-/// What is tried of many types.
+/// A case of many types.
 pub trait TypeCase {
     /// The answer of a type.
     type Answer: Drop;
 
-    /// Tries it of a type.
+    /// Tries it with a type.
     fn try_type<T: Encode + Decode>(&self) -> Self::Answer;
 }
 

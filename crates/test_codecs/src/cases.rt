@@ -1,4 +1,4 @@
-//! What is asserted of a case and of bytes, and bytes that several tests have.
+//! Assertions on a case and on bytes, and bytes that several tests have.
 use std::process::Abort;
 use test_calls::Failure;
 

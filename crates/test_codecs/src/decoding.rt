@@ -2,12 +2,12 @@
 use crate::cases::assert_that;
 use asn1_bench::{ItemDecoder, PackedDecoder};
 use asn1_buffers::WholeDecoder;
-use asn1_dec::{Decode, DecodeError, DecodeSet};
+use asn1_dec::{Decode, DecodeError, DecodeSet, Needed};
 use asn1_der::DerDecoder;
-use asn1_samples::Badge;
+use asn1_samples::{Badge, Person};
 use asn1_tagform::NextItem;
 use asn1_tags::Tag;
-use asn1_values::ConstrainedInteger;
+use asn1_values::{ConstrainedInteger, OctetString};
 use std::process::Abort;
 
 /// INTEGER 11 as an item.
@@ -50,6 +50,42 @@ fn a_decoder_that_answers_an_error_has_failed(rt: HostRuntime) {
     assert_too_deep(&rt, PackedDecoder::new(rt.alloc(), &[], 0));
     assert_too_deep(&rt, ItemDecoder::<NextItem>::new(rt.alloc(), &[], 0));
     assert_too_deep(&rt, DerDecoder::new(rt.alloc(), &[], 0));
+}
+
+/// Asserts that this many bytes are missing, of which no memory is asked for.
+fn assert_missing<T: Decode + Drop, D: WholeDecoder>(
+    rt: &impl Abort,
+    mut decoder: D,
+    count: usize,
+) {
+    let error = T::decode(&mut decoder).err();
+    assert!(rt; error == Some(DecodeError::Incomplete(Needed::Size(count))));
+}
+
+/// The header of an OCTET STRING of the greatest length, and one octet.
+const LONG: &[u8] = &[1, 0, 0, 0, 0, 4, 6, 0xff, 0xff, 0xff, 0xff, 7];
+
+/// The header of a list of the greatest length, and one byte.
+const LONG_LIST: &[u8] = &[4, 0, 0, 0, 0, 16, 0xff, 0xff, 0xff, 0xff, 2];
+
+/// The same octets in DER, with a length of 2^31 - 1.
+const LONG_IN_DER: &[u8] = &[4, 0x84, 0x7f, 0xff, 0xff, 0xff, 7];
+
+/// The same list in DER.
+const LONG_LIST_IN_DER: &[u8] = &[0x30, 0x84, 0x7f, 0xff, 0xff, 0xff, 2];
+
+// With `--fail-alloc 1` too, since no memory is asked for.
+#[test]
+fn a_length_reserves_nothing(rt: HostRuntime) {
+    let alloc = rt.alloc();
+    assert_missing::<OctetString, _>(&rt, PackedDecoder::new(alloc, LONG, 0), 4_294_967_294);
+    assert_missing::<Vec<Person>, _>(&rt, PackedDecoder::new(alloc, LONG_LIST, 2), 4_294_967_294);
+    assert_missing::<OctetString, _>(&rt, DerDecoder::new(alloc, LONG_IN_DER, 0), 2_147_483_646);
+    assert_missing::<Vec<Person>, _>(
+        &rt,
+        DerDecoder::new(alloc, LONG_LIST_IN_DER, 2),
+        2_147_483_646,
+    );
 }
 
 /// Asserts that a badge has no fourth component.

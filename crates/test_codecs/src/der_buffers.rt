@@ -1,4 +1,4 @@
-//! What a buffer of DER sorts and rejects.
+//! The order and the refusals of a buffer of DER.
 use crate::cases::assert_bytes;
 use asn1_buffers::{MarkKind, RecordBuffer, ScopeKind, WriteError, write_whole};
 use asn1_der::DerBuffer;

@@ -66,6 +66,6 @@ pub chain_agrees : (k : Tag) (v : Chain) → MeansTheSame (chain_means k v).mean
 chain_agrees k end = means_itself
 chain_agrees k (link next count) = record { records = refl; of_type = (λ h. h, λ h. h); valid = λ _. (λ h. h, λ h. h) }
 
--- What a chain means.
+-- The meaning of a chain.
 abbrev pub chain_meaning : Tag → Meaning Chain
 chain_meaning k = choice_holding_untagged_itself (codes "Chain") (chain_alternatives_with k) (chain_means k) (chain_pick k) (chain_agrees k)

@@ -1,4 +1,4 @@
--- What values of two CHOICE types are to every codec, written out by hand.
+-- The records of values of two CHOICE types, written out by hand.
 use Rattle.std.specs.Prelude.{ℕ, List, [], ◌∷◌, Some, codes, false, pos, true}
 use Rattle.asn1_tags.specs.Trees.{leaf}
 use Rattle.asn1_tags.specs.declared.tags.Tag.{Tag}

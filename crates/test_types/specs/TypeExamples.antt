@@ -1,4 +1,4 @@
--- What a value of each type is to every codec, written out by hand.
+-- The records of a value of each type, written out by hand.
 use Rattle.std.specs.Prelude.{ℕ, Bool, true, false, List, [], ◌∷◌, Some, codes}
 use Rattle.asn1_model.specs.ConstraintSets.{unconstrained}
 use Rattle.asn1_model.specs.RecordTables.{Line, Table}

@@ -1,4 +1,4 @@
-//! What the definitions give for a few CHOICE types, written out by hand.
+//! The values of definitions for a few CHOICE types, written out by hand.
 //!
 //! The clauses of the functions without a body are worked examples: the prover computes the definitions on them.
 ghost use Rattle.std.specs.Prelude.{◌≡◌, ℕ, Bool, List, pos, true, [], ◌∷◌, Some, codes};

@@ -107,7 +107,7 @@ const CHECKS: &[(CheckError, &str)] = &[
     (CheckError::Memory, "check: no memory"),
 ];
 
-/// Asserts that each error is told by the text beside it.
+/// Asserts that each error has the text beside it.
 fn assert_texts<E: Display>(rt: &impl Abort, alloc: Global, rows: &[(E, &str)]) {
     for row in rows {
         let written = row.0.to_string(alloc).expect(rt, "memory");

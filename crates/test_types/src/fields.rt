@@ -102,7 +102,7 @@ const ANYTHING: Field<'static> = field!(Optional TagTree::Choice(&[]));
 
 const NEEDED: Field<'static> = field!(Required TagTree::Choice(&[]));
 
-// Components of a SEQUENCE, their clash, and whether they are in canonical order. A component that may be absent is told
+// Components of a SEQUENCE, their clash, and whether they are in canonical order. A component that may be absent has to be told
 // apart from those after it up to the next that is always there. A choice of nothing has every tag.
 const SEQUENCES: &[(&[Field<'static>], Option<(usize, usize)>, bool)] = &[
     (&[OPTIONAL_C0, C0], Some((0, 1)), true),

@@ -14,7 +14,7 @@
 //! | `choices` | CHOICE types that cannot be, and one with an alternative after the extension marker |
 //! | `enumerations` | an ENUMERATED type: its numbers and names |
 //! | `types` | sets, open types and wrappers: worked values, and copies |
-//! | `encoder` | what a codec is told beside the records when a value is written |
+//! | `encoder` | the number of elements that a codec gets beside the records |
 //! | `errors` | the texts of all errors |
 //! | `samples` | a type whose constraints take memory, and sets of values that are equal by a part |
 //! | `packed` | types that are written and not read, arrays of octets, and an entry point, in packed bytes |

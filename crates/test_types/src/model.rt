@@ -1,4 +1,4 @@
-//! What the definitions of records give, each written out by hand.
+//! The values of the definitions of records, each written out by hand.
 //!
 //! The clauses of the functions without a body are worked examples: the prover computes the definitions on them.
 ghost use Rattle.std.specs.Prelude.{◌≡◌, ℕ, Bool, true, false, List, [], ◌∷◌, ◌++◌, None, Some, codes};

@@ -1,4 +1,4 @@
-//! What is written of types that are not read, of arrays of octets, and by the entry point with a tag and a name.
+//! Bytes of types that are not read, of arrays of octets, and of the entry point with a tag and a name.
 ghost use Rattle.std.specs.Prelude.{◌≡◌, [], ◌∷◌, Some, codes, pos};
 ghost use Rattle.asn1_laws.specs.GivenTypes.{with_tag};
 ghost use Rattle.asn1_model.specs.ConstraintSets.{values_of};

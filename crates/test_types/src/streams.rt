@@ -31,7 +31,7 @@ fn append(rt: &impl Abort, iter: &mut Iter<'_, u8, ByteReader>, piece: &[u8]) {
     iter.append_bytes(piece).expect(rt, "memory");
 }
 
-/// Appends the piece. Where there is no room for it, what is unread stays as it was, and it is appended again.
+/// Appends the piece. If there is no room for it, the unread bytes stay as they were, and it is appended again.
 fn append_again(
     rt: &impl Abort,
     iter: &mut Iter<'_, u8, ByteReader>,
@@ -46,7 +46,7 @@ fn append_again(
     assert!(rt; iter.unread() == after);
 }
 
-/// What is read of these pieces, when `n` values are asked for.
+/// The values of these pieces, at most `n`.
 fn assert_read(
     rt: &impl Abort,
     alloc: Global,

@@ -78,7 +78,7 @@ fn instance_of_truth(instance: &InstanceOf<bool>)
         instance_of_true (lines ⟦<InstanceOf<bool> as FieldTable>⟧.components) }
 {}
 
-/// Which tags a wrapper may have: none that means no tag, and an implicit one no open type.
+/// The tags that a wrapper may have: none that means no tag, and an implicit one no open type.
 fn wrappers_under_tags()
     ensures tagged { ⟦<Implicit<tag::SET, bool> as AsnType>⟧.meaning.HasDistinctTags (context 1) }
     ensures untagged { ⟦<Implicit<tag::SET, bool> as AsnType>⟧.meaning.HasDistinctTags CHOICE → ⊥ }
@@ -101,7 +101,7 @@ fn put(rt: &impl Abort, numbers: &mut SetOf<u8>, number: u8) {
     numbers.try_insert(number).expect(rt, "memory");
 }
 
-/// Puts the number into the set. Where there is no room for it, it comes back, and the set has what it had; then it is put again.
+/// Puts the number into the set. If there is no room for it, it comes back, and the set is as it was; then it is put again.
 fn put_again(rt: &impl Abort, numbers: &mut SetOf<u8>, number: u8, before: &[u8], after: &[u8]) {
     if let Err(back) = numbers.insert(number) {
         assert!(rt; back == number && numbers.eq_slice(before));

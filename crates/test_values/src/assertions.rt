@@ -1,4 +1,4 @@
-//! What the tests of several modules call.
+//! Assertions that the tests of several modules call.
 use asn1_values::Integer;
 use std::alloc::Global;
 use std::fmt::Display;

@@ -1,4 +1,4 @@
-//! What a codec answers to a request.
+//! The answer of a codec to a request.
 use asn1_dec::{Decode, DecodeError, Needed};
 use asn1_enc::{Encode, EncodeError};
 use std::alloc::Global;
@@ -8,7 +8,7 @@ use test_calls::{Codec, Request, TypeCase, try_named};
 /// As many nested scopes as the other codec needs.
 const ENOUGH: usize = usize::MAX;
 
-/// What a codec answers to a request.
+/// The answer of a codec to a request.
 #[derive(Drop)]
 pub(crate) enum Answer {
     /// The bytes of the value, by the codec that writes it.
@@ -25,7 +25,7 @@ pub(crate) enum Answer {
     NotTold(EncodeError),
 }
 
-/// What is asked of a codec.
+/// The action of a request.
 #[derive(Clone, Copy, Drop)]
 enum Action {
     /// To read a value from all of the bytes.

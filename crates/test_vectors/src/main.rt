@@ -1,19 +1,19 @@
 //! Asks codecs of bytes, by lines that it reads from standard input, and writes a line for each to standard output.
 //!
-//! A line is a request, and after ` ; ` where its answer comes from:
+//! A line is a request, and after ` ; ` the source of its answer:
 //!
-//! | Words | What is asked |
-//! |---|---|
-//! | `CODEC TYPE DEPTH read OTHER BYTES` | which value the codec reads from all of the bytes; it is told by its bytes in the other codec |
-//! | `CODEC TYPE DEPTH front OTHER BYTES` | the same of the value with which the bytes begin, and how many bytes it has |
-//! | `CODEC TYPE DEPTH write OTHER BYTES` | which bytes the codec writes of the value whose bytes in the other codec these are |
+//! | Words | Work | Answer |
+//! |---|---|---|
+//! | `CODEC TYPE DEPTH read OTHER BYTES` | the codec reads a value from all of the bytes | its bytes in the other codec |
+//! | `CODEC TYPE DEPTH front OTHER BYTES` | the codec reads the value with which the bytes begin | its bytes in the other codec, and its length |
+//! | `CODEC TYPE DEPTH write OTHER BYTES` | the codec writes the value that the other one reads | the bytes |
 //!
-//! `CODEC` and `OTHER` are `packed`, `tag` or `der`; `DEPTH` is how many nested scopes the first of them may open. `TYPE` is one of
-//! the names in `crates/test_calls/src/named_types.rt`. `BYTES` are in hexadecimal, with spaces wherever they help. Lines that are empty or begin with `#`
-//! are written as they are.
+//! `CODEC` and `OTHER` are `packed`, `tag` or `der`; the first of them may open `DEPTH` nested scopes. `TYPE` is a name of
+//! `crates/test_calls/src/named_types.rt`. `BYTES` are in hexadecimal, with spaces wherever they help. Lines that are empty or begin
+//! with `#` are written as they are.
 //!
-//! The stored run is the test. The answers in `stdout` were made by hand or with another tool, and a line
-//! without a source was made by hand. A value is told by its bytes in another codec, and a refusal by the text of its error.
+//! The stored run is the test. The answers in `stdout` were made by hand or with another tool: a model of the three codecs in
+//! another language, X.690's examples and OpenSSL. The answer to bytes that are refused is the text of the error.
 #![tactic(auto)]
 
 mod answer;

@@ -124,7 +124,7 @@ fn are_read<T: Decode, F: FrontReader<T> + Drop>(
     }
 }
 
-/// Whether these values were read. Where some are missing, those that were read are a beginning, and the last error is the answer.
+/// Whether these values were read. If some are missing, the others are a beginning, and the last error is the answer.
 fn are_all<T: Decode>(read: &Pieces<T>, values: &[T]) -> Result<(), Failure> {
     is_same(&values.starts_with(&read.values), &true)?;
     match read.last {

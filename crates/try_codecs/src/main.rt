@@ -54,7 +54,7 @@ fn print_answer(rt: &impl Print, alloc: Global, line: &str) -> io::Result<()> {
     }
 }
 
-/// Prints what is said of a request, and then the line.
+/// Prints the answer to a request, and then the line.
 fn print_request(
     rt: &impl Print,
     alloc: Global,

@@ -2,7 +2,7 @@
 use std::fmt;
 use test_calls::Failure;
 
-/// What was found where nothing fails.
+/// The result of a trial that does not fail.
 #[derive(Drop)]
 pub(crate) enum Report {
     /// Each value that was read comes back.

@@ -52,7 +52,7 @@ impl NumberedCalls for DefaultCalls {
         }
     }
 
-    /// What has no call of a decoder for its default is read as a component that may be absent.
+    /// A component without a call of a decoder for its default is read as one that may be absent.
     fn read_call<D: Decoder>(&self, decoder: &mut D, number: usize) -> Result<(), Failure> {
         let constraints = &Constraints::NONE;
         let text = &self.text;

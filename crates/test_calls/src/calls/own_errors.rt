@@ -1,4 +1,4 @@
-//! What a call answers where the type inside refuses what it reads.
+//! The answers of calls if the type inside refuses its value.
 use crate::call_rules::{CallRules, Calls, FIRST, NAME, calls_come_back, is_this};
 use crate::failure::Failure;
 use asn1_bounds::Constraints;
@@ -8,7 +8,7 @@ use asn1_values::ConstrainedInteger;
 
 type OneToTen = ConstrainedInteger<1, 10>;
 
-/// What is around a number.
+/// The call around a number.
 #[derive(Clone, Copy, Drop)]
 enum Around {
     ExplicitTag,

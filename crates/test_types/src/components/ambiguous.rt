@@ -1,4 +1,4 @@
-//! What no type can be.
+//! Components that no type can have.
 ghost use Rattle.std.specs.Prelude.{[], ◌∷◌};
 ghost use Rattle.asn1_model.specs.Meaning.{IsWellTagged};
 ghost use Rattle.asn1_model.specs.Tags.{context};

@@ -6,7 +6,7 @@ use asn1_model::AsnType;
 use asn1_values::ConstrainedInteger;
 
 /// A number that is no default and outside its limits makes the whole invalid, in a component with a default and in a group.
-/// Of a default nothing is asked.
+/// A default may have any value.
 fn numbers_outside_their_limits()
     ensures written { (accepts : List ℕ → Bool) → ¬ (number_with_default (λ _. false)
         ⟦<ConstrainedInteger<1, 10> as AsnType>⟧.meaning).IsValid accepts (pos 11) }

@@ -1,4 +1,4 @@
-//! A codec that has failed from the start, and keeps the number of elements that it is told.
+//! A codec that has failed from the start, and keeps the number of elements that it gets.
 ghost use Rattle.std.specs.Prelude.{⊤, true};
 
 use asn1_bounds::{Codec, Constraints};

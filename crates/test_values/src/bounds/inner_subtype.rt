@@ -116,7 +116,7 @@ fn names_the_first_component_at_fault(rt: HostRuntime) {
     );
 }
 
-/// What validation answers of a letter of this version that contains TRUE in DER.
+/// The answer of validation for a letter of this version that contains TRUE in DER.
 fn letter_validated(
     rt: &impl Abort,
     alloc: Global,

@@ -1,4 +1,4 @@
-//! What bounds have in common, how many members they have, and how they print.
+//! The common members of bounds, their number, and their text.
 use crate::assertions::{assert_that, assert_written, number};
 use asn1_ranges::{Bounded, WholeNumber};
 use either::{Either, Left, Right};

@@ -1,4 +1,4 @@
-//! What a codec is told beside the records, which no contract says.
+//! The number of elements that a codec gets beside the records, which no contract covers.
 use crate::encoder::listener::Listener;
 use asn1_bounds::Constraints;
 use asn1_enc::Encoder;
