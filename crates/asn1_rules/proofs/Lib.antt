@@ -4,3 +4,5 @@ pub mod PiecesRead
 pub mod UnreadBytes
 pub mod Steps
 pub mod Streams
+mod CanonicalFronts
+mod Spellings

@@ -1,3 +1,5 @@
+pub mod CanonicalFronts
+pub mod CanonicalReading
 pub mod Rules
 pub mod Recoding
 pub mod RoundTrips

@@ -6,6 +6,7 @@
 //! | [`round_trip`] | writes a value and reads it back |
 //! | [`RoundTripError`] | which of the two failed |
 //! | [`recode`], [`RecodeError`] | reads a value by one codec and writes it by another |
+//! | [`read_canonical`], [`CanonicalError`] | reads a value only if writing it makes the same bytes |
 //! | [`FrontReader`] | reads one value at the front of an input, and tells its length |
 //! | [`Iter`], [`iter_of`] | values one after another, out of bytes that come in pieces |
 //! | [`write_list`] | the outputs of values, joined |
@@ -31,6 +32,9 @@
 //! - `recode` goes from any codec to any other: of an input that carries the own records of such a value of such a type it makes an
 //!   output that carries those of an equal value (`recoded`), and it fails as reading and writing may (`Recodes` of
 //!   `specs/Recoding.antt`).
+//! - `read_canonical` answers a value only if the bytes are those that writing it makes (`canonical`). A valid value whose only
+//!   spelling is these bytes is read back equal (`read`; `HasOneSpelling` of `specs/CanonicalReading.antt`), and each error says why
+//!   there is no value (`departs`).
 //!
 //! # A stream
 //!
@@ -53,6 +57,8 @@
 #![tactic(auto)]
 
 mod buffer;
+mod canonical;
+mod canonical_reader;
 mod front_reader;
 mod iter;
 pub mod laws;
@@ -65,6 +71,8 @@ mod rules;
 mod source;
 mod stream_round_trips;
 
+pub use canonical::{CanonicalError, read_canonical};
+pub use canonical_reader::{CanonicalReader, a_canonical_reader_keeps_to_its_rules};
 pub use front_reader::FrontReader;
 pub use iter::Iter;
 pub use lists::write_list;

@@ -1,0 +1,42 @@
+use Rattle.std.proofs.Common.{◌≡◌, List, ℕ, inl, inr, sym, ap, ◌∙◌}
+use Rattle.std.specs.Prelude.{slice_get}
+use Rattle.asn1_rules.specs.declared.canonical.CanonicalError.TheVariants.{Write}
+use Rattle.asn1_rules.proofs.Spellings.{for_memory, spelled}
+use Rattle.asn1_rules.proofs.canonical.read_canonical.Goals as goal
+
+pub returns-in-Err-write_value-clause-read : goal.returns-in-Err-write_value-clause-read
+returns-in-Err-write_value-clause-read g c = λ v can of_type valid carried one.
+    let format = g.R.Rules.format in
+    let m = g.T.AsnType.meaning in
+    let eq = g.T.PartialEq.eq in
+    let read = c.in-Ok.ensures.read v can of_type valid carried in
+    let memory = for_memory format g.met.R.Rules.lawful m eq v c.args.input.now.items one c.in-Ok.value read.0 c.args.depth c.in-Err-write_value.error read.1 c.in-Err-write_value.ensures in
+    inr (inl (ap Write memory))
+
+pub returns-in-None-clause-canonical : goal.returns-in-None-clause-canonical
+returns-in-None-clause-canonical g c = record {
+  output = c.in-Ok-write_value.output;
+  has_bytes = sym c.deref-2.ensures.value ∙ sym c.in-None.ensures ∙ c.deref.ensures.value;
+  written = c.in-Ok-write_value.ensures;
+}
+
+pub returns-in-Some-clause-departs : goal.returns-in-Some-clause-departs
+returns-in-Some-clause-departs g c = (
+  c.in-Ok.value,
+  c.deref-2.result.now,
+  record {
+    output = c.in-Ok-write_value.output;
+    has_bytes = sym c.deref-2.ensures.value;
+    written = c.in-Ok-write_value.ensures;
+  },
+  rw (sym c.deref.ensures.value) c.in-Some.ensures,
+)
+
+pub returns-in-Some-clause-read : goal.returns-in-Some-clause-read
+returns-in-Some-clause-read g c = λ v can of_type valid carried one.
+    let format = g.R.Rules.format in
+    let m = g.T.AsnType.meaning in
+    let eq = g.T.PartialEq.eq in
+    let read = c.in-Ok.ensures.read v can of_type valid carried in
+    let same = spelled format g.met.R.Rules.lawful m eq v c.args.input.now.items one c.in-Ok.value read.0 c.args.depth c.in-Ok-write_value.output c.in-Ok-write_value.ensures in
+    absurd (c.in-Some.ensures.differ (ap (λ (bytes : List ℕ). slice_get bytes c.in-Some.at) (c.deref.ensures.value ∙ sym same ∙ sym c.deref-2.ensures.value)))

@@ -1,0 +1,48 @@
+-- Bytes that are read only if writing what was read makes the very same bytes.
+use Rattle.std.specs.Prelude.{◌≡◌, ◌≢◌, ◌⊎◌, ⊤, ℕ, ◌<◌, Bool, true, List, Vec, slice_get, take}
+use Rattle.std.specs.declared.alloc.Global.{Global}
+use Rattle.asn1_laws.specs.declared.decode_error.DecodeError.TheVariants as reading
+use Rattle.asn1_laws.specs.declared.encode_error.EncodeError.TheVariants as writing
+use Rattle.asn1_model.specs.Meaning.{Meaning, own_records}
+use Rattle.asn1_model.specs.Orders.{SameRecords}
+use Rattle.asn1_model.specs.Records.{highest}
+use Rattle.asn1_rules.specs.Rules.{Format, IsNotWritten, IsWritten}
+use Rattle.asn1_rules.specs.declared.canonical.CanonicalError.{CanonicalError}
+use Rattle.asn1_rules.specs.declared.canonical.CanonicalError.TheVariants.{Read, Write, NotCanonical}
+
+-- The bytes before this position are the same, and at it the two differ, or one of them ends.
+pub record IsFirstDifference (left right : List ℕ) (at : ℕ) : Type 0 where
+  pub before : take at left ≡ take at right
+  pub differ : slice_get left at ≢ slice_get right at
+
+module _ {V : Type 0} (F : Format (Vec ℕ Global)) (m : Meaning V) where
+  -- Writing the value makes these bytes: they are those of an output that carries the value's own records, nested no deeper than
+  -- the depth.
+  pub record IsWrittenAs (depth : ℕ) (v : V) (bytes : List ℕ) : Type 0 where
+    pub output : Vec ℕ Global
+    pub has_bytes : output.items ≡ bytes
+    pub written : IsWritten F (own_records m v) (m.IsOfType v) depth output
+
+  -- The bytes are those that some writing of the value makes.
+  abbrev pub IsSpelled : V → List ℕ → Type 0
+  IsSpelled v bytes = (depth : ℕ) × IsWrittenAs depth v bytes
+
+  -- Why no value was answered: the bytes were not read; or a value that was read of them was not written, as it may; or it was
+  -- written as other bytes, and the two byte strings first differ at the position that the error names.
+  abbrev pub DepartsAs : ℕ → List ℕ → CanonicalError → Type 0
+  DepartsAs depth input (Read e) = ⊤
+  DepartsAs depth input (Write e) = (w : V) × IsNotWritten F (own_records m w) depth e
+  DepartsAs depth input (NotCanonical at) =
+      (w : V) × (bytes : List ℕ) × IsWrittenAs depth w bytes × IsFirstDifference input bytes at
+
+  -- The value has one spelling, which is these bytes: equal values have the same records, up to the order inside sets, these
+  -- records are not rejected, and an output that carries them has no other bytes.
+  pub record HasOneSpelling (eq : V → V → Bool) (v : V) (bytes : List ℕ) : Type 0 where
+    pub same_records : (w : V) → eq w v ≡ true → SameRecords (own_records m w) (own_records m v)
+    pub not_rejected : F.rejects (own_records m v) → ⊥
+    pub no_other : (output : Vec ℕ Global) → F.carries output (own_records m v) → output.items ≡ bytes
+
+  -- Memory ran out, or the value's records are nested deeper than the depth.
+  abbrev pub IsRefusedFor : ℕ → V → CanonicalError → Type 0
+  IsRefusedFor depth v e =
+      (e ≡ Read reading.Memory) ⊎ (e ≡ Write writing.Memory) ⊎ ((e ≡ Read reading.Depth) × (depth < highest (own_records m v)))

@@ -1,0 +1,81 @@
+//! A value that is read of the very bytes that writing it makes.
+ghost use Rattle.asn1_model.specs.Meaning.{IsWellTagged, own_records};
+ghost use Rattle.asn1_rules.specs.CanonicalReading.{DepartsAs, HasOneSpelling, IsFirstDifference, IsRefusedFor, IsWrittenAs};
+ghost use Rattle.std.specs.Prelude.{◌≡◌, true, IfErr, IfOk, MatchOption, MatchResult};
+
+use crate::rules::Rules;
+use asn1_dec::{Decode, DecodeError};
+use asn1_enc::{Encode, EncodeError};
+use thiserror::Error;
+
+/// Why bytes were not read as a value whose writing makes the same bytes.
+#[derive(Clone, Copy, Debug, Drop, PartialEq, Eq, Error)]
+pub enum CanonicalError {
+    /// The bytes were not read.
+    #[error("{0}")]
+    Read(DecodeError),
+    /// The value that was read was not written.
+    #[error("{0}")]
+    Write(EncodeError),
+    /// The value that was read is written as other bytes.
+    #[error("not canonical at byte {at}")]
+    NotCanonical {
+        /// The position of the first byte in which the two differ, or at which one of them ends.
+        at: usize,
+    },
+}
+
+/// Reads a value, writes it again, and compares: the value is answered only if the two byte strings are the same.
+///
+/// So each value that is answered is read of one spelling, the one that writing makes (`canonical`). A valid value of a well-tagged
+/// type whose only spelling is the input is read back equal (`read`); this is the case of each value that was written, by a codec
+/// that has one output for records that are the same up to the order inside sets, as DER. Reading and writing open at most this
+/// many nested scopes.
+///
+/// # Errors
+/// [`CanonicalError::Read`] with the error of reading, [`CanonicalError::Write`] with the error of writing the value that was
+/// read, and [`CanonicalError::NotCanonical`] with the position of the first byte that differs (`departs`). Where the input is the
+/// only spelling of a valid value, the error is want of memory, or [`DecodeError::Depth`] where the value's records are nested
+/// deeper than the depth.
+pub fn read_canonical<T: Encode + Decode, R: Rules<Output = Vec<u8>>>(
+    rules: &R,
+    input: &Vec<u8>,
+    depth: usize,
+) -> Result<T, CanonicalError>
+    ensures canonical { IfOk result (λ w. IsWrittenAs R.format T.meaning depth w input.now.items) }
+    ensures departs { IfErr result (DepartsAs R.format T.meaning depth input.now.items) }
+    ensures read { (v : T) → IsWellTagged T.meaning → T.meaning.IsOfType v →
+        T.meaning.IsValid R.format.accepts v → R.format.carries input.now (own_records T.meaning v) →
+        HasOneSpelling R.format T.meaning T.eq v input.now.items →
+        MatchResult result (λ w. T.eq w v ≡ true) (IsRefusedFor R.format T.meaning depth v) }
+{
+    let value: T = match rules.read_value(input, depth) {
+        Ok(value) => value,
+        Err(error) => return Err(CanonicalError::Read(error)),
+    };
+    let output = match rules.write_value(&value, depth) {
+        Ok(output) => output,
+        Err(error) => return Err(CanonicalError::Write(error)),
+    };
+    match first_difference(input, &output) {
+        None => Ok(value),
+        Some(at) => Err(CanonicalError::NotCanonical { at }),
+    }
+}
+
+/// The position of the first byte in which two byte strings differ, or at which one of them ends; `None` where they are equal.
+fn first_difference(left: &[u8], right: &[u8]) -> Option<usize>
+    ensures { MatchOption result (left.now ≡ right.now) (IsFirstDifference left.now right.now) }
+{
+    let shorter = left.len().min(right.len());
+    for index in 0..shorter {
+        if left[index] != right[index] {
+            return Some(index);
+        }
+    }
+    if left.len() == right.len() {
+        None
+    } else {
+        Some(shorter)
+    }
+}

@@ -1,0 +1,93 @@
+//! A reader of fronts that are the very bytes that writing their values makes.
+ghost use Rattle.asn1_laws.specs.declared.decode_error.DecodeError.TheVariants as reading;
+ghost use Rattle.asn1_laws.specs.declared.encode_error.EncodeError.TheVariants as writing;
+ghost use Rattle.asn1_model.specs.Meaning.{own_records};
+ghost use Rattle.asn1_rules.specs.CanonicalFronts.{HasOneSpellingEach, canonical_fronts};
+ghost use Rattle.asn1_rules.specs.Fronts.{BelongsTo, IsSteady};
+ghost use Rattle.std.specs.Prelude.{◌≡◌};
+
+use crate::front_reader::FrontReader;
+use crate::rules::Rules;
+use asn1_dec::{Decode, DecodeError};
+use asn1_enc::{Encode, EncodeError};
+
+/// A reader of fronts over another, which answers a value only if writing it makes the very bytes that were read.
+///
+/// # Errors
+/// An error is one of the inner reader; [`DecodeError::Memory`] or [`DecodeError::Depth`] where writing the value failed so; and
+/// [`DecodeError::Custom`], with the codec's own text where it rejects the value, and with the text `not canonical` where the value
+/// is written as other bytes.
+#[derive(Clone, Copy, Debug, Drop)]
+pub struct CanonicalReader<F, R> {
+    reader: F,
+    rules: R,
+    depth: usize,
+}
+
+impl<F, R> CanonicalReader<F, R> {
+    /// A reader over another, whose values these rules write with at most this many nested scopes.
+    pub fn new(reader: F, rules: R, depth: usize) -> CanonicalReader<F, R>
+        ensures reader { result.reader ≡ reader }
+        ensures rules { result.rules ≡ rules }
+        ensures depth { result.depth ≡ depth }
+    {
+        CanonicalReader {
+            reader,
+            rules,
+            depth,
+        }
+    }
+}
+
+impl<T: Encode + Decode, F: FrontReader<T>, R: Rules<Output = Vec<u8>>> FrontReader<T>
+    for CanonicalReader<F, R> {
+    ghost use Rattle.asn1_rules.specs.CanonicalFronts.{canonical_fronts};
+
+    ghost fronts = { canonical_fronts F.fronts R.format T.meaning };
+
+    fn read_front(&self, input: &[u8]) -> Result<(T, usize), DecodeError> {
+        let (value, length) = self.reader.read_front(input)?;
+        let output = match self.rules.write_value(&value, self.depth) {
+            Ok(output) => output,
+            Err(error) => return Err(error_of_writing(error)),
+        };
+        if output.as_slice() == &input[..length] {
+            Ok((value, length))
+        } else {
+            Err(DecodeError::Custom("not canonical"))
+        }
+    }
+
+    ghost lawful = { record {
+      is_cut = λ reader bytes v n front. (F.lawful.is_cut reader.reader bytes v n front.front, (v, front.spelled));
+      within = λ reader bytes n cut. F.lawful.within reader.reader bytes n cut.0;
+    } };
+}
+
+/// The error of a reader that cannot write what it has read.
+fn error_of_writing(error: EncodeError) -> DecodeError
+    ensures memory { error ≡ writing.Memory → result ≡ reading.Memory }
+    ensures depth { error ≡ writing.Depth → result ≡ reading.Depth }
+{
+    match error {
+        EncodeError::Memory => DecodeError::Memory,
+        EncodeError::Depth => DecodeError::Depth,
+        EncodeError::Failed => DecodeError::Failed,
+        EncodeError::Custom(text) => DecodeError::Custom(text),
+    }
+}
+
+/// A law of a canonical reader: it is steady if the inner reader is (`steady`). It belongs to the rules if the inner reader does and
+/// each output is the only spelling of its value (`belongs`).
+pub fn a_canonical_reader_keeps_to_its_rules<
+    T: Encode + Decode,
+    F: FrontReader<T>,
+    R: Rules<Output = Vec<u8>>,
+>(reader: &CanonicalReader<F, R>)
+    ensures steady { IsSteady F.fronts reader.now.reader →
+        IsSteady ⟦<CanonicalReader<F, R> as FrontReader<T>>⟧.fronts reader.now }
+    ensures belongs { HasOneSpellingEach F.fronts R.format T.meaning →
+        BelongsTo F.fronts reader.now.reader R.format T.meaning T.eq →
+        BelongsTo ⟦<CanonicalReader<F, R> as FrontReader<T>>⟧.fronts reader.now R.format
+        T.meaning T.eq }
+{}
