@@ -15,7 +15,8 @@ use std::marker::PhantomData;
 /// A SET with a component that takes no byte.
 #[derive(PartialEq, Eq, Debug, Drop)]
 pub struct Hollow {
-    nothing: PhantomData<u8>,
+    /// `nothing NULL`
+    pub nothing: PhantomData<u8>,
 }
 
 impl DecodeSetByIndex for Hollow {

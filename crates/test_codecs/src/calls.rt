@@ -1,12 +1,30 @@
 //! Each call of the encoder and of the decoder.
 use crate::cases::assert_passes;
-use asn1_bench::{ItemDecoder, ItemEncoder, PackedDecoder, PackedEncoder};
-use asn1_der::{DerDecoder, DerEncoder};
+use asn1_bench::{ItemBuffer, ItemDecoder, PackedBuffer, PackedDecoder};
+use asn1_buffers::{BufferEncoder, RecordBuffer, WholeDecoder};
+use asn1_der::{DerBuffer, DerDecoder};
 use asn1_enc::EncodeError;
 use asn1_tagform::NextItem;
 use std::alloc::Global;
 use std::process::Abort;
 use test_calls::{CallRules, Calls, Failure, each_call_comes_back};
+
+/// The bytes of writing calls, by a new encoder.
+fn write<B: RecordBuffer, C: Calls>(
+    alloc: Global,
+    calls: &C,
+    depth: usize,
+) -> Result<Vec<u8>, EncodeError> {
+    let mut encoder = BufferEncoder::<B>::new(alloc, depth);
+    calls.write(&mut encoder)?;
+    Ok(encoder.finish())
+}
+
+/// Makes reading calls with a decoder, which then has nothing left to read.
+fn read<D: WholeDecoder, C: Calls>(mut decoder: D, calls: &C) -> Result<(), Failure> {
+    calls.read(&mut decoder)?;
+    decoder.end().map_err(Failure::of_reading)
+}
 
 /// The encoder and the decoder of the packed codec.
 #[derive(Drop)]
@@ -18,9 +36,7 @@ impl CallRules for PackedCalls {
     type Output = Vec<u8>;
 
     fn write_calls<C: Calls>(&self, calls: &C, depth: usize) -> Result<Vec<u8>, EncodeError> {
-        let mut encoder = PackedEncoder::new(self.alloc, depth);
-        calls.write(&mut encoder)?;
-        Ok(encoder.finish())
+        write::<PackedBuffer, C>(self.alloc, calls, depth)
     }
 
     fn read_calls<C: Calls>(
@@ -29,14 +45,14 @@ impl CallRules for PackedCalls {
         output: &Vec<u8>,
         depth: usize,
     ) -> Result<(), Failure> {
-        let mut decoder = PackedDecoder::new(self.alloc, output.as_slice(), depth);
-        calls.read(&mut decoder)?;
-        decoder.finish().map_err(Failure::of_reading)
+        read(
+            PackedDecoder::new(self.alloc, output.as_slice(), depth),
+            calls,
+        )
     }
 }
 
-/// Those of the tag form. (A type for both, over the way to tell presence, is refused: the borrow checker does not cover a decoder
-/// with a type argument and a lifetime.)
+/// Those of the tag form.
 #[derive(Drop)]
 struct TagCalls {
     alloc: Global,
@@ -46,9 +62,7 @@ impl CallRules for TagCalls {
     type Output = Vec<u8>;
 
     fn write_calls<C: Calls>(&self, calls: &C, depth: usize) -> Result<Vec<u8>, EncodeError> {
-        let mut encoder = ItemEncoder::<NextItem>::new(self.alloc, depth);
-        calls.write(&mut encoder)?;
-        Ok(encoder.finish())
+        write::<ItemBuffer<NextItem>, C>(self.alloc, calls, depth)
     }
 
     fn read_calls<C: Calls>(
@@ -57,9 +71,10 @@ impl CallRules for TagCalls {
         output: &Vec<u8>,
         depth: usize,
     ) -> Result<(), Failure> {
-        let mut decoder = ItemDecoder::<NextItem>::new(self.alloc, output.as_slice(), depth);
-        calls.read(&mut decoder)?;
-        decoder.finish().map_err(Failure::of_reading)
+        read(
+            ItemDecoder::<NextItem>::new(self.alloc, output.as_slice(), depth),
+            calls,
+        )
     }
 }
 
@@ -73,9 +88,7 @@ impl CallRules for DerCalls {
     type Output = Vec<u8>;
 
     fn write_calls<C: Calls>(&self, calls: &C, depth: usize) -> Result<Vec<u8>, EncodeError> {
-        let mut encoder = DerEncoder::new(self.alloc, depth);
-        calls.write(&mut encoder)?;
-        Ok(encoder.finish())
+        write::<DerBuffer, C>(self.alloc, calls, depth)
     }
 
     fn read_calls<C: Calls>(
@@ -84,9 +97,7 @@ impl CallRules for DerCalls {
         output: &Vec<u8>,
         depth: usize,
     ) -> Result<(), Failure> {
-        let mut decoder = DerDecoder::new(self.alloc, output.as_slice(), depth);
-        calls.read(&mut decoder)?;
-        decoder.finish().map_err(Failure::of_reading)
+        read(DerDecoder::new(self.alloc, output.as_slice(), depth), calls)
     }
 }
 
