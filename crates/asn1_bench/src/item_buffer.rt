@@ -1,12 +1,9 @@
 //! The bytes of items, as an encoder writes them.
-ghost use Rattle.asn1_buffers.specs.declared.error.WriteError.TheVariants.{Memory};
-ghost use Rattle.asn1_items.specs.declared.error.BufferError.TheVariants as buffer_error;
-ghost use Rattle.std.specs.Prelude.{◌≡◌, ◌↔◌};
 
 use crate::presence::Presence;
 use asn1_bounds::Codec;
 use asn1_buffers::{MarkKind, RecordBuffer, WriteError};
-use asn1_items::{Buffer, BufferError, Content, ScopeKind};
+use asn1_items::{Buffer, Content, ScopeKind};
 use asn1_tags::Tag;
 use std::alloc::Global;
 use std::marker::PhantomData;
@@ -46,33 +43,25 @@ impl<P: Presence> RecordBuffer for ItemBuffer<P> {
 
     #[inline(always)]
     fn append_scalar(&mut self, tag: Tag, content: Content<'_>) -> Result<(), WriteError> {
-        match self.items.append_scalar(tag, content) {
-            Ok(()) => Ok(()),
-            Err(error) => Err(write_error_of(error)),
-        }
+        self.items.append_scalar(tag, content)?;
+        Ok(())
     }
 
     fn append_open_type(&mut self, bytes: &[u8]) -> Result<(), WriteError> {
-        match self.items.append_open_type(bytes) {
-            Ok(()) => Ok(()),
-            Err(error) => Err(write_error_of(error)),
-        }
+        self.items.append_open_type(bytes)?;
+        Ok(())
     }
 
     #[inline(always)]
     fn append_mark(&mut self, kind: MarkKind) -> Result<(), WriteError> {
-        match self.items.append_mark(P::bytes_of_mark(kind)) {
-            Ok(()) => Ok(()),
-            Err(error) => Err(write_error_of(error)),
-        }
+        self.items.append_mark(P::bytes_of_mark(kind))?;
+        Ok(())
     }
 
     #[inline(always)]
     fn begin_scope(&mut self, kind: ScopeKind, tag: Tag) -> Result<(), WriteError> {
-        match self.items.open_scope(kind, tag) {
-            Ok(()) => Ok(()),
-            Err(error) => Err(write_error_of(error)),
-        }
+        self.items.open_scope(kind, tag)?;
+        Ok(())
     }
 
     // The items of a SET, and the elements of a SET OF, stay in the order in which they were written (`in_order`).
@@ -82,42 +71,22 @@ impl<P: Presence> RecordBuffer for ItemBuffer<P> {
         ensures in_order { EndsScopeInOrder (written_items P.mark_bytes)
             self.old self.new result }
     {
-        match self.items.close_scope() {
-            Ok(()) => Ok(()),
-            Err(error) => Err(write_error_of(error)),
-        }
+        self.items.close_scope()?;
+        Ok(())
     }
 
     fn begin_group(&mut self) -> Result<(), WriteError> {
-        match self
-            .items
-            .open_group(P::bytes_of_mark(MarkKind::GroupStart))
-        {
-            Ok(()) => Ok(()),
-            Err(error) => Err(write_error_of(error)),
-        }
+        self.items
+            .open_group(P::bytes_of_mark(MarkKind::GroupStart))?;
+        Ok(())
     }
 
     fn end_group(&mut self) -> Result<(), WriteError> {
         let end = P::bytes_of_mark(MarkKind::GroupEnd);
         let absent = P::bytes_of_mark(MarkKind::GroupAbsent);
-        match self.items.close_group(end, absent) {
-            Ok(()) => Ok(()),
-            Err(error) => Err(write_error_of(error)),
-        }
+        self.items.close_group(end, absent)?;
+        Ok(())
     }
 
     ghost by_parts = { rejects_by_parts P.mark_bytes };
-}
-
-/// The error of a buffer for this one.
-#[cold]
-fn write_error_of(error: BufferError) -> WriteError
-    ensures { (result ≡ Memory) ↔ (error ≡ buffer_error.Memory) }
-{
-    match error {
-        BufferError::Memory => WriteError::Memory,
-        BufferError::TooLong => WriteError::Rejected("item too long"),
-        BufferError::NotOpen => WriteError::Rejected("nothing is open"),
-    }
 }

@@ -1,7 +1,9 @@
 //! Why something was not written.
 ghost use Rattle.asn1_buffers.specs.declared.error.WriteError.TheVariants.{Memory};
-ghost use Rattle.std.specs.Prelude.{◌≡◌};
+ghost use Rattle.asn1_items.specs.declared.error.BufferError.TheVariants as buffer_error;
+ghost use Rattle.std.specs.Prelude.{◌≡◌, ◌↔◌};
 
+use asn1_items::BufferError;
 use std::alloc::AllocError;
 use thiserror::Error;
 
@@ -21,5 +23,18 @@ impl From<AllocError> for WriteError {
 
     fn from(_refused: AllocError) -> WriteError {
         WriteError::Memory
+    }
+}
+
+impl From<BufferError> for WriteError {
+    ghost from_gives = { λ error e. (e ≡ Memory) ↔ (error ≡ buffer_error.Memory) };
+
+    #[cold]
+    fn from(error: BufferError) -> WriteError {
+        match error {
+            BufferError::Memory => WriteError::Memory,
+            BufferError::TooLong => WriteError::Rejected("item too long"),
+            BufferError::NotOpen => WriteError::Rejected("nothing is open"),
+        }
     }
 }
