@@ -5,7 +5,7 @@ mod ElementCuts
 mod Ordering
 mod Pieces
 mod WrittenElements
-mod Ascending
+mod AscendingElements
 mod Inside
 mod ParsedElements
 mod PresenceByTag

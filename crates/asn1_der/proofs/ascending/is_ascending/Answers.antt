@@ -1,5 +1,5 @@
 use Rattle.std.proofs.Common.{rules, ◌∙◌, sym, refl, arith}
-use Rattle.asn1_der.proofs.Ascending.{as_found, begin, further, goes, next_found, none_after}
+use Rattle.asn1_der.proofs.AscendingElements.{as_found, begin, further, goes, next_found, none_after}
 use Rattle.asn1_der_items.proofs.TrailingBytes.{element_at-shorter}
 use Rattle.asn1_items.proofs.DecodeStates.{not_both}
 use Rattle.asn1_der.proofs.ascending.is_ascending.Goals as goal
