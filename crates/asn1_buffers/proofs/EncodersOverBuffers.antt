@@ -127,8 +127,9 @@ module _ {B : Type 0} (F : BufferForm B) where
     same_depth = same;
   }
 
-  pub group_is_not_opened : (old new : BufferEncoder B) (e : EncodeError) → ¬ IsRejection e → e ≢ Depth → e ≢ Failed → old.failed ≡ false → new.failed ≡ true → GroupIsNotOpen (in_one_order F) old new e
-  group_is_not_opened old new e not_custom not_deep other was now = record { error = is_error old new e other was now; not_too_deep = not_deep; not_rejected = not_custom }
+  pub group_is_not_opened : {table : Table Line} (old new : BufferEncoder B) (e : EncodeError) → ¬ IsRejection e → e ≢ Depth → e ≢ Failed → old.failed ≡ false → new.failed ≡ true →
+      GroupIsNotOpen (in_one_order F) old table new e
+  group_is_not_opened old new e not_custom not_deep other was now = record { error = is_error old new e other was now; not_too_deep = not_deep; rejected = λ custom rs. absurd (not_custom custom) }
 
   pub group_is_closed : (old new : BufferEncoder B) → ((table : Table Line) (rs : List Record) (w : Written) → F.wrote old.buffer (in_group table rs w) → F.wrote new.buffer (followed_by w (group_records table (Some rs)))) →
       new.limit ≡ old.limit → old.failed ≡ false → new.failed ≡ false → new.depth_left ≡ old.depth_left → GroupIsClosed (in_one_order F) old new

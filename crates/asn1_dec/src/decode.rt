@@ -20,23 +20,22 @@ use asn1_tags::Tag;
 ///
 /// Before the records of a valid value of a well-tagged type, under what the entry point is given, a tag and constraints, and
 /// any name, the answer is an equal value, and what follows remains to be read. It fails there only if memory runs out,
-/// or where the records are nested deeper than the depth left. What an entry point is not given is the type's own. Where a value may be
-/// absent, as an `Option`, what follows it begins with none of the type's tags.
+/// or where the records are nested deeper than the depth left. An entry point takes the type's own tag or constraints if it is not given
+/// one. The records after a value that may be absent, as an `Option`, begin with none of the type's tags.
 ///
 /// A success keeps the depth left, and does not make the decoder failed. An error either does, or is the type's own,
 /// which is neither [`DecodeError::Depth`] nor [`DecodeError::Failed`]: then the decoder has not failed, the depth left is as it
 /// was, and the decoder, if it was before the records of a valid value, is after them, as where a box had no memory.
-/// Where memory ran out for the type's own constraints, which only a permitted alphabet among them may allocate, the decoder is
-/// as it was.
+/// The decoder is as it was if memory ran out for the type's own constraints, of which only a permitted alphabet allocates.
 ///
 /// A type may refuse records that it has read, by an error of its own (`refusals`): `LimitedInteger` a number outside its limits,
 /// `Array` a list of another length. Before such records an entry point answers that error, and the decoder, which has not
 /// failed, is after them; or it fails as it may before the records of a value. Most types refuse nothing.
 ///
-/// Where each value of the type is a record, a decoder that has failed answers [`DecodeError::Failed`].
+/// A failed decoder answers [`DecodeError::Failed`] if each value of the type is a record.
 pub trait Decode: AsnType + Eq + Sized + Drop {
-    // Which records the type refuses, under a tag and constraints, and by which error. The codec's test tells the byte strings
-    // that it accepts as one value of an open type.
+    // The records that the type refuses, under a tag and constraints, each with its error. The codec's test decides which byte
+    // strings are one value of an open type.
     ghost refusals: { Refusals } = { no_refusals };
 
     /// Reads a value under a tag and constraints.
@@ -52,8 +51,8 @@ pub trait Decode: AsnType + Eq + Sized + Drop {
         ensures refuses { Refuses D.reader refusals tag (constraint_set constraints.now) decoder.old
             decoder.new result };
 
-    /// Reads a value under the type's own tag and constraints. Where there is no memory for these, the error is
-    /// [`DecodeError::Memory`].
+    /// Reads a value under the type's own tag and constraints. The error is [`DecodeError::Memory`] if memory runs
+    /// out for these.
     #[inline(always)]
     final fn decode<D: Decoder>(decoder: &mut D) -> Result<Self, DecodeError>
         ensures read { ReadsValue D.reader Self.meaning Self.eq Self.meaning.tag
@@ -101,7 +100,7 @@ pub trait Decode: AsnType + Eq + Sized + Drop {
 
 /// A type whose components are read in the order of their definition: a SEQUENCE or a group of additions.
 pub trait DecodeFields: FieldTable + Eq + Sized + Drop {
-    /// Reads all components. What follows them begins with no tag of those after the last that is always there. After an error
+    /// Reads all components. The records after them begin with no tag of those after the last required one. After an error
     /// nothing is promised about the decoder, until the caller makes it failed ([`Decoder::refuse`]).
     fn decode_fields<D: Decoder>(decoder: &mut D) -> Result<Self, DecodeError>
         ensures read { ReadsFields D.reader Self.components Self.eq decoder.old decoder.new result }
@@ -111,7 +110,7 @@ pub trait DecodeFields: FieldTable + Eq + Sized + Drop {
 
 /// A CHOICE whose alternatives are read.
 pub trait DecodeChoice: AsnType + Choice + Eq + Sized + Drop {
-    /// Reads the alternative that can begin with the tag. Where there is none, the error is [`DecodeError::NoValidChoice`], with
+    /// Reads the alternative that can begin with the tag. If there is none, the error is [`DecodeError::NoValidChoice`] with
     /// the name of the type, unless memory runs out, as where the alternative is looked for in a table that is made for it.
     /// After an error nothing is promised about the decoder, until the caller makes it failed ([`Decoder::refuse`]).
     fn from_tag<D: Decoder>(decoder: &mut D, tag: Tag) -> Result<Self, DecodeError>

@@ -27,8 +27,8 @@ pub trait DecodeSet: FieldTable + Eq + Sized + Drop {
     // The part is this component of the value, or one that is equal.
     ghost is_part_of: { Self → Self.Part → Type 0 };
 
-    /// Reads the component of an index, whose record begins with the tag. A presence mark before it was passed over. Where there
-    /// is no such component, the error is [`DecodeError::UnknownField`].
+    /// Reads the component of an index, whose record begins with the tag. A presence mark before it was passed over. The
+    /// error is [`DecodeError::UnknownField`] if there is no such component.
     fn decode_field<D: Decoder>(
         decoder: &mut D,
         index: usize,
@@ -43,7 +43,7 @@ pub trait DecodeSet: FieldTable + Eq + Sized + Drop {
 
     /// The value of these parts, in whatever order they are. Of all parts of a value it makes an equal one, and fails only if
     /// memory runs out. It makes one only where no component is among the parts twice, and each that is always there is among them.
-    /// Where that is not so, types answer [`DecodeError::DuplicateField`] for the first part whose component came before, or else
+    /// Otherwise types answer [`DecodeError::DuplicateField`] for the first part whose component came before, or else
     /// [`DecodeError::MissingField`] for the first component that is missing.
     fn from_fields(alloc: Global, parts: Vec<Self::Part>) -> Result<Self, DecodeError>
         ensures made { MakesValue (all_components Self.components) index_of is_part_of Self.eq
@@ -56,7 +56,7 @@ pub trait DecodeSet: FieldTable + Eq + Sized + Drop {
         EachIsOneRecord (all_components Self.components) v };
 }
 
-/// Keeps a component that was read. Where it was read before, the error is [`DecodeError::DuplicateField`] with the name, and the
+/// Keeps a component that was read. If it was read before, the error is [`DecodeError::DuplicateField`] with the name, and the
 /// slot is as it was.
 #[inline(always)]
 pub fn keep_once<T: Drop>(

@@ -1,4 +1,4 @@
-//! What a codec reads with.
+//! The calls with which a codec reads.
 ghost use Rattle.asn1_components.specs.ComponentLists.{trees_of};
 ghost use Rattle.asn1_components.specs.Components.{all_components, is_sequence, is_set, lines};
 ghost use Rattle.asn1_laws.specs.Defaults.{MayAnswer};
@@ -45,17 +45,17 @@ use asn1_values::{
 };
 use std::alloc::{AllocError, Global};
 
-/// A codec that reads records: by calls of its own, on which those for whole types rest.
+/// A codec that reads records. It implements the primitive calls; the calls for whole types build on them.
 ///
-/// The calls before the law are a codec's own. What remains to be read is what is left of each list that is open. Before
-/// the records that a call is for, it answers what was written, and what follows remains to be read; or it fails because memory ran out,
-/// or, where it opens a scope, since no depth is left. Before others nothing is promised. A call that fails makes
+/// The calls before the law are a codec's own. The records left of each open list remain to be read. A call answers the content
+/// of the records that it is for, and then the records after them remain; or it fails because memory ran out, or because it opens
+/// a scope and no depth is left. No contract covers other records. A call that fails makes
 /// the decoder failed, and a decoder that has failed answers [`DecodeError::Failed`]. [`DecodeError::Depth`] comes only from
 /// opening a scope where no depth is left, and is answered there before anything else but `Failed`.
 ///
 /// The calls after the law are the same for every codec.
 pub trait Decoder: Sized {
-    // What remains to be read, and what the decoder may open.
+    // The relations of the decoder: the records that remain, failure, the depth left, and the accepted open types.
     ghost reader: { Reader Self };
 
     /// The codec's name.
@@ -135,15 +135,15 @@ pub trait Decoder: Sized {
             (absent in_root tag) (tree_tags (shape tree.entry)) result }
         ensures opens_nothing { OpensNothing reader self.old self.new result };
 
-    /// The same of an addition, which some codecs write in another way. What `presence` says of the outermost list holds here too.
+    /// The same of an addition, which some codecs write in another way. The rule of `presence` on the outermost list holds here too.
     fn addition_presence(&mut self, tag: Tag, tree: TagTree<'static>) -> Result<bool, DecodeError>
         ensures read { TellsPresence reader self.old self.new (present in_additions tag)
             (absent in_additions tag) (tree_tags (shape tree.entry)) result }
         ensures opens_nothing { OpensNothing reader self.old self.new result };
 
     /// Whether the group of additions is there whose components are those of the table of `C`. If it is, its components then
-    /// remain to be read. A group is no scope, and takes nothing from the depth left. What `presence` says of the outermost
-    /// list holds here too.
+    /// remain to be read. A group is no scope, and takes nothing from the depth left. The rule of `presence` on the
+    /// outermost list holds here too.
     fn open_group<C: FieldTable>(&mut self) -> Result<bool, DecodeError>
         ensures read { TellsPresence reader self.old self.new (group_start (lines C.components))
             group_absent (tree_tags (choice (trees_of (all_components C.components)))) result }
@@ -659,8 +659,8 @@ pub trait Decoder: Sized {
         read_default(self, Side::Additions, Some(tag), Some(constraints), default)
     }
 
-    /// A group of additions, which may be absent. One that is there writes a component. What follows it begins with no tag of its
-    /// components.
+    /// A group of additions, which may be absent. A group that is there writes a component. The records after it begin with no tag
+    /// of its components.
     #[inline(always)]
     final fn decode_extension_addition_group<C: DecodeFields>(
         &mut self,
@@ -679,7 +679,7 @@ pub trait Decoder: Sized {
         Ok(Some(value))
     }
 
-    /// A SEQUENCE, by its components. Of a type that is one it reads a value of the type, under whatever constraints.
+    /// A SEQUENCE, by its components. It reads a value of a SEQUENCE type, under whatever constraints.
     #[inline(always)]
     final fn decode_sequence<C: DecodeFields + ConstructedType>(
         &mut self,
@@ -746,8 +746,7 @@ pub trait Decoder: Sized {
         read_set_of(self, tag, constraints)
     }
 
-    /// A SET, by its components, in whatever order they come. Of a type that is one it reads a value of the type, under whatever
-    /// constraints. A record whose tag no component has is refused with [`DecodeError::UnknownField`], by its index.
+    /// A SET, by its components, in whatever order they come. It reads a value of a SET type, under whatever constraints. A record whose tag no component has is refused with [`DecodeError::UnknownField`], by its index.
     #[inline(always)]
     final fn decode_set<S: DecodeSet + ConstructedType>(
         &mut self,

@@ -15,8 +15,8 @@ use asn1_laws::{DecodeError, Side};
 use asn1_tags::Tag;
 use std::alloc::{AllocError, Global};
 
-/// The value that was read, or what the closure answers where there is none. Where it answers nothing, because memory ran out, the
-/// decoder has failed.
+/// The value that was read, or the answer of the closure if there is none. The decoder has failed if memory ran out in the
+/// closure.
 #[inline(always)]
 pub(crate) fn or_make_default<T: Drop, D: Decoder, F: FnOnce(Global) -> Result<T, AllocError>>(
     decoder: &mut D,

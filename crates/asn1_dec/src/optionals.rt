@@ -35,8 +35,8 @@ fn is_there<D: Decoder>(
     }
 }
 
-/// A value that is there, under a tag, and constraints, or the type's own where none are given. Where it is not read the decoder
-/// has failed.
+/// A value that is there, under a tag, and constraints, or the type's own where none are given. The decoder has failed if it is
+/// not read.
 #[inline(always)]
 fn read_present<T: Decode, D: Decoder>(
     decoder: &mut D,

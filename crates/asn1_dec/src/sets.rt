@@ -57,7 +57,7 @@ fn read_components<S: DecodeSet, D: Decoder>(decoder: &mut D, tag: Tag) -> Resul
 {
     let bound = decoder.open_set::<S>(tag)?;
     let parts = read_parts::<S, D>(decoder, bound)?;
-    // What is left then was read as no component: one of no bytes came again and again.
+    // Bytes are left if a component of no bytes came again and again.
     decoder.close()?;
     match S::from_fields(decoder.global(), parts) {
         Ok(value) => Ok(value),
@@ -65,8 +65,8 @@ fn read_components<S: DecodeSet, D: Decoder>(decoder: &mut D, tag: Tag) -> Resul
     }
 }
 
-/// A SET, by its components, in whatever order they come. Of a type that is one it reads a value of the type, under whatever
-/// constraints. A record whose tag no component has is refused with [`DecodeError::UnknownField`], by its place.
+/// A SET, by its components, in whatever order they come. It reads a value of a SET type, under whatever
+/// constraints. A record whose tag no component has is refused with [`DecodeError::UnknownField`], by its index.
 #[inline(always)]
 pub(crate) fn read_set<S: DecodeSet + ConstructedType, D: Decoder>(
     decoder: &mut D,

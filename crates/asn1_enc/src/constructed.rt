@@ -56,7 +56,7 @@ fn write_components<C: EncodeFields, E: Encoder>(
     encoder.close()
 }
 
-/// The same. Of a type of this kind it writes the records of the type, which are the same under all constraints.
+/// The same. It writes the records of a type of this kind, which are the same under all constraints.
 #[inline(always)]
 pub(crate) fn write_constructed<C: EncodeFields + ConstructedType, E: Encoder>(
     encoder: &mut E,

@@ -14,7 +14,7 @@ use asn1_laws::{EncodeError, Side};
 use asn1_tags::{Identifier, Tag};
 use std::alloc::{AllocError, Global};
 
-/// Whether the value equals the default that the closure makes. Where there is no memory for that, the encoder has failed.
+/// Whether the value equals the default that the closure makes. The encoder has failed if memory runs out for the default.
 #[inline(always)]
 pub(crate) fn equals_default<
     T: PartialEq + Drop,

@@ -1,4 +1,4 @@
-//! What a codec writes with.
+//! The calls with which a codec writes.
 ghost use Rattle.asn1_components.specs.Alternatives.{table_of};
 ghost use Rattle.asn1_components.specs.Components.{is_sequence, is_set, lines};
 ghost use Rattle.asn1_laws.specs.Defaults.{MayAnswer};
@@ -38,7 +38,7 @@ use asn1_values::{
 };
 use std::alloc::{AllocError, Global};
 
-/// A codec that writes records: by calls of its own, on which those for whole types rest.
+/// A codec that writes records. It implements the primitive calls; the calls for whole types build on them.
 ///
 /// The calls before the law are a codec's own. Each that succeeds appends its record or presence mark to the innermost list
 /// that is open, and leaves those outside it; and tells that the value meets its type's invariant, such as that a `u8` is
@@ -48,7 +48,7 @@ use std::alloc::{AllocError, Global};
 ///
 /// The calls after the law are the same for every codec.
 pub trait Encoder: Sized {
-    // What has been written, and what may be.
+    // The relations of the encoder: the written records, failure, the depth left, and rejection.
     ghost writer: { Writer Self };
 
     /// The codec's name.
@@ -409,8 +409,7 @@ pub trait Encoder: Sized {
         self.close()
     }
 
-    /// A SEQUENCE, by its components. Of a type that is one it writes the records of the type, which are the same under all
-    /// constraints.
+    /// A SEQUENCE, by its components. It writes the records of a SEQUENCE type, which are the same under all constraints.
     #[inline(always)]
     final fn encode_sequence<C: EncodeFields + ConstructedType>(
         &mut self,
@@ -464,8 +463,8 @@ pub trait Encoder: Sized {
         write_present(self, Side::Root, tag, Some(constraints), value, name)
     }
 
-    /// A SET, by its components in the order of their definition. Of a type that is one it writes the records of the type, which
-    /// are the same under all constraints.
+    /// A SET, by its components in the order of their definition. It writes the records of a SET type, which are the same under
+    /// all constraints.
     #[inline(always)]
     final fn encode_set<C: EncodeFields + ConstructedType>(
         &mut self,

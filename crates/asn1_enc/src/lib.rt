@@ -16,20 +16,21 @@
 //! `ConstrainedInteger`, every kind of string, `&str`, `ObjectIdentifier`, `Option`, references, `Box`, `Cow`, `Vec`, arrays,
 //! `Array`, `SetOf`, `Implicit`, `Explicit`, `Any`, `InstanceOf` and `PhantomData`.
 //!
-//! What the contracts promise, and the words that they use:
+//! The contracts promise the following, in these words:
 //!
 //! - What a call writes is exactly the records of its value, after what was written before, in the innermost list that is open
 //!   (`Writes` of `specs/Writing.antt` of `asn1_laws`). They are nested no deeper than the depth left, which is then what it was. A success also
 //!   tells that the value meets its type's invariant (`IsOfType`: range, alphabet, length), so that no caller has to show it.
 //! - An error comes only where the encoder has failed from then on (`IsError`), and it is `Failed` if and only if the encoder
 //!   had failed before. `Depth` comes only where the records are nested deeper than the depth left, and `Custom` only where the codec
-//!   rejects them, of an encoder that has written something (`Fails`). Where memory runs out for a type's own constraints, the
-//!   type says so by `refuse_memory`.
+//!   rejects them, of an encoder that has written something (`Fails`). A type calls `refuse_memory` if memory
+//!   runs out for its own constraints.
 //! - A codec states what it has written, whether it has failed, its depth left, and which records it rejects (`Writer`). Its own
 //!   calls have the laws of these: opening a scope takes one from the depth left (`WritesHead`) and closing gives it back
 //!   (`WritesEnd`), a group is no scope (`OpensGroup`, `ClosesGroup`), and where no depth is left the error is `Depth`, before
-//!   any other but `Failed`. What it rejects and has written keeps to `IsLawful`: a list is rejected where a part of it is, or what a
-//!   record of it holds, presence marks alone never are, and the order inside sets means nothing.
+//!   any other but `Failed`. The laws of these are `IsLawful`: a list is rejected where a part of it is, or the
+//!   contents of a record of it; presence marks alone are rejected only by a codec that rejects an absent group; and the order inside
+//!   sets means nothing.
 //! - The calls for whole types that open a scope at once answer `Depth` before any other error but `Failed` too
 //!   (`NeedsDepth`).
 //! - A type states a line for each component (`encode_field`, `specs/IndexedComponents.antt` of `asn1_laws`), and no proof:

@@ -8,7 +8,7 @@ use asn1_bounds::Constraints;
 use asn1_laws::EncodeError;
 use asn1_model::TypeTable;
 
-/// Makes the constraints of a table. Where there is no memory for them, the encoder has failed.
+/// Makes the constraints of a table. The encoder has failed if memory runs out for them.
 #[inline(always)]
 pub(crate) fn make_constraints<E: Encoder>(
     encoder: &mut E,

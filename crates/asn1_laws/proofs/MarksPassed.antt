@@ -1,4 +1,4 @@
--- What is left of a list where the presence marks in front are passed over, and the tag that is next in it.
+-- A list without the presence marks in front, and the next tag in it.
 use Rattle.std.specs.Prelude.{◌≡◌, Bool, true, false, List, [], ◌∷◌, Option, Some, None, refl, if◌then◌else◌}
 use Rattle.std.proofs.Common.{ap, sym, subst, ◌∙◌}
 use Rattle.asn1_components.specs.ComponentTypes.{ComponentType}
@@ -35,7 +35,7 @@ none_left (scope h inner ∷ rs) e = cc
 none_left (open_type n bytes ∷ rs) e = cc
 none_left (presence_mark m ∷ rs) e = none_left rs e
 
--- What is left first is no mark, and the list begins with its tags.
+-- The first record left is no mark, and the list begins with its tags.
 pub record IsFirst (rs : List Record) (first : Record) : Type 0 where
   pub no_mark : is_presence_mark first ≡ false
   pub tags : first_tags rs ≡ record_tags first

@@ -54,7 +54,7 @@ module _ {D V W : Type 0} (R : Reader D) (m : Meaning V) (value : W → V) (t : 
     failed_before = λ single failed. let same = leaves.failed_before single failed in cc;
   })
 
-  -- What the type of the value refuses, the box does.
+  -- A box refuses the records that the type of its value refuses.
   pub refuses_boxed : (refusals : Refusals) (answer : Result V DecodeError) (result : Result W DecodeError) →
       Refuses R refusals t c old new answer →
       MatchResult answer (λ v. MatchResult result (λ w. value w ≡ v) (λ e. e ≡ Memory)) (λ e. result ≡ Err e) →

@@ -171,7 +171,7 @@ module _ {D V W : Type 0} (R : Reader D) (alts : Alternatives) (pick : V → One
         within_depth_left = subst (λ s. highest s.records ≤ R.depth_left old) (sym is) r.within_depth_left;
       }
 
--- What a function leaves that is a reader of its own: an error of it makes the decoder failed.
+-- The state that a separate reader leaves: its error makes the decoder failed.
 pub leaves_kept : {D V : Type 0} (R : Reader D) (m : Meaning V) (t : Tag) (c : ConstraintSet) (old new : D) (result : Result V DecodeError) → KeepsDepth R old new result → AfterReading R m t c old new result
 leaves_kept R m t c old new (Ok v) keeps = record {
   same_depth = keeps.same_depth;

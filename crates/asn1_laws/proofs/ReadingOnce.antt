@@ -1,11 +1,11 @@
 -- The components of a SET that were read so far, each in a slot of its own.
 use Rattle.std.proofs.Common.{◌≡◌, ℕ, ◌+◌, ◌≤◌, Bool, true, false, cond, List, [], ◌∷◌, ◌++◌, Contains, length, Option, None, Some, refl, ap, sym, ◌∙◌, subst, arith, append-nil, append_assoc}
 use Rattle.std.specs.Prelude.{◌==◌, IsSome, is_some}
-use Rattle.std.specs.Option.{IfSome, option_eq, option_map, unwrap_or}
+use Rattle.std.specs.Option.{IfSome, option_eq, option_map}
 use Rattle.std.proofs.lemmas.List.Elements.{All-contains, Contains-append_left, Contains-push}
 use Rattle.std.proofs.lemmas.List.Sums.{sum_by-append, sum_by-cons}
 use Rattle.asn1_components.specs.ComponentTypes.{ComponentType}
-use Rattle.asn1_model.specs.Composites.{default_records, option_records}
+use Rattle.asn1_model.specs.Composites.{option_records}
 use Rattle.asn1_model.specs.Records.{Side}
 use Rattle.asn1_model.specs.TaggedTypes.{TaggedType}
 use Rattle.asn1_laws.specs.SetParts.{ArePartsOf, parts_at, unmarked, written_of}
@@ -91,10 +91,3 @@ module _ {P X : Type 0} (index_of : P → ℕ) (k : ℕ) (make : X → P) where
     optional_slot side None None type eq slot written one is = refl
     optional_slot side None (Some w) type eq slot written one is = absurd (is_absent slot (ap length written ∙ one w))
     optional_slot side (Some x) o type eq slot written one is = is x (is_component x slot)
-
-    -- a component with a default
-    pub default_slot : (side : Side) (slot : Option X) (x default_value : X) (is_default : Bool) (type : TaggedType X) (eq : X → X → Bool) → Slot slot parts → written_of cs v k ≡ unmarked (default_records side is_default type.tag (type.records x)) →
-        length (unmarked (type.records x)) ≡ 1 → (is_default ≡ true → eq default_value x ≡ true) → ((y : X) → IsPart (make y) → eq y x ≡ true) → eq (unwrap_or slot default_value) x ≡ true
-    default_slot side None x default_value true type eq slot written one same is = same refl
-    default_slot side None x default_value false type eq slot written one same is = absurd (is_absent slot (ap length written ∙ one))
-    default_slot side (Some y) x default_value is_default type eq slot written one same is = is y (is_component y slot)

@@ -1,12 +1,12 @@
 -- How a component of a SET is read, by its type.
-use Rattle.std.proofs.Common.{◌≡◌, ◌≢◌, ℕ, Bool, true, false, cond, List, [], ◌∷◌, Option, None, Some, Result, Ok, Err, refl, ap, sym, ◌∙◌, subst}
+use Rattle.std.proofs.Common.{◌≡◌, ◌≢◌, ℕ, Bool, true, cond, List, [], ◌∷◌, Option, None, Some, Result, Ok, Err, refl, ap, sym, ◌∙◌, subst}
 use Rattle.std.specs.Option.{IfSome, option_eq, option_map}
 use Rattle.std.specs.Result.{IsOkAnd, MatchResult}
 use Rattle.asn1_components.specs.ComponentLists.{EachIsWellTagged, EachIsOfType, EachIsValid}
 use Rattle.asn1_components.specs.ComponentTypes.{ComponentType}
 use Rattle.asn1_laws.specs.Reading.{Remaining, MayFail, HasAdvanced, Advances, Reader, ReadsBack, Outside}
 use Rattle.asn1_laws.specs.declared.decode_error.DecodeError.{DecodeError}
-use Rattle.asn1_model.specs.Composites.{default_records, option_records}
+use Rattle.asn1_model.specs.Composites.{option_records}
 use Rattle.asn1_model.specs.Records.{Record, Side}
 use Rattle.asn1_model.specs.TaggedTypes.{TaggedType}
 use Rattle.asn1_model.specs.Tags.{IsOneRecord, Tags}
@@ -61,18 +61,3 @@ module _ {D P W : Type 0} (R : Reader D) (old new : D) (make : W → P) where
             ReadsBack R old new (written_of cs v k) rest outer (λ p. (index_of p ≡ k) × IsPartOf v p) made
         where_there v rest outer can_all there None of_type valid same is = absurd (there same)
         where_there v rest outer can_all there (Some w) of_type valid same is = one_part v w rest outer reads cases is (can can_all) of_type valid (written_of cs v k) same
-
-    -- of one with a default: where it is there, it is no default
-    pub default_part : (side : Side) → index ≡ k → (get : V → W) (is_default : V → Bool) → ((v : V) → written_of cs v k ≡ unmarked (default_records side (is_default v) type.tag (type.records (get v)))) → (EachIsWellTagged cs → type.IsWellTagged) →
-        ((v : V) → EachIsOfType cs v → is_default v ≡ false → type.IsOfType (get v)) → ((v : V) → EachIsValid cs R.accepts v → is_default v ≡ false → type.IsValid R.accepts (get v)) →
-        ReadsOne → MatchResult result (λ x. IsOkAnd made (λ p. p ≡ make x)) (λ e. made ≡ Err e) →
-        ((v : V) (x : W) → eq x (get v) ≡ true → (index_of (make x) ≡ k) × IsPartOf v (make x)) →
-        ReadsPart cs index_of IsPartOf R index old new made
-    default_part side own get is_default written can of_type valid reads cases is =
-        subst (λ j. ReadsPart cs index_of IsPartOf R j old new made) (sym own) (λ v rest outer can_all of_types valids there.
-        where_other v rest outer can_all there (is_default v) (of_type v of_types) (valid v valids) (written v))
-      where
-        where_other : (v : V) (rest : List Record) (outer : Outside) → EachIsWellTagged cs → written_of cs v k ≢ [] → (b : Bool) → (b ≡ false → type.IsOfType (get v)) → (b ≡ false → type.IsValid R.accepts (get v)) →
-            written_of cs v k ≡ unmarked (default_records side b type.tag (type.records (get v))) → ReadsBack R old new (written_of cs v k) rest outer (λ p. (index_of p ≡ k) × IsPartOf v p) made
-        where_other v rest outer can_all there true of_type valid same = absurd (there same)
-        where_other v rest outer can_all there false of_type valid same = one_part v (get v) rest outer reads cases (is v) (can can_all) (of_type refl) (valid refl) (written_of cs v k) same

@@ -46,11 +46,11 @@ module _ {D : Type 0} (R : Reader D) where
   pub to_end : (d : D) (rs : List Record) (outer : Outside) → R.remains d (rs, outer) → R.remains d (rs ++ [], outer)
   to_end d rs outer at = subst (λ l. R.remains d (l, outer)) (sym (append-nil rs)) at
 
-  -- what is said of an answer may be said in other words
+  -- a relation on an answer may be replaced by one that follows from it
   pub moved_as : {old new : D} {height : ℕ} {after : Remaining} {Is As : Type 0} → HasAdvanced R old new height after Is → (Is → As) → HasAdvanced R old new height after As
   moved_as m f = record { answer = f m.answer; at = m.at; within_depth_left = m.within_depth_left }
 
-  -- and what is said of each
+  -- and the relation on each
   pub in_other_words : {V : Type 0} (old new : D) (height : ℕ) (before after : Remaining) {Is As : V → Type 0} (result : Result V DecodeError) →
       ((w : V) → Is w → As w) → Advances R old new height before after Is result → Advances R old new height before after As result
   in_other_words old new height before after (Ok w) f moves = λ at. moved_as (moves at) (f w)

@@ -18,12 +18,12 @@ use Rattle.asn1_model.proofs.SameRecords.{same-mark}
 use Rattle.asn1_model.proofs.SameUpToOrder.{same-first_tags, same-marks_alone, same_as_cons, same_as_holding, same_as_mark, same_as_none, same_as_raw, same_as_scalar}
 use Rattle.asn1_tags.specs.declared.tags.Tag.{Tag}
 
--- What is said of some records and an answer holds of the same records in another order too.
+-- A relation between records and an answer also holds for the same records in another order.
 abbrev pub HoldsInAnyOrder : {V : Type 0} → (List Record → V → Type 0) → Type 0
 HoldsInAnyOrder {V = V} Is =
     (rs qs ss : List Record) (w : V) → SameRecords rs qs → IsPermutation qs ss → Is rs w → Is ss w
 
--- so does what is said of the answer alone
+-- a relation on the answer alone does too
 pub answer_in_any_order : {V : Type 0} (Is : V → Type 0) → HoldsInAnyOrder (λ _ w. Is w)
 answer_in_any_order Is rs qs ss w same moved h = h
 
@@ -42,7 +42,7 @@ begins_the_same own rs ss same begins = record {
 none_outside : {outer : Outside} → SameOutside outer [] → outer ≡ []
 none_outside nothing = refl
 
--- What is next where a record that holds others is next up to order.
+-- The next record, where a record that holds others is next up to order.
 record HoldingIsNext (a : Remaining) (h : Head) (items rest : List Record) (outer : Outside) : Type 0 where
   pub inner : List Record
   pub order : List Record
@@ -89,7 +89,7 @@ module _ {D : Type 0} (R : Reader D) where
     in_any_order = λ d before other same at. record { exactly = at.exactly; remains = at.remains; same = SameRemaining-trans at.same same };
   }
 
-  -- What a call did exactly, it did up to order.
+  -- An exact step of a call is a step up to order.
   carried_over : {V : Type 0} (old new : D) (height : ℕ) (exactly after : Remaining) (Is As : V → Type 0) (result : Result V DecodeError) →
       SameRemaining exactly after → ((w : V) → Is w → As w) → MatchResult result (λ w. HasAdvanced R old new height exactly (Is w)) (MayFail (R.depth_left old) height) →
       MatchResult result (λ w. HasAdvanced (up_to_order R) old new height after (As w)) (MayFail (R.depth_left old) height)

@@ -1,18 +1,14 @@
--- What remains to be read, up to the order inside sets.
+-- The records that remain to be read, up to the order inside sets.
 use Rattle.std.specs.Prelude.{◌≡◌, List, [], ◌∷◌, refl}
 use Rattle.std.proofs.Common.{ap}
 use Rattle.asn1_model.specs.Orders.{SameRecord, SameRecords}
 use Rattle.asn1_model.specs.Records.{Head, Record}
-use Rattle.asn1_model.proofs.SameUpToOrder.{SameRecords-refl, SameAll-sym, SameAll-trans, same_as_cons, same_as_none}
+use Rattle.asn1_model.proofs.SameUpToOrder.{SameRecords-refl, SameAll-trans, same_as_cons, same_as_none}
 use Rattle.asn1_laws.specs.Reading.{Remaining, Outside, SameRemaining, SameOutside, nothing, scope_and}
 
 SameOutside-refl : (outer : Outside) → SameOutside outer outer
 SameOutside-refl [] = nothing
 SameOutside-refl ((h, rs) ∷ outer) = scope_and h (SameRecords-refl rs) (SameOutside-refl outer)
-
-SameOutside-sym : {a b : Outside} → SameOutside a b → SameOutside b a
-SameOutside-sym nothing = nothing
-SameOutside-sym (scope_and h all outer) = scope_and h (SameAll-sym all) (SameOutside-sym outer)
 
 SameOutside-trans : {a b c : Outside} → SameOutside a b → SameOutside b c → SameOutside a c
 SameOutside-trans nothing q = q
@@ -22,16 +18,13 @@ SameOutside-trans (scope_and h all outer) (scope_and _ all' outer') =
 pub SameRemaining-refl : (left : Remaining) → SameRemaining left left
 SameRemaining-refl left = record { here = SameRecords-refl left.0; outside = SameOutside-refl left.1 }
 
-pub SameRemaining-sym : {a b : Remaining} → SameRemaining a b → SameRemaining b a
-SameRemaining-sym same = record { here = SameAll-sym same.here; outside = SameOutside-sym same.outside }
-
 pub SameRemaining-trans : {a b c : Remaining} → SameRemaining a b → SameRemaining b c → SameRemaining a c
 SameRemaining-trans one other = record {
   here = SameAll-trans one.here other.here;
   outside = SameOutside-trans one.outside other.outside;
 }
 
--- What is the same as a record, the rest of its list, and what is outside it.
+-- The counterparts of a record, of the rest of its list, and of the lists outside it.
 pub record RecordIsNext (a : Remaining) (r : Record) (rs : List Record) (outer : Outside) : Type 0 where
   pub first : Record
   pub rest : List Record
@@ -54,7 +47,7 @@ same_as_record {a = (qs, others)} {r = r} {rs = rs} same =
       same_outer = same.outside;
     }
 
--- What is the same as the end of a list, and what is outside it.
+-- The counterparts of the end of a list, and of the lists outside it.
 pub record EndIsNext (a : Remaining) (outer : Outside) : Type 0 where
   pub others : Outside
   pub is : a ≡ ([], others)
@@ -64,7 +57,7 @@ pub same_as_end : {a : Remaining} {outer : Outside} → SameRemaining a ([], out
 same_as_end {a = (qs, others)} same =
     record { others = others; is = ap (λ l. (l, others)) (same_as_none qs same.here); same = same.outside }
 
--- What is the same as a list inside a scope, what is left after that, and what is outside both.
+-- The counterparts of a list inside a scope, of the rest after it, and of the lists outside both.
 pub record ScopeIsNext (a : Remaining) (items : List Record) (h : Head) (rest : List Record) (outer : Outside) : Type 0 where
   pub inner : List Record
   pub around : List Record

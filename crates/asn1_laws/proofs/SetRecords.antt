@@ -172,7 +172,7 @@ abbrev pub BeginsWithRecord : List Item → Type 0
 BeginsWithRecord [] = ⊤
 BeginsWithRecord (i ∷ items) = is_presence_mark i.1 ≡ false
 
--- What is the same of a list without the marks in front.
+-- The same facts of a list without the marks in front.
 pub record IsFront (items others : List Item) : Type 0 where
   pub passed : marks_passed (records items) ≡ records others
   pub begins : BeginsWithRecord others

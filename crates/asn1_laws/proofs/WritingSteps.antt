@@ -44,9 +44,10 @@ highest-group : (table : Table Line) (rs : List Record) → highest (group_recor
 highest-group table rs = group-height table (presence_marks_alone rs) rs (marks-height rs)
 
 -- a group is rejected where its components are
-group_rejected : (table : Table Line) (rejects : List Record → Type 0) (b : Bool) (rs : List Record) → ((before rs after : List Record) → rejects rs → rejects (before ++ (rs ++ after))) → (b ≡ true → ¬ rejects rs) →
-    rejects rs → rejects (if b then presence_mark group_absent ∷ [] else presence_mark (group_start table) ∷ rs ++ presence_mark group_end ∷ [])
-group_rejected table rejects true rs part marks is = absurd (marks refl is)
+group_rejected : (table : Table Line) (rejects : List Record → Type 0) (b : Bool) (rs : List Record) → ((before rs after : List Record) → rejects rs → rejects (before ++ (rs ++ after))) →
+    (b ≡ true → rejects rs → rejects (presence_mark group_absent ∷ [])) → rejects rs →
+    rejects (if b then presence_mark group_absent ∷ [] else presence_mark (group_start table) ∷ rs ++ presence_mark group_end ∷ [])
+group_rejected table rejects true rs part marks is = marks refl is
 group_rejected table rejects false rs part marks is = part (presence_mark (group_start table) ∷ []) rs (presence_mark group_end ∷ []) is
 
 -- a refusal because memory ran out is no error of depth
@@ -153,11 +154,11 @@ module _ {E : Type 0} (W : Writer E) where
     rejected = λ is w wrote. r.rejected is h rs w (q.written (in_scope h [] w) (p.opened w wrote));
   }
 
-  pub open_group_fails : {a b : E} {e : EncodeError} (rs : List Record) → GroupIsNotOpen W a b e → Fails W a rs b e
+  pub open_group_fails : {a b : E} {table : Table Line} {e : EncodeError} (rs : List Record) → GroupIsNotOpen W a table b e → Fails W a (group_records table (Some rs)) b e
   open_group_fails rs q = record {
     error = q.error;
     too_deep = λ is. absurd (q.not_too_deep is);
-    rejected = λ is w wrote. absurd (q.not_rejected is);
+    rejected = λ is w wrote. q.rejected is rs;
   }
 
   pub group_fails : {a b c : E} {table : Table Line} {rs : List Record} {e : EncodeError} → IsLawful W → GroupIsOpen W a table b → Fails W b rs c e → Fails W a (group_records table (Some rs)) c e
@@ -183,7 +184,7 @@ module _ {E : Type 0} (W : Writer E) where
     rejected = λ is w wrote. r.rejected is table rs w (q.written (in_group table [] w) (p.opened w wrote));
   }
 
-  -- What is said of the value may be said in other words.
+  -- A fact about the value may be replaced by one that follows from it.
   pub in_other_words : (a b : E) (rs : List Record) {T U : Type 0} {A : Type 0} (result : Result A EncodeError) → (T → U) → Writes W a rs T b result → Writes W a rs U b result
   in_other_words a b rs (Ok x) f q = record {
     written = q.written;

@@ -3,14 +3,14 @@ use Rattle.std.specs.Prelude.{◌≡◌, List, [], ◌∷◌, ◌++◌, Result, 
 use Rattle.std.proofs.Common.{subst, ◌∙◌}
 use Rattle.asn1_model.specs.Composites.{group_records}
 use Rattle.asn1_model.specs.Orders.{SameRecords}
-use Rattle.asn1_model.specs.Records.{Record, Head, holding}
+use Rattle.asn1_model.specs.Records.{Record, Head, group_absent, holding, presence_mark}
 use Rattle.asn1_model.specs.RecordTables.{Line, Table}
 use Rattle.asn1_model.proofs.SameUpToOrder.{SameRecords-refl, SameAll-sym, SameAll-trans, SameAll-append, same-marks_alone, same_holding, same_group_records}
 use Rattle.asn1_laws.specs.declared.encode_error.EncodeError.{EncodeError}
 use Rattle.asn1_laws.specs.WritingUpToOrder.{RejectsByParts, WroteUpToOrder, RejectsUpToOrder, up_to_order}
 use Rattle.asn1_laws.specs.Writing.{Writer, Written, outermost, in_scope, in_group, followed_by, SameWritten, same_outermost, same_scope, same_group, IsLawful, Appends, IsError, Fails, Writes, ScopeIsOpen, ScopeIsNotOpen, WritesHead, ScopeIsClosed, ScopeIsNotClosed, WritesEnd, GroupIsOpen, GroupIsNotOpen, OpensGroup, GroupIsClosed, GroupIsNotClosed, ClosesGroup, IsOutOfMemory}
 
--- What has been written is the same.
+-- Sameness of written records is an equivalence.
 pub SameWritten-refl : (w : Written) → SameWritten w w
 SameWritten-refl (outermost rs) = same_outermost (SameRecords-refl rs)
 SameWritten-refl (in_scope h rs w) = same_scope h (SameRecords-refl rs) (SameWritten-refl w)
@@ -32,7 +32,7 @@ same_followed_by rs ss (same_outermost {rs = ds} {ss = es} done) more = same_out
 same_followed_by rs ss (same_scope h {rs = ds} {ss = es} done outer) more = same_scope h (SameAll-append ds es rs ss done more) outer
 same_followed_by rs ss (same_group table {rs = ds} {ss = es} done outer) more = same_group table (SameAll-append ds es rs ss done more) outer
 
--- What is the same as one outermost list, as a scope that is open, or as a group.
+-- The counterparts of an outermost list, of an open scope, and of a group.
 pub record OutermostIsTheSame (x : Written) (rs : List Record) : Type 0 where
   pub records : List Record
   pub is : x ≡ outermost records
@@ -79,7 +79,7 @@ module _ {E : Type 0} (W : Writer E) where
           (SameAll-append q.exactly rs after after q.same (SameRecords-refl after));
     };
     inner = λ h rs q. record { exactly = holding h q.exactly ∷ []; rejects = law.inner h q.exactly q.rejects; same = same_holding h q.exactly rs q.same };
-    marks = λ rs alone q. law.marks q.exactly (same-marks_alone q.exactly rs q.same ∙ alone) q.rejects;
+    marks = λ rs alone q. rejects_exactly (presence_mark group_absent ∷ []) (law.marks q.exactly (same-marks_alone q.exactly rs q.same ∙ alone) q.rejects);
     wrote_in_any_order = λ e w x same q. record { exactly = q.exactly; wrote = q.wrote; same = SameWritten-trans q.same same };
     rejects_in_any_order = λ rs ss same q. record { exactly = q.exactly; rejects = q.rejects; same = SameAll-trans q.same same };
   }
@@ -165,8 +165,12 @@ module _ {E : Type 0} (W : Writer E) where
     same_depth = p.same_depth;
   }
 
-  pub group_is_not_open : {old new : E} {e : EncodeError} → GroupIsNotOpen W old new e → GroupIsNotOpen (up_to_order W) old new e
-  group_is_not_open p = record { error = is_error p.error; not_too_deep = p.not_too_deep; not_rejected = p.not_rejected }
+  pub group_is_not_open : {old new : E} {table : Table Line} {e : EncodeError} → GroupIsNotOpen W old table new e → GroupIsNotOpen (up_to_order W) old table new e
+  group_is_not_open {table = table} p = record {
+    error = is_error p.error;
+    not_too_deep = p.not_too_deep;
+    rejected = λ rejection rs. rejects_exactly (group_records table (Some rs)) (p.rejected rejection rs);
+  }
 
   pub group_is_closed : {old new : E} → GroupIsClosed W old new → GroupIsClosed (up_to_order W) old new
   group_is_closed {old} p = record {

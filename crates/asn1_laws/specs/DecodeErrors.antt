@@ -1,4 +1,4 @@
--- What an error says.
+-- The case and the contents of an error.
 use Rattle.std.specs.Prelude.{ℕ, Bool, true, false, List}
 use Rattle.asn1_tags.specs.declared.tags.Tag.{Tag}
 use Rattle.asn1_laws.specs.declared.needed.Needed.{Needed}
@@ -37,7 +37,7 @@ reason Depth = too_deep
 reason Failed = has_failed
 reason OutOfRange = out_of_range
 
--- The number of what is said: its index above, from 1.
+-- The number of a reason: its index above, from 1.
 abbrev pub number : Reason → ℕ
 number (custom message) = 1
 number (incomplete needed) = 2

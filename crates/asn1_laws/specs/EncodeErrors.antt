@@ -1,4 +1,4 @@
--- What an error says.
+-- The case and the message of an error.
 use Rattle.std.specs.Prelude.{ℕ, List}
 use Rattle.asn1_laws.specs.declared.encode_error.EncodeError.{EncodeError}
 use Rattle.asn1_laws.specs.declared.encode_error.EncodeError.TheVariants.{Memory, Depth, Failed, Custom}

@@ -1,4 +1,4 @@
--- What remains to be read, and what each call of a decoder does.
+-- The records that remain to be read, and the effect of each call of a decoder.
 use Rattle.std.specs.Prelude.{◌≡◌, ◌≢◌, ◌⊎◌, ℕ, suc, ◌≤◌, ◌<◌, ⊤, Bool, true, false, List, [], ◌∷◌, ◌++◌, IsPermutation, Option, None, Some, IsSome, IfErr, Result, Err, MatchResult, OnOk, OnErr, if◌then◌else◌}
 use Rattle.asn1_tags.specs.declared.tags.Tag.{Tag}
 use Rattle.asn1_components.specs.ComponentTypes.{ComponentType}
@@ -16,7 +16,7 @@ use Rattle.asn1_laws.specs.declared.decode_error.DecodeError.TheVariants.{Memory
 abbrev pub Outside : Type 0
 Outside = List (Head × List Record)
 
--- What is left to be read: of the innermost list, and outside it.
+-- The records left to be read: of the innermost list, and outside it.
 abbrev pub Remaining : Type 0
 Remaining = List Record × Outside
 
@@ -26,7 +26,7 @@ pub data SameOutside : Outside → Outside → Type 0 where
   scope_and : (h : Head) {rs ss : List Record} {outer others : Outside} → SameRecords rs ss →
       SameOutside outer others → SameOutside ((h, rs) ∷ outer) ((h, ss) ∷ others)
 
--- What is left is the same, list by list, up to the order inside sets.
+-- The same records are left, list by list, up to the order inside sets.
 pub record SameRemaining (one other : Remaining) : Type 0 where
   pub here : SameRecords one.0 other.0
   pub outside : SameOutside one.1 other.1
@@ -46,15 +46,15 @@ marks_passed (r ∷ rs) = if is_presence_mark r then marks_passed rs else r ∷ 
 abbrev pub MayFail : ℕ → ℕ → DecodeError → Type 0
 MayFail depth_left height e = (e ≡ Memory) ⊎ ((e ≡ Depth) × (depth_left < height))
 
--- What may follow the records of a value under a tag: anything where each value of the type is a
--- single record; of other types, where the records are presence marks alone, nothing that begins
--- with a tag of the type.
+-- The records may follow those of a value under a tag. Any may follow if each value of the type is
+-- a single record. After presence marks alone of another type, none may follow that begin with a
+-- tag of the type.
 abbrev pub MayFollow : {V : Type 0} → Meaning V → Tag → List Record → List Record → Type 0
 MayFollow m t rs rest = m.IsSingleRecord ⊎ (presence_marks_alone rs ≡ true → ShareNone (tags m t) (first_tags rest))
 
--- What a decoder says of itself: what remains to be read, whether it has failed, how many nested
--- scopes may still be opened (the depth left), and which byte strings it accepts as one value of an
--- open type.
+-- The relations that a decoder defines: the records that remain to be read, whether it has failed,
+-- how many nested scopes may still be opened (the depth left), and which byte strings it accepts as
+-- one value of an open type.
 pub record Reader (D : Type 0) : Type 1 where
   pub remains : D → Remaining → Type 0
   pub failed : D → Bool
@@ -77,7 +77,7 @@ pub record IsNextTag {V : Type 0} (cs : List (ComponentType V)) (items : List Re
       (u : Tag) × (Has (first_tags items) u × TellsComponent cs (first_tags items) t)
 
 module _ {D : Type 0} (R : Reader D) where
-  -- What these relations keep to: the order inside sets means nothing.
+  -- The law of these relations: the order inside sets means nothing.
   pub record IsLawful : Type 0 where
     pub in_any_order : (d : D) (before other : Remaining) → SameRemaining before other → R.remains d before → R.remains d other
 
@@ -122,9 +122,9 @@ module _ {D : Type 0} (R : Reader D) where
     pub not_failed : IfErr result (λ e. e ≢ Failed)
     pub no_failure : R.failed new ≡ false
 
-  -- What a call leaves that reads a value of a type. After a success the depth left is as it was,
-  -- and the decoder has failed only if it had failed before. An error makes the decoder failed, or
-  -- it is the type's own. Where each value of the type is a record, a failed decoder answers so.
+  -- The state after a call that reads a value of a type. After a success the depth left is as it
+  -- was, and the decoder has failed only if it had failed before. An error makes the decoder failed,
+  -- or it is the type's own. A failed decoder answers `Failed` if each value of the type is a record.
   pub record AfterReading {V : Type 0} (m : Meaning V) (t : Tag) (c : ConstraintSet) (old new : D) (result : Result V DecodeError) : Type 0 where
     pub same_depth : OnOk result (R.depth_left new ≡ R.depth_left old)
     pub failed_as_before : OnOk result (R.failed new ≡ R.failed old)
@@ -138,7 +138,7 @@ module _ {D : Type 0} (R : Reader D) where
     pub same : new ≡ old
     pub has_alphabet : IsSome m.constraints.permitted_alphabet
 
-  -- What a call leaves that makes the type's own constraints, and then reads a value.
+  -- The state after a call that makes the type's own constraints, and then reads a value.
   pub record AfterReadingWithOwnConstraints {V : Type 0} (m : Meaning V) (t : Tag) (old new : D) (result : Result V DecodeError) : Type 0 where
     pub same_depth : OnOk result (R.depth_left new ≡ R.depth_left old)
     pub failed_as_before : OnOk result (R.failed new ≡ R.failed old)
@@ -222,9 +222,9 @@ module _ {D : Type 0} (R : Reader D) where
       (h : Head) (rest : List Record) (outer : Outside) →
       Advances old new 0 ([], (h, rest) ∷ outer) (rest, outer) (λ _. ⊤) result
 
-  -- What follows is what a call does to the depth left and to failure, whatever remained to be read.
+  -- The relations below are about the depth left and failure, whatever remained to be read.
   -- A call that leaves as many scopes open as there were: after a success the depth left is as it was
-  -- and the decoder has not failed, an error makes it failed, and a failed one answers so.
+  -- and the decoder has not failed, an error makes it failed, and a failed decoder answers `Failed`.
   pub record KeepsDepth {V : Type 0} (old new : D) (result : Result V DecodeError) : Type 0 where
     pub same_depth : OnOk result (R.depth_left new ≡ R.depth_left old)
     pub no_failure : OnOk result (R.failed new ≡ false)

@@ -1,4 +1,4 @@
--- What a call reads of the values of a type.
+-- Calls that read values of a type.
 use Rattle.std.specs.Prelude.{◌≡◌, ◌≤◌, ℕ, Bool, true, false, List, [], ◌∷◌, All, IsPermutation, IsTrue, None, Option, IfSome, Result, length}
 use Rattle.std.specs.List.{flat_map}
 use Rattle.std.specs.Option.{option_eq, option_map}
@@ -59,7 +59,7 @@ module _ {D : Type 0} (R : Reader D) {V : Type 0} where
       (n : Name) → TellsPresence R old new (present side (type n).tag) (absent side (type n).tag) (tree_tags (type n).tree) result
 
   -- A call that reads a component that may be absent, on this side of the extension marker (X.680,
-  -- 25.1). What follows one that is absent begins with none of its tags.
+  -- 25.1). After an absent one the list begins with none of its tags.
   abbrev pub ReadsOptional : Side → Named V → (V → V → Bool) → D → D → Result (Option V) DecodeError → Type 0
   ReadsOptional side type eq old new result =
       (v : Option V) (n : Name) (rest : List Record) (outer : Outside) →
@@ -88,7 +88,7 @@ module _ {D : Type 0} (R : Reader D) {V : Type 0} where
       ReadsBack R old new (holding (head_of_kind kind t (lines components) n) (component_records components v) ∷ []) rest outer (λ w. eq w v ≡ true) result
 
   -- A call that reads what a SEQUENCE or a group holds: its components, in the order of their
-  -- definition. What follows them begins with no tag of those after the last that is always there.
+  -- definition. The rest of the list begins with no tag of those after the last required one.
   abbrev pub ReadsFields : Components V → (V → V → Bool) → D → D → Result V DecodeError → Type 0
   ReadsFields components eq old new result =
       (v : V) (rest : List Record) (outer : Outside) →
@@ -97,7 +97,7 @@ module _ {D : Type 0} (R : Reader D) {V : Type 0} where
       ReadsBack R old new (component_records components v) rest outer (λ w. eq w v ≡ true) result
 
   -- A call that reads a group of additions (25.1), which may be absent. One that is there writes a
-  -- component. What follows it begins with no tag of its components.
+  -- component. The rest of the list begins with no tag of its components.
   abbrev pub ReadsGroup : Components V → (V → V → Bool) → D → D → Result (Option V) DecodeError → Type 0
   ReadsGroup components eq old new result =
       (v : Option V) (rest : List Record) (outer : Outside) →

@@ -1,15 +1,15 @@
--- What a codec says of itself where the order inside sets means nothing, by what it says of the
--- very lists that are left.
+-- The relations of a codec that ignores the order inside sets, by its relations on the exact lists
+-- that are left.
 use Rattle.asn1_laws.specs.Reading.{Remaining, Reader, SameRemaining}
 
 module _ {D : Type 0} (R : Reader D) where
-  -- What remains is the same as these lists, up to the order inside sets (X.680, 27 and 28).
+  -- These lists remain, up to the order inside sets (X.680, 27 and 28).
   pub record RemainsUpToOrder (d : D) (left : Remaining) : Type 0 where
     pub exactly : Remaining
     pub remains : R.remains d exactly
     pub same : SameRemaining exactly left
 
-  -- What R says, up to the order inside sets: what remains is the same as something that R says.
+  -- The relations of R up to the order inside sets: lists remain if R relates the same lists.
   abbrev pub up_to_order : Reader D
   up_to_order = record {
     remains = λ d left. RemainsUpToOrder d left;

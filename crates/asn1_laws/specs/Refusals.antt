@@ -1,4 +1,4 @@
--- What a type refuses of what it reads, by an error of its own.
+-- Records that a type refuses by an error of its own.
 use Rattle.std.specs.Prelude.{◌≡◌, ◌≢◌, ◌↔◌, ℕ, ℤ, ◌≤ℤ◌, Bool, List, [], ◌∷◌, All, length}
 use Rattle.std.specs.List.{flat_map}
 use Rattle.asn1_tags.specs.declared.tags.Tag.{Tag}
@@ -9,8 +9,8 @@ use Rattle.asn1_model.specs.Records.{Name, Record, number, scalar}
 use Rattle.asn1_laws.specs.declared.decode_error.DecodeError.{DecodeError}
 use Rattle.asn1_laws.specs.declared.decode_error.DecodeError.TheVariants.{IncorrectItemNumber, OutOfRange}
 
--- Which records a type refuses under a tag and constraints, and by which error. The test is the
--- codec's: which byte strings it accepts as one value of an open type.
+-- The records that a type refuses under a tag and constraints, each with its error. The codec's test
+-- decides which byte strings are one value of an open type.
 abbrev pub Refusals : Type 1
 Refusals = (List ℕ → Bool) → Tag → ConstraintSet → List Record → DecodeError → Type 0
 

@@ -1,13 +1,13 @@
--- What an encoder has written, and what a call of it does.
+-- The records that an encoder has written, and the effect of each call of it.
 use Rattle.std.specs.Prelude.{◌≡◌, ◌≢◌, ◌↔◌, ℕ, suc, ◌≤◌, ◌<◌, ⊤, Bool, true, false, List, [], ◌∷◌, ◌++◌, Err, MatchResult, Result, Some}
 use Rattle.asn1_model.specs.Composites.{group_records}
 use Rattle.asn1_model.specs.Orders.{SameRecords}
-use Rattle.asn1_model.specs.Records.{Record, Head, holding, highest, presence_marks_alone}
+use Rattle.asn1_model.specs.Records.{Record, Head, group_absent, holding, highest, presence_mark, presence_marks_alone}
 use Rattle.asn1_model.specs.RecordTables.{Line, Table}
 use Rattle.asn1_laws.specs.declared.encode_error.EncodeError.{EncodeError}
 use Rattle.asn1_laws.specs.declared.encode_error.EncodeError.TheVariants.{Memory, Depth, Failed, Custom}
 
--- What has been written: the records of the outermost list, and of each scope and group that is
+-- The written records: those of the outermost list, and of each scope and group that is
 -- open, innermost first. A group has a table of its own.
 pub data Written : Type 0 where
   outermost : List Record → Written
@@ -20,7 +20,7 @@ followed_by (outermost done) rs = outermost (done ++ rs)
 followed_by (in_scope h done outer) rs = in_scope h (done ++ rs) outer
 followed_by (in_group table done outer) rs = in_group table (done ++ rs) outer
 
--- What has been written is the same, list by list, up to the order inside sets.
+-- The same records have been written, list by list, up to the order inside sets.
 pub data SameWritten : Written → Written → Type 0 where
   same_outermost : {rs ss : List Record} → SameRecords rs ss → SameWritten (outermost rs) (outermost ss)
   same_scope : (h : Head) {rs ss : List Record} {w x : Written} → SameRecords rs ss → SameWritten w x → SameWritten (in_scope h rs w) (in_scope h ss x)
@@ -34,8 +34,8 @@ IsRejection Depth = ⊥
 IsRejection Failed = ⊥
 IsRejection (Custom message) = ⊤
 
--- What an encoder says of itself: what it has written, whether it has failed, how many nested
--- scopes may still be opened (the depth left), and which records it rejects.
+-- The relations that an encoder defines: the records that it has written, whether it has failed, how
+-- many nested scopes may still be opened (the depth left), and which records it rejects.
 pub record Writer (E : Type 0) : Type 1 where
   pub wrote : E → Written → Type 0
   pub failed : E → Bool
@@ -43,12 +43,13 @@ pub record Writer (E : Type 0) : Type 1 where
   pub rejects : List Record → Type 0
 
 module _ {E : Type 0} (W : Writer E) where
-  -- What these relations keep to. Records are rejected where a part of them is, or what one of them
-  -- holds; presence marks alone never are; and the order inside sets means nothing.
+  -- The laws of these relations. Records are rejected where a part of them is, or what one of them
+  -- holds. Presence marks alone are rejected only by a codec that rejects an absent group: a group
+  -- of them is absent. The order inside sets means nothing.
   pub record IsLawful : Type 0 where
     pub part : (before rs after : List Record) → W.rejects rs → W.rejects (before ++ (rs ++ after))
     pub inner : (h : Head) (rs : List Record) → W.rejects rs → W.rejects (holding h rs ∷ [])
-    pub marks : (rs : List Record) → presence_marks_alone rs ≡ true → ¬ W.rejects rs
+    pub marks : (rs : List Record) → presence_marks_alone rs ≡ true → W.rejects rs → W.rejects (presence_mark group_absent ∷ [])
     pub wrote_in_any_order : (e : E) (w x : Written) → SameWritten w x → W.wrote e w → W.wrote e x
     pub rejects_in_any_order : (rs ss : List Record) → SameRecords rs ss → W.rejects rs → W.rejects ss
 
@@ -87,7 +88,7 @@ module _ {E : Type 0} (W : Writer E) where
     pub one_less : W.depth_left old ≡ suc (W.depth_left new)
 
   -- It has not: no depth is left, or whatever the scope will hold is rejected, or memory ran out.
-  -- Where there is no depth left, this is the error, but of an encoder that had failed before.
+  -- `Depth` comes first if no depth is left, unless the encoder had failed before.
   pub record ScopeIsNotOpen (old : E) (h : Head) (new : E) (e : EncodeError) : Type 0 where
     pub error : IsError old new e
     pub too_deep : e ≡ Depth → W.depth_left old ≡ 0
@@ -129,16 +130,17 @@ module _ {E : Type 0} (W : Writer E) where
     pub no_failure : W.failed new ≡ false
     pub same_depth : W.depth_left new ≡ W.depth_left old
 
-  -- It has not: memory ran out, or the encoder had failed before.
-  pub record GroupIsNotOpen (old new : E) (e : EncodeError) : Type 0 where
+  -- It has not: whatever the group will hold is rejected, or memory ran out, or the encoder had
+  -- failed before.
+  pub record GroupIsNotOpen (old : E) (table : Table Line) (new : E) (e : EncodeError) : Type 0 where
     pub error : IsError old new e
     pub not_too_deep : e ≢ Depth
-    pub not_rejected : ¬ IsRejection e
+    pub rejected : IsRejection e → (rs : List Record) → W.rejects (group_records table (Some rs))
 
   -- a call that opens a group
   abbrev pub OpensGroup : {A : Type 0} → E → Table Line → E → Result A EncodeError → Type 0
   OpensGroup old table new result = MatchResult result (λ _. GroupIsOpen old table new)
-      (GroupIsNotOpen old new)
+      (GroupIsNotOpen old table new)
 
   -- The innermost group has been closed. It is absent where its components are marks alone.
   pub record GroupIsClosed (old new : E) : Type 0 where

@@ -1,4 +1,4 @@
--- What a call writes of a value of a type.
+-- Calls that write values of a type.
 use Rattle.std.specs.Prelude.{◌≡◌, Bool, false, List, [], ◌∷◌, All, Option, IfSome, Result}
 use Rattle.std.specs.List.{flat_map}
 use Rattle.std.specs.Option.{option_map}

@@ -1,17 +1,17 @@
--- What a codec says of itself where the order inside sets means nothing, by what it says of the
--- very records that it wrote.
+-- The relations of a codec that ignores the order inside sets, by its relations on the exact records
+-- that it wrote.
 use Rattle.std.specs.Prelude.{◌≡◌, true, List, [], ◌∷◌, ◌++◌}
 use Rattle.asn1_model.specs.Orders.{SameRecords}
-use Rattle.asn1_model.specs.Records.{Record, Head, holding, presence_marks_alone}
+use Rattle.asn1_model.specs.Records.{Record, Head, group_absent, holding, presence_mark, presence_marks_alone}
 use Rattle.asn1_laws.specs.Writing.{Writer, Written, SameWritten}
 
 module _ {E : Type 0} (W : Writer E) where
-  -- What a codec rejects, apart from order. Records are rejected where a part of them is, or what
-  -- one of them holds; presence marks alone never are.
+  -- The laws of rejection, apart from order. Records are rejected where a part of them is, or what
+  -- one of them holds. Presence marks alone are rejected only where an absent group is.
   pub record RejectsByParts : Type 0 where
     pub part : (before rs after : List Record) → W.rejects rs → W.rejects (before ++ (rs ++ after))
     pub inner : (h : Head) (rs : List Record) → W.rejects rs → W.rejects (holding h rs ∷ [])
-    pub marks : (rs : List Record) → presence_marks_alone rs ≡ true → ¬ W.rejects rs
+    pub marks : (rs : List Record) → presence_marks_alone rs ≡ true → W.rejects rs → W.rejects (presence_mark group_absent ∷ [])
 
   -- Something has been written that is the same up to the order inside sets (X.680, 27 and 28).
   pub record WroteUpToOrder (e : E) (w : Written) : Type 0 where
@@ -25,8 +25,8 @@ module _ {E : Type 0} (W : Writer E) where
     pub rejects : W.rejects exactly
     pub same : SameRecords exactly rs
 
-  -- What W says, up to the order inside sets: the encoder has written, or rejects, what is the same
-  -- as something that W says.
+  -- The relations of W up to the order inside sets: records have been written, or are rejected, if W
+  -- relates the same records.
   abbrev pub up_to_order : Writer E
   up_to_order = record {
     wrote = λ e w. WroteUpToOrder e w;

@@ -1,5 +1,4 @@
-//! Laws of what no other contract names: what the derives and the conversions of the errors give, and when two
-//! encoders have written the same.
+//! Laws of the derives and the conversions of the errors, and of sameness between written records.
 ghost use Rattle.asn1_laws.specs.DecodeErrors as decoding;
 ghost use Rattle.asn1_laws.specs.EncodeErrors as encoding;
 ghost use Rattle.asn1_laws.specs.Writing.{SameWritten, Written, followed_by};

@@ -1,4 +1,4 @@
--- What a reader of an `Open` goes by: the law of the type, which alternative has a tag, and how deep an INSTANCE OF is nested.
+-- The facts for a reader of an `Open`: the law of the type, the alternative of a tag, and the nesting of an INSTANCE OF.
 use Rattle.std.proofs.Common.{◌≡◌, ◌+◌, ◌++◌, ℕ, Bool, true, false, List, [], ◌∷◌, eqb, refl, arith, rules, sym, subst}
 use Rattle.std.specs.Prelude.{Some, codes}
 use Rattle.asn1_components.specs.Alternatives.{all_of, chosen}

@@ -1,4 +1,4 @@
--- What holds of each `Open`: it is valid, and how deep its record is nested.
+-- The facts of each `Open`: it is valid, and its record has a known nesting.
 use Rattle.std.proofs.Common.{◌≡◌, ◌≢◌, ◌+◌, ℕ, Bool, List, refl, arith, ap, ◌∙◌}
 use Rattle.asn1_model.specs.Meaning.{own_records}
 use Rattle.asn1_model.specs.Records.{highest}

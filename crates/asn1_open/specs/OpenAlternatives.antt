@@ -111,7 +111,7 @@ open_agrees (UniversalString string) = means_itself
 open_agrees (VisibleString string) = means_itself
 open_agrees (InstanceOf' place type_id value) = record { records = refl; of_type = (λ h. h, λ h. h); valid = λ _. (λ h. h, λ h. h) }
 
--- What an `Open` means.
+-- The meaning of an `Open`.
 abbrev pub open_meaning : Meaning Open
 open_meaning = choice_holding_itself (codes "Open") open_alternatives_with open_means open_pick open_agrees
 

@@ -23,7 +23,7 @@
 //! | [`Open`] | the CHOICE |
 //! | [`laws`] | the names, the tags and the places of its alternatives, and when two values are equal |
 //!
-//! What the contracts promise, and the words that they use:
+//! The contracts promise the following, in these words:
 //!
 //! - An `Open` is well tagged (`open_is_well_tagged`), and each is valid, however deep
 //!   (`each_open_is_valid`).

@@ -26,7 +26,7 @@ next_piece pieces i d unread lt =
 pub no_piece_left : (pieces : List (Bor (List ℕ))) (i : ℕ) (unread : List ℕ) → length pieces ≤ i → unread ++ joined (drop i pieces) ≡ unread
 no_piece_left pieces i unread all = ap (λ l. unread ++ joined l) (drop_all i pieces all) ∙ append-nil unread
 
--- What the test of an answer tells.
+-- The facts of the test of an answer.
 pub none_if : {T : Type 0} (o : Option T) (b : Bool) → is_some o ≡ not b → b ≡ true → o ≡ None
 none_if None b known yes_none = refl
 none_if (Some x) b known yes_none = let f : true ≡ not true = subst (λ v. true ≡ not v) yes_none known in cc

@@ -1,4 +1,4 @@
--- What the answer of `next` tells.
+-- The facts of the answer of `next`.
 use Rattle.std.proofs.Common.{◌≡◌, ℕ, List, [], ◌∷◌, ◌++◌, sym, subst, inl, inr}
 use Rattle.std.specs.Prelude.{Option, None, Some, Result, Ok, Err}
 use Rattle.asn1_laws.specs.declared.decode_error.DecodeError.{DecodeError}
@@ -16,10 +16,6 @@ module _ {R V : Type 0} (F : Fronts R V) (old new : State R) where
   pub kept : (item : Option (Result V DecodeError)) (e : DecodeError) → item ≡ Some (Err e) → Steps F old item new → Kept F old new e
   kept item e is (inl (w, came, t)) = cc
   kept item e is (inr (d, failed, k)) = let same : d ≡ e = cc in subst (Kept F old new) same k
-
-  pub always_some : (item : Option (Result V DecodeError)) → item ≡ None → Steps F old item new → ⊥
-  always_some item is (inl (w, came, t)) = cc
-  always_some item is (inr (e, failed, k)) = cc
 
   -- A value came: what remains begins behind it.
   pub remains_behind : (law : IsLawful F) (first : R) (ws vs : List V) (v : V) (behind : List ℕ) → old.reader ≡ first → IsSteady F first →

@@ -1,4 +1,4 @@
--- What was written one after another are fronts, which come back equal.
+-- Values that were written one after another are fronts, and come back equal.
 use Rattle.std.proofs.Common.{◌≡◌, ℕ, ◌≤◌, List, [], ◌∷◌, inl, inr, arith, subst, sym}
 use Rattle.std.specs.Prelude.{All, Bool, Err, IfOk, MatchResult, Ok, Option, None, Result, Some, Vec}
 use Rattle.std.specs.Result.{IsErrAnd}
@@ -35,7 +35,7 @@ module _ {R V : Type 0} (F : Fronts R V) (reader : R) (format : Format (Vec ℕ 
   come_back_equal depth (w ∷ ws) [] last back = tt
   come_back_equal depth (w ∷ ws) (v ∷ vs) last back = (belongs.equal w v back.0, come_back_equal depth ws vs last back.1)
 
-  -- What was read of the pieces comes back, also through an error that is put into another one.
+  -- The values that were read of the pieces come back, also through an error that is put into another one.
   pub stream_comes_back : (read : Result (Pieces V) DecodeError) (answer : Result (Pieces V) RoundTripError) (post : DecodeError → RoundTripError → Type 0) (vs : List V) (bytes : List ℕ) →
       IsSteady F reader → AreFronts F reader vs bytes → MatchResult read (λ x. answer ≡ Ok x) (λ e. IsErrAnd answer (post e)) →
       IfOk read (λ x. (us : List V) → IsSteady F reader → AreFronts F reader us bytes → ComeBack F.same F.height (F.depth reader) x.values.items us x.last) →

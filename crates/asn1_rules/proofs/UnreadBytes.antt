@@ -1,4 +1,4 @@
--- What remains of a stream of values, once a value came.
+-- The unread bytes of a stream of values, once a value came.
 use Rattle.std.proofs.Common.{◌≡◌, ℕ, ◌≤◌, List, [], ◌∷◌, ◌++◌, length, take, drop, sym, ap, subst, ◌∙◌, refl}
 use Rattle.std.specs.Prelude.{None, Some}
 use Rattle.std.proofs.Math.Seq.{take-append_seam, drop-append_seam}

@@ -1,4 +1,4 @@
--- Which first bytes of an input are one value's, and what reading them answers.
+-- The first bytes of an input that are one value's, and the answer of reading them.
 use Rattle.std.specs.Prelude.{◌≡◌, ℕ, ◌≤◌, Bool, true, List, ◌++◌, length, MatchResult, Result, Vec}
 use Rattle.std.specs.declared.alloc.Global.{Global}
 use Rattle.asn1_laws.specs.declared.decode_error.DecodeError.{DecodeError}
@@ -7,7 +7,7 @@ use Rattle.asn1_model.specs.Meaning.{Meaning, own_records}
 use Rattle.asn1_model.specs.Records.{highest}
 use Rattle.asn1_rules.specs.Rules.{Format}
 
--- What a reader says of itself. `cut reader bytes n`: the first n bytes are those of one value.
+-- The relations that a reader defines. `cut reader bytes n`: the first n bytes are those of one value.
 -- `front reader bytes v n`: they are those of the value v. `same`: an answer is as good as the
 -- value that was written. `height`: how many scopes are nested in a value; `depth`: how many the
 -- reader opens at most.
@@ -19,19 +19,19 @@ pub record Fronts (R V : Type 0) : Type 1 where
   pub depth : R → ℕ
 
 module _ {R V : Type 0} (F : Fronts R V) where
-  -- What every reader keeps to: a front is a cut, and a cut is no longer than the input.
+  -- The laws of every reader: a front is a cut, and a cut is no longer than the input.
   pub record IsLawful : Type 0 where
     pub is_cut : (reader : R) (bytes : List ℕ) (v : V) (n : ℕ) → F.front reader bytes v n → F.cut reader bytes n
     pub within : (reader : R) (bytes : List ℕ) (n : ℕ) → F.cut reader bytes n → n ≤ length bytes
 
-  -- The answer is a value and a length that is a cut; where the input has a front, that is its
+  -- The answer is a value and a length that is a cut; if the input has a front, that is its
   -- length, and the value is the same.
   pub record IsFront (reader : R) (bytes : List ℕ) (answer : V × ℕ) : Type 0 where
     pub cut : F.cut reader bytes answer.1
     pub as_written : (v : V) (n : ℕ) → F.front reader bytes v n → (answer.1 ≡ n) × (F.same answer.0 v ≡ true)
 
-  -- Where the input has a front, it was not read since memory ran out, or since its value is nested
-  -- deeper than the reader's depth.
+  -- A front of the input was not read because memory ran out, or because its value is nested deeper
+  -- than the reader's depth.
   abbrev pub IsNoFront : R → List ℕ → DecodeError → Type 0
   IsNoFront reader bytes e = (v : V) (n : ℕ) → F.front reader bytes v n → MayFail (F.depth reader) (F.height v) e
 
@@ -39,7 +39,7 @@ module _ {R V : Type 0} (F : Fronts R V) where
   abbrev pub ReadsFront : R → List ℕ → Result (V × ℕ) DecodeError → Type 0
   ReadsFront reader bytes result = MatchResult result (IsFront reader bytes) (IsNoFront reader bytes)
 
-  -- Bytes behind change nothing, and an input has one cut at most.
+  -- Trailing bytes change nothing, and an input has one cut at most.
   pub record IsSteady (reader : R) : Type 0 where
     pub cut_remains : (bytes behind : List ℕ) (n : ℕ) → F.cut reader bytes n → F.cut reader (bytes ++ behind) n
     pub front_remains : (bytes behind : List ℕ) (v : V) (n : ℕ) → F.front reader bytes v n → F.front reader (bytes ++ behind) v n

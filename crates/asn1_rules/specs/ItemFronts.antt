@@ -4,8 +4,7 @@ use Rattle.asn1_model.specs.Meaning.{Meaning, IsWellTagged, own_records}
 use Rattle.asn1_model.specs.Records.{Record, highest}
 use Rattle.asn1_rules.specs.Fronts.{Fronts}
 
--- What holds of the way in which items are cut off: a cut is no longer than the bytes, bytes behind change nothing, and there is
--- one at most.
+-- The laws of cutting items off: a cut is no longer than the bytes, trailing bytes change nothing, and there is one cut at most.
 pub record CutsItems (IsCut : List ℕ → ℕ → Type 0) : Type 0 where
   pub within : (bytes : List ℕ) (n : ℕ) → IsCut bytes n → n ≤ length bytes
   pub remains : (bytes behind : List ℕ) (n : ℕ) → IsCut bytes n → IsCut (bytes ++ behind) n
@@ -20,7 +19,7 @@ module _ (IsCut : List ℕ → ℕ → Type 0) (Carries : List ℕ → List Reco
     pub valid : m.IsValid accepts v
     pub carried : Carries (take n bytes) (own_records m v)
 
-  -- What a reader of items says of itself, for a type of this meaning and equality, by the depth that it may open.
+  -- The relations of a reader of items, for a type of this meaning and equality, by the depth that it may open.
   abbrev pub item_fronts : {R V : Type 0} → (R → ℕ) → Meaning V → (V → V → Bool) → Fronts R V
   item_fronts depth m eq = record {
     cut = λ reader bytes n. IsCut bytes n;

@@ -1,4 +1,4 @@
--- What callers see of the fields of an iterator.
+-- The fields of an iterator, as callers see them.
 use Rattle.asn1_rules.specs.Sources.{kept_in, unread_in}
 use Rattle.asn1_rules.specs.States.{State}
 use Rattle.asn1_rules.specs.declared.iter.Iter.{Iter}

@@ -1,4 +1,4 @@
--- Values that are written one after another, and what is read of the pieces of their bytes.
+-- Values that are written one after another, and the values that are read of the pieces of their bytes.
 use Rattle.std.specs.Prelude.{◌≡◌, ℕ, ⊤, Bool, true, List, [], ◌∷◌, ◌++◌, length, Option, IfSome}
 use Rattle.std.specs.Borrow.{Bor}
 use Rattle.std.specs.List.{flat_map}
@@ -17,8 +17,8 @@ pub data AreFronts {R V : Type 0} (F : Fronts R V) (reader : R) : List V → Lis
       AreFronts F reader vs bytes → AreFronts F reader (v ∷ vs) (front ++ bytes)
 
 -- The values that came are the same as those that were written, one by one, as far as both go.
--- Where one is missing, and an error was the last answer, memory ran out, or the first that is
--- missing is nested deeper than the reader's depth.
+-- If one is missing, and an error was the last answer, memory ran out, or the first missing value is
+-- nested deeper than the reader's depth.
 abbrev pub ComeBack : {V : Type 0} → (V → V → Bool) → (V → ℕ) → ℕ → List V → List V → Option DecodeError → Type 0
 ComeBack same height depth [] [] last = ⊤
 ComeBack same height depth [] (v ∷ vs) last = IfSome last (MayFail depth (height v))

@@ -1,4 +1,4 @@
--- What a call of an iterator over an input does.
+-- Calls of an iterator over an input.
 use Rattle.std.specs.Prelude.{◌≡◌, ◌⊎◌, ℕ, Option, Some, Result, Ok, Err}
 use Rattle.asn1_laws.specs.declared.decode_error.DecodeError.{DecodeError}
 use Rattle.asn1_rules.specs.Fronts.{Fronts, IsFront, IsNoFront}

@@ -1,4 +1,4 @@
--- What is read by one codec and written by another.
+-- Values that are read by one codec and written by another.
 use Rattle.std.specs.Prelude.{◌≡◌, ◌⊎◌, ⊤, ℕ, Bool, true, ◌<◌, MatchResult, Result}
 use Rattle.asn1_laws.specs.declared.decode_error.DecodeError.TheVariants.{Memory, Depth}
 use Rattle.asn1_model.specs.Meaning.{Meaning, IsWellTagged, own_records}

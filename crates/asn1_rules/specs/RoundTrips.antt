@@ -12,8 +12,7 @@ abbrev pub FailsAs : {O : Type 0} → Format O → List Record → ℕ → ℕ �
 FailsAs F rs write_depth read_depth (Writing e) = IsNotWritten F rs write_depth e
 FailsAs F rs write_depth read_depth (Reading e) = (e ≡ Memory) ⊎ ((e ≡ Depth) × (read_depth < highest rs))
 
--- What is known of every value, also of one that is not valid: it was written, nested no deeper than the depth of writing, or
--- writing failed, as it may.
+-- Every value, valid or not, was written and is nested no deeper than the depth of writing, or writing failed as it may.
 abbrev pub WritesFirst : {O V : Type 0} → Format O → List Record → ℕ → Result V RoundTripError → Type 0
 WritesFirst F rs write_depth (Ok w) = highest rs ≤ write_depth
 WritesFirst F rs write_depth (Err (Writing e)) = IsNotWritten F rs write_depth e

@@ -1,4 +1,4 @@
--- What a codec as a whole says of itself, and what writing and reading a value answer.
+-- The relations that a whole codec defines, and the answers of writing and reading a value.
 use Rattle.std.specs.Prelude.{◌≡◌, ◌≢◌, ◌⊎◌, ℕ, ◌≤◌, ◌<◌, Bool, true, false, List, [], ◌∷◌, ◌++◌, IsErr, MatchResult, Result}
 use Rattle.asn1_laws.specs.Writing.{IsRejection}
 use Rattle.asn1_laws.specs.declared.encode_error.EncodeError.{EncodeError}
@@ -11,16 +11,16 @@ use Rattle.asn1_model.specs.Orders.{SameRecords}
 use Rattle.asn1_model.specs.Records.{Record, Head, highest, holding, presence_marks_alone}
 use Rattle.asn1_model.specs.WellFormed.{AreWellFormed}
 
--- What the outputs of a codec are: which records an output carries, which records may be refused, and which byte strings are
--- one value each of an open type. One output may carry many lists of records.
+-- The outputs of a codec: the records that an output carries, the records that may be refused, and the byte strings that are one
+-- value of an open type. One output may carry many lists of records.
 pub record Format (O : Type 0) : Type 1 where
   pub carries : O → List Record → Type 0
   pub rejects : List Record → Type 0
   pub accepts : List ℕ → Bool
 
 module _ {O : Type 0} (F : Format O) where
-  -- What these keep to: the order inside sets means nothing, and records are rejected where a part of them is, or what one of
-  -- them holds.
+  -- The laws of these: the order inside sets means nothing, and records are rejected where a part of them is, or the contents of
+  -- one of them.
   pub record IsLawful : Type 0 where
     pub carries_in_any_order : (output : O) (rs ss : List Record) → SameRecords rs ss → F.carries output rs → F.carries output ss
     pub rejects_in_any_order : (rs ss : List Record) → SameRecords rs ss → F.rejects rs → F.rejects ss
@@ -72,7 +72,7 @@ module _ {V : Type 0} (accepts : List ℕ → Bool) (Carried : List Record → T
       (rs : List Record) (e : DecodeError) → refusals accepts m.tag m.constraints rs e → AreWellFormed accepts rs →
       Carried rs → RefusesWhole (highest rs) depth e result
 
-  -- Where well-formed records follow those of a valid value of a well-tagged type, the answer is an error.
+  -- The answer is an error if well-formed records follow those of a valid value of a well-tagged type.
   abbrev pub RefusesMore : Result V DecodeError → Type 0
   RefusesMore result =
       (v : V) (r : Record) (rest : List Record) → IsWellTagged m → m.IsOfType v → m.IsValid accepts v →

@@ -1,4 +1,4 @@
--- What is in the fields of a buffer and of a source.
+-- The bytes in a buffer and in a source.
 use Rattle.std.specs.Prelude.{ℕ, List, drop, Option, None, Some}
 use Rattle.asn1_rules.specs.declared.buffer.Buffer.{Buffer}
 use Rattle.asn1_rules.specs.declared.source.Source.{Source}

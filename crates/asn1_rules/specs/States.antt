@@ -1,4 +1,4 @@
--- What callers see of an iterator over an input, and what a call changes of it.
+-- The state of an iterator over an input, as callers see it, and its changes by calls.
 use Rattle.std.specs.Prelude.{◌≡◌, ℕ, ◌+◌, ◌-◌, ◌^◌, ◌≤◌, ◌<◌, ◌++◌, List, Option, None, Some, length, drop, min}
 
 -- The reader, the bytes that have not been read, how many that have been read are kept before these
@@ -24,9 +24,9 @@ abbrev pub count_of : Option ℕ → ℕ
 count_of None = 0
 count_of (Some kept) = kept
 
--- What reading n more bytes does to a buffer with `left` unread bytes behind them: those that have
--- been read are kept while they are no more than the unread ones, and else are dropped, and the
--- unread ones are moved to the front.
+-- A buffer after n more bytes were read, with `left` unread bytes after them: it keeps the read bytes
+-- while they are no more than the unread ones, and otherwise drops them and moves the unread ones to
+-- the front.
 abbrev pub Drops : Option ℕ → ℕ → ℕ → Option ℕ → ℕ → Type 0
 Drops None n left kept moved = (kept ≡ None) × (moved ≡ 0)
 Drops (Some before) n left kept moved =
@@ -42,6 +42,6 @@ pub record IsTaken {R : Type 0} (n : ℕ) (old new : State R) : Type 0 where
   pub buffer : Drops old.kept n (length new.unread) new.kept moved
   pub shifted : new.shifted ≡ counted old.shifted moved
 
--- the state once a piece is behind the unread bytes, which are then in the iterator's own buffer
+-- the state after a piece was appended to the unread bytes, which are then in the iterator's own buffer
 abbrev pub appended : {R : Type 0} → List ℕ → State R → State R
 appended piece s = record s { unread = s.unread ++ piece; kept = Some (count_of s.kept) }

@@ -17,9 +17,9 @@ abbrev pub FailsInPieces : {V : Type 0} → Format (Vec ℕ Global) → Meaning 
 FailsInPieces format m depth vs (Writing e) = OneIsNotWritten format m depth vs e
 FailsInPieces format m depth vs (Reading e) = e ≡ Memory
 
--- What was read of the pieces are these values, as far as both go: equal, and in their order. Where
--- one is missing and an error was the last answer, memory ran out, or that value is nested deeper
--- than the reader's depth.
+-- The values that were read of the pieces are these values, as far as both go: equal, and in their
+-- order. If one is missing and an error was the last answer, memory ran out, or that value is nested
+-- deeper than the reader's depth.
 abbrev pub ValuesComeBack : {V : Type 0} → Meaning V → (V → V → Bool) → ℕ → List V → Pieces V → Type 0
 ValuesComeBack m eq depth vs read =
     ComeBack eq (λ v. highest (own_records m v)) depth read.values.items vs read.last

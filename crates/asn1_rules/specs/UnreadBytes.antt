@@ -1,4 +1,4 @@
--- What remains to be read of a stream of values.
+-- The unread bytes of a stream of values.
 use Rattle.std.specs.Prelude.{◌≡◌, ℕ, ⊤, true, List, [], ◌∷◌, ◌++◌}
 use Rattle.asn1_rules.specs.Fronts.{Fronts, IsSteady}
 use Rattle.asn1_rules.specs.Pieces.{AreFronts}
@@ -11,8 +11,8 @@ Remains F reader [] vs unread = AreFronts F reader vs unread
 Remains F reader (w ∷ ws) [] unread = ⊤
 Remains F reader (w ∷ ws) (v ∷ vs) unread = (F.same w v ≡ true) × Remains F reader ws vs unread
 
--- A call that takes values from an iterator and appends them to those that came: what remained of a
--- stream remains, whatever comes behind what is unread.
+-- A call that takes values from an iterator and appends them to those that came: it keeps
+-- `Remains`, whatever bytes come after the unread ones.
 abbrev pub KeepsRemaining : {R V : Type 0} → Fronts R V → State R → State R → List V → List V → Type 0
 KeepsRemaining {V = V} F old new came now = (vs : List V) (behind : List ℕ) → IsSteady F old.reader →
     Remains F old.reader came vs (old.unread ++ behind) → Remains F old.reader now vs (new.unread ++ behind)

@@ -19,7 +19,7 @@ pub struct Iter<'input, D, R> {
     consumed: u128,
     shifted: u128,
     value: PhantomData<D>,
-    // What has been moved, and what may be moved next, has been read.
+    // All bytes that have been moved, and those that may be moved next, have been read.
     ghost moved: { counted shifted (count_of (kept_in source)) ≤ consumed },
 }
 
@@ -68,7 +68,7 @@ impl<'input, D, R> Iter<'input, D, R> {
         self.shifted
     }
 
-    /// Puts a piece behind the bytes that have not been read. The first call copies these into a
+    /// Appends a piece to the bytes that have not been read. The first call copies these into a
     /// buffer.
     ///
     /// # Errors

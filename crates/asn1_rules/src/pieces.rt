@@ -11,7 +11,7 @@ use crate::iter::Iter;
 use asn1_dec::DecodeError;
 use std::alloc::Global;
 
-/// What was read of pieces.
+/// The values that were read of pieces, and the last error.
 #[derive(Drop)]
 pub struct Pieces<D> {
     /// The values, in the order of their bytes.

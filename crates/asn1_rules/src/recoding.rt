@@ -7,7 +7,7 @@ use asn1_dec::{Decode, DecodeError};
 use asn1_enc::{Encode, EncodeError};
 use thiserror::Error;
 
-/// Which of the two failed. Its text is that of the error inside.
+/// Reading or writing failed. The text is that of the error inside.
 #[derive(Clone, Copy, Debug, Drop, PartialEq, Eq, Error)]
 pub enum RecodeError {
     /// The input was not read.
@@ -20,8 +20,8 @@ pub enum RecodeError {
 
 /// Reads a value by the rules of one codec and writes it by those of another, each with at most this many nested scopes.
 ///
-/// Where the input carries the own records of a valid value of a type that is well tagged, the output carries those of a value
-/// that is equal, by the type's own equality (`recoded`). Of any other input only this is promised, that writing fails as it may
+/// If the input carries the own records of a valid value of a type that is well tagged, the output carries those of a value that
+/// is equal, by the type's own equality (`recoded`). For any other input the contract says only that writing fails as it may
 /// (`writing`).
 ///
 /// # Errors

@@ -1,4 +1,4 @@
-//! What was written is read back.
+//! The round trip: a written value is read back.
 ghost use Rattle.asn1_model.specs.Meaning.{IsWellTagged, own_records};
 ghost use Rattle.asn1_model.specs.Records.{highest};
 ghost use Rattle.asn1_rules.specs.RoundTrips.{FailsAs, WritesFirst};
@@ -9,13 +9,13 @@ use asn1_dec::{Decode, DecodeError};
 use asn1_enc::{Encode, EncodeError};
 use thiserror::Error;
 
-/// Which of the two failed.
+/// Writing or reading failed.
 #[derive(Clone, Copy, Debug, Drop, PartialEq, Eq, Error)]
 pub enum RoundTripError {
     /// The value was not written.
     #[error("not written: {0}")]
     Writing(EncodeError),
-    /// What was written was not read.
+    /// The written value was not read.
     #[error("not read back: {0}")]
     Reading(DecodeError),
 }

@@ -1,10 +1,10 @@
-//! Where the bytes of an iterator are.
+//! The source of the bytes of an iterator.
 ghost use Rattle.std.specs.Prelude.{◌≡◌, ◌≤◌, ◌++◌, drop, length, IfSome, OnErr, OnOk, Some};
 
 use crate::buffer::Buffer;
 use std::alloc::{AllocError, Global};
 
-/// Where the bytes are that have not been read.
+/// The bytes that have not been read, borrowed or owned.
 #[derive(Drop)]
 pub enum Source<'input> {
     /// They are the caller's.
@@ -28,7 +28,7 @@ impl<'input> Source<'input> {
         }
     }
 
-    /// Puts a piece behind the bytes, in a buffer, into which borrowed bytes are copied first.
+    /// Appends a piece to the bytes, in a buffer, into which borrowed bytes are copied first.
     ///
     /// # Errors
     /// [`AllocError`], if memory runs out; then nothing has changed.

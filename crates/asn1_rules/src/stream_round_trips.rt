@@ -1,4 +1,4 @@
-//! What was written as a list is read back from pieces.
+//! The round trip of streams: values written as a list are read back from pieces.
 ghost use Rattle.asn1_rules.specs.Fronts.{BelongsTo, IsSteady};
 ghost use Rattle.asn1_rules.specs.Pieces.{joined};
 ghost use Rattle.asn1_rules.specs.Outputs.{OutputsAreFronts};
@@ -61,7 +61,7 @@ pub fn outputs_are_fronts<T: Encode + Eq, R: Rules<Output = Vec<u8>>, F: FrontRe
 {}
 
 /// Cuts bytes into pieces of these lengths, in order, as far as there are bytes, and a last piece
-/// of what is left.
+/// of the rest.
 fn cut<'bytes>(
     alloc: Global,
     bytes: &'bytes [u8],

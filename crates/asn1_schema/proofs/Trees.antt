@@ -1,2 +1,2 @@
--- What the tables of a CHOICE, and of a type with a group, need of trees of tags: for the line `tactic` atop a crate of types.
+-- The equations of trees of tags, for the line `tactic` at the head of a crate that has a CHOICE or a type with a group.
 pub use Rattle.asn1_tags.proofs.Leaves.{tree_shapes}

@@ -1,4 +1,4 @@
-//! Laws of what no other contract names: which kind of string each name is.
+//! Laws of names: the kind of string that each name is.
 ghost use Rattle.asn1_model.specs.Tags.{universal};
 ghost use Rattle.std.specs.Prelude.{◌≡◌};
 
@@ -9,7 +9,7 @@ use crate::{
 };
 use asn1_types::AsnType;
 
-/// A law of the names that are handed on: each kind of string has its tag (X.680, 8.4, table 1).
+/// A law of the re-exported names: each kind of string has its tag (X.680, 8.4, table 1).
 pub fn names_are_those_of_their_kinds()
     ensures bits { ⟦<BitString as AsnType>⟧.meaning.tag ≡ universal 3 }
     ensures octets { ⟦<OctetString as AsnType>⟧.meaning.tag ≡ universal 4 }

@@ -6,14 +6,15 @@
 //! | [`FrontReader`], [`Iter`], [`write_list`], [`read_pieces`] | values one after another: of `asn1_rules` |
 //! | [`Encode`], [`Decode`], [`DecodeByIndex`] and the rest | how a type is written and read: of the crates below |
 //! | [`UniversalString`], [`UtcTime`], [`GeneralizedTime`], [`ObjectDescriptor`] | the kinds of string that are another kind under a tag |
-//! | [`laws`] | which kind of string each name is |
+//! | [`laws`] | the kind of string that each name is |
 //!
-//! It is the one crate that an author of types names in crates.txt; a clause that has the meaning of a CHOICE in it by its type
-//! wants `asn1_tags` there too. Each public name of the crates below is re-exported, but for the macros `tag!` of `asn1_tags` and
-//! `item!` of `asn1_components`. The crates are here under the names of their subjects too (`types`, `strings`, `codec` and so
-//! on), in code, and so are their definitions and their lemmas: `specs/Lib.antt` and `proofs/Lib.antt` pass them on. The words with
-//! which an author says what a type means are `Rattle.asn1_schema.specs.Words`. `asn1_user_types` has types of each kind that name
-//! this crate alone.
+//! An author of types names this crate alone in crates.txt; a clause with the meaning of a CHOICE, by its type, needs `asn1_tags`
+//! too. The crate re-exports each public name of the crates below, but the macros `tag!` of `asn1_tags` and `item!` of
+//! `asn1_components`. It also re-exports each crate under one name: `values`, `tags`, `ranges`, `bounds`, `model`, `fields`,
+//! `components`, `types`, `codec_laws`, `enc`, `dec`, `slots`, `open_values` and `rules`. The definitions have the same names in
+//! `specs/Lib.antt`, and the lemmas have theirs in `proofs/Lib.antt`, as `slot_lemmas`. `laws` has the laws of this crate itself.
+//! `Rattle.asn1_schema.specs.Words` has the words for the meaning of a type. `asn1_user_types` has types of each kind that name this
+//! crate alone.
 #![tactic(auto)]
 
 pub mod laws;

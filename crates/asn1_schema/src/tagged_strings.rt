@@ -12,10 +12,10 @@ use asn1_values::{GraphicString, Utf8String, VisibleString};
 /// UTF8String, as in rasn.
 pub type UniversalString = Implicit<tag::UNIVERSAL_STRING, Utf8String>;
 
-/// A UTCTime (X.680, 47): a VisibleString under the tag Universal 23. That its text is a time is the caller's to see.
+/// A UTCTime (X.680, 47): a VisibleString under the tag Universal 23. The caller checks that its text is a time.
 pub type UtcTime = Implicit<tag::UTC_TIME, VisibleString>;
 
-/// A GeneralizedTime (X.680, 46): a VisibleString under the tag Universal 24. That its text is a time is the caller's to see.
+/// A GeneralizedTime (X.680, 46): a VisibleString under the tag Universal 24. The caller checks that its text is a time.
 pub type GeneralizedTime = Implicit<tag::GENERALIZED_TIME, VisibleString>;
 
 /// An ObjectDescriptor (X.680, 48): a GraphicString under the tag Universal 7.

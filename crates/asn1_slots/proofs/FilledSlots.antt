@@ -1,4 +1,4 @@
--- What `filled` says of slots: which is the first that is empty, and what is in those that are not.
+-- The answers of `filled`: the first empty slot, and the values of the others.
 use Rattle.std.proofs.Common.{◌≡◌, ℕ, Bool, true, List, ◌&&◌, subst, sym}
 use Rattle.std.specs.Prelude.{if◌then◌else◌, is_some, IfSome, MatchOption, None, Option, Some, Result, Ok, Err}
 use Rattle.std.specs.Option.{option_eq}

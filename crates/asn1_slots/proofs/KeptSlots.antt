@@ -1,4 +1,4 @@
--- Where no slot changes, each is kept.
+-- Each slot is kept if none changes.
 use Rattle.std.proofs.Common.{ℕ, List, [], ◌∷◌, zero, suc}
 use Rattle.asn1_slots.specs.Slots.{AllAreKept, OthersAreKept, Slot}
 

@@ -85,7 +85,7 @@ module _ {D S V : Type 0} (R : Reader D) (cs : List (ComponentType V)) (ds : Lis
         none_left (d ∷ ds) zero past part = absurd (omega (arith, past))
         none_left (d ∷ ds) (suc k) past part = none_left ds k (omega (arith, past)) part
 
--- Of the slots that were read a value is made.
+-- A value is made of the slots that were read.
 pub made : {D S V : Type 0} (R : Reader D) (ds : List (Slot S V)) (eq : V → V → Bool) (v : V) (old new : D) (height : ℕ) (after : Remaining) (s : S) (result : Result V DecodeError) →
     HasAdvanced R old new height after (HoldBefore ds (length ds) s v) → MakesValueOfSlots ds eq s result →
     MatchResult result (λ w. HasAdvanced R old new height after (eq w v ≡ true)) (MayFail (R.depth_left old) height)

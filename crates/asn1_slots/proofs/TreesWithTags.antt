@@ -69,9 +69,6 @@ within (x ∷ trees) (suc index) t at = omega (arith, within trees index t at)
 abbrev pub NoneBefore : List TagTree → ℕ → Tag → Type 0
 NoneBefore trees index t = (k : ℕ) → k < index → BeginsAt (shapes trees) k t → ⊥
 
-pub none_at_first : (trees : List TagTree) (t : Tag) → NoneBefore trees 0 t
-none_at_first trees t k low at = absurd (omega (arith, low))
-
 -- nor has the one at this index
 pub nor_this : (trees : List TagTree) (index : ℕ) (x : TagTree) (one : List TagTree) (t : Tag) → NoneBefore trees index t →
     x ≡ get_or trees index x → one ≡ x ∷ [] → ¬ Contains (leaves_of (shapes one)) t → NoneBefore trees (index + 1) t
@@ -191,7 +188,7 @@ not_found trees tags t all missing k at =
     let wrong = missing ∙ position_of-some t tags has in
     cc
 
--- what is said where the alternatives are those of the cases
+-- the facts if the alternatives are those of the cases
 pub where_they_are : {V : Type 0} (P : Type 0) (alternatives : Alternatives) (cases : List (Case V)) →
     (trees_of (all_of alternatives) ≡ trees_of (alternatives_of cases) → P) → When (are_of_cases alternatives cases) P
 where_they_are P alternatives cases holds =

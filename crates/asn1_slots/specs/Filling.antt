@@ -1,4 +1,4 @@
--- What a call does that reads a component into its slot.
+-- Calls that read a component into its slot.
 use Rattle.std.specs.Prelude.{◌≡◌, ℕ, Bool, true, false, List, Option, None, Some, IfSome, IsSome, Result}
 use Rattle.std.specs.Option.{option_eq, option_map}
 use Rattle.std.specs.Result.{IsErrAnd}
@@ -43,8 +43,8 @@ module _ {D W A : Type 0} (R : Reader D) where
       (slot : Option W) (result : Result A DecodeError) : Type 0 where
     pub reads : ReadsOptionalComponent side type (λ v _. option_eq eq slot v ≡ true) old new result
 
-  -- A call that reads a component of a SET, of this name, into this slot. Where the slot was empty
-  -- it reads as one that is always there; where it was not, the component has come before, and is
+  -- A call that reads a component of a SET, of this name, into this slot. It reads into an empty slot
+  -- as a call for a required component; a full slot means that the component came before, and is
   -- refused.
   pub record FillsOnce (name : List ℕ) (type : TaggedType W) (eq : W → W → Bool)
       (old new : D) (before after : Option W) (result : Result A DecodeError) : Type 0 where

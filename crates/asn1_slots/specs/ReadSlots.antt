@@ -1,4 +1,4 @@
--- What a call does that reads the components of a SEQUENCE or a group into their slots.
+-- Calls that read the components of a SEQUENCE or a group into their slots.
 use Rattle.std.specs.Prelude.{◌++◌, List, MatchResult, Result, length}
 use Rattle.asn1_laws.specs.Reading.{HasAdvanced, MayFail, Outside, Reader}
 use Rattle.asn1_components.specs.ComponentLists.{CanBeInSequence, EachIsOfType, EachIsValid}
@@ -9,8 +9,8 @@ use Rattle.asn1_slots.specs.Slots.{HoldBefore, Slot}
 use Rattle.asn1_slots.specs.declared.by_index.NotRead.{NotRead}
 
 -- A call that reads the components of a SEQUENCE or a group into these slots: of each value that is
--- of the type and valid, each slot holds what the value has. What follows the components begins with
--- no tag of those after the last that is always there. The error of a component is one that a call
+-- of the type and valid, each slot holds what the value has. The records after them begin with no
+-- tag of those after the last required component. The error of a component is one that a call
 -- may answer there.
 abbrev pub ReadsSlots : {D S V : Type 0} → Reader D → Components V → List (Slot S V) → D → D →
     Result S NotRead → Type 0

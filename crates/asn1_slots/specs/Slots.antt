@@ -45,7 +45,7 @@ pub record Slot (S V : Type 0) : Type 1 where
       Reads R old new s result → ReadsInto R component (holds s) old new result
   -- what a call promises that reads it in a SET, by the slots before and after
   pub ReadsOnce : {D A : Type 0} → Reader D → D → D → S → S → Result A DecodeError → Type 0
-  -- Where it is no group, it is one record in a SET, or absent.
+  -- A component that is no group is one record in a SET, or absent.
   pub is_one : is_single ≡ true → component.IsWellTagged → (v : V) →
       records_in (component.records v) ≤ 1
   -- what is there is read into an empty slot, without its presence mark
@@ -302,7 +302,7 @@ module _ {S V : Type 0} where
   first_missing [] s = None
   first_missing (h ∷ hs) s = if h.is_filled s then first_missing hs s else Some h.component.name
 
-  -- Where a component is missing, the error says which is the first.
+  -- The error names the first missing component.
   abbrev pub RefusesMissing : {A : Type 0} → List (Slot S V) → S → Result A DecodeError → Type 0
   RefusesMissing slots s result =
       IfSome (first_missing slots s) (λ name. IsErrAnd result (λ e. reason e ≡ missing_field name))

@@ -1,4 +1,4 @@
-//! Types that are read by index.
+//! SEQUENCE types and groups that are read by index.
 ghost use Rattle.asn1_laws.specs.DecodeErrors.{lacks_name, reason};
 ghost use Rattle.asn1_laws.specs.Reading.{KeepsDepth, NeedsDepth, ReadsValue};
 ghost use Rattle.asn1_laws.specs.ReadingTypes.{ReadsComponents, ReadsFields};
@@ -25,8 +25,8 @@ pub trait DecodeByIndex: Eq + Sized + Drop {
     // The components, each with its slot, in the order of the definition.
     ghost layout: { List (Slot Self.Slots Self) };
 
-    /// The value of these slots. Where a component is missing that is always there, the error is
-    /// [`DecodeError::MissingField`], with the name of the first. Of the slots of a value it fails only if memory runs out.
+    /// The value of these slots. The error is [`DecodeError::MissingField`] with the name of the first missing component, if a
+    /// required one is missing. It makes the slots of a value a value unless memory runs out.
     fn from_slots(alloc: Global, slots: Self::Slots) -> Result<Self, DecodeError>
         ensures made { MakesValueOfSlots layout Self.eq slots result }
         ensures missing { RefusesMissing layout slots result };
@@ -128,16 +128,16 @@ fn read_sequence<S: DecodeByIndex + FieldTable, D: Decoder>(
     Ok(value)
 }
 
-/// Reads a SEQUENCE, by its components, one after another, and answers an error of a component with its name. Where the layout is
-/// that of the type's components it reads these under the tag (`components`), and of a type that is a SEQUENCE a value of the
-/// type, under whatever constraints (`as_meant`). Where no depth is left the error is [`DecodeError::Depth`], before anything but
-/// that the decoder has failed (`depth_first`). An error makes the decoder failed, one that had failed answers so, and a success
-/// keeps the depth left (`keeps_depth`). A type whose errors are to be as they are has `decode_fields` of [`asn1_dec::DecodeFields`]
-/// in its place, which calls [`decode_fields_by_index`], and is read by [`Decoder::decode_sequence`].
+/// Reads a SEQUENCE, by its components, one after another, and answers an error of a component with its name. A layout of the
+/// type's components reads these under the tag (`components`), and a value of a SEQUENCE type under whatever constraints
+/// (`as_meant`). The error is [`DecodeError::Depth`] if no depth is left, before anything but `Failed` (`depth_first`). An error
+/// makes the decoder failed, a failed decoder answers [`DecodeError::Failed`], and a success keeps the depth left (`keeps_depth`).
+/// A type whose errors stay as they are implements `decode_fields` of [`asn1_dec::DecodeFields`] by [`decode_fields_by_index`],
+/// and is read by [`Decoder::decode_sequence`].
 ///
-/// Which name an error has is said of the calls that it rests on: an error of a component is answered with the component's name,
-/// so that one without a name is an error of [`DecodeByIndex::from_slots`] (`named` of [`decode_fields_naming_errors`]); and of
-/// missing components the first is named (`missing` of [`DecodeByIndex::from_slots`]).
+/// The contracts of the calls below promise the names: an error of a component has the component's name, so an error without a
+/// name comes from [`DecodeByIndex::from_slots`] (`named` of [`decode_fields_naming_errors`]), which names the first missing
+/// component (`missing`).
 #[inline(always)]
 pub fn decode_sequence_naming_errors<S: DecodeByIndex + ConstructedType, D: Decoder>(
     decoder: &mut D,

@@ -10,7 +10,7 @@ use crate::tagging::Tagging;
 use asn1_dec::{Decode, DecodeFields, Decoder};
 use asn1_laws::DecodeError;
 
-/// What a call answers that reads a component into its slot.
+/// The answer of a call that reads a component into its slot.
 pub type Decoded = Result<(), DecodeError>;
 
 /// Reads a component that is always there.
@@ -72,7 +72,7 @@ pub fn group<C: DecodeFields, D: Decoder>(slot: &mut Option<C>, decoder: &mut D)
     Ok(())
 }
 
-/// Reads a component of a SET. Where it was read before, the error is [`DecodeError::DuplicateField`], with the name; an error of
+/// Reads a component of a SET. If it was read before, the error is [`DecodeError::DuplicateField`] with the name; an error of
 /// the component is answered with its name ([`DecodeError::in_field`]).
 #[inline(always)]
 pub fn decode_unique<T: Decode, D: Decoder>(

@@ -22,7 +22,7 @@ pub trait DecodeChoiceByIndex: Eq + Sized + Drop {
     // The cases, in the order of the definition: the alternatives, and how a value is made of each.
     ghost cases: { List (Case Self) };
 
-    // Which of them a value is.
+    // The case of a value.
     ghost case_of: { Self → OneOf (alternatives_of cases) };
 
     /// Reads the alternative at an index, and makes the value of it. After the last alternative there is none, and it answers
@@ -88,7 +88,7 @@ pub fn from_tag_by_index<T: DecodeChoiceByIndex + ChoiceType, D: Decoder>(
 
 /// The same, where the alternative is looked for in a table of all leaves of the alternatives, as
 /// [`asn1_tags::Variants::with_table`] takes it: at most as many tags are compared as the number of leaves has binary digits. A
-/// table that does not fit is left aside. Where there is no memory for the table, the error is [`DecodeError::Memory`].
+/// table that does not fit is not used. The error is [`DecodeError::Memory`] if memory runs out for the table.
 pub fn from_tag_by_table<T: DecodeChoiceByIndex + ChoiceType, D: Decoder>(
     decoder: &mut D,
     tag: Tag,

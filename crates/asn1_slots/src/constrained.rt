@@ -68,8 +68,8 @@ pub fn addition_with_constraints<T: Decode, D: Decoder>(
     Ok(())
 }
 
-/// The same of a component of a SET, which is always there, may be absent or has a default. Where it was read before, the error is
-/// [`DecodeError::DuplicateField`], with the name; an error of the component is answered with its name.
+/// The same of a component of a SET, which is always there, may be absent or has a default. If it was read before, the error is
+/// [`DecodeError::DuplicateField`] with the name; an error of the component is answered with its name.
 #[inline(always)]
 pub fn decode_unique_with_constraints<T: Decode, D: Decoder>(
     slot: &mut Option<T>,

@@ -27,8 +27,8 @@ pub trait DecodeSetByIndex: Eq + Sized + Drop {
         ensures made { MakesValueOfSlots layout Self.eq slots result }
         ensures missing { RefusesMissing layout slots result };
 
-    /// Reads the component at an index of the definition into its slot, and leaves the other slots. Where it was read before, the
-    /// error is [`DecodeError::DuplicateField`], with its name.
+    /// Reads the component at an index of the definition into its slot, and leaves the other slots. If it was read before, the
+    /// error is [`DecodeError::DuplicateField`] with its name.
     fn decode_field<D: Decoder>(index: usize, slots: &mut Self::Slots, decoder: &mut D) -> Decoded
         ensures read { ReadsOnceAt D.reader layout index decoder.old decoder.new slots.old slots.new
             result }
@@ -94,8 +94,8 @@ fn read_rest<S: DecodeSetByIndex + FieldTable, D: Decoder>(
     decoder.close()
 }
 
-/// The error of a component that was not read. Where it came before, the rest of the SET is read first, so that an error in the rest
-/// is the answer: also that bytes are left which no component takes, as where a component of no bytes came again.
+/// The error of a component that was not read. If the component came before, the rest of the SET is read first, and an error of the
+/// rest is the answer. So a component of no bytes that comes again and again is refused for the bytes that are left.
 #[cold]
 #[inline(never)]
 fn refuse_component<S: DecodeSetByIndex + FieldTable, D: Decoder>(
@@ -138,15 +138,15 @@ fn read_components<S: DecodeSetByIndex + FieldTable, D: Decoder>(
     Ok(value)
 }
 
-/// Reads a SET, by its components, in whatever order they come. Where the layout is that of the type's components it reads these
-/// under the tag (`components`), and of a type that is a SET a value of the type, under whatever constraints (`as_meant`). Where no
-/// depth is left the error is [`DecodeError::Depth`], before anything but that the decoder has failed (`depth_first`). An error
-/// makes the decoder failed, one that had failed answers so, and a success keeps the depth left (`keeps_depth`).
+/// Reads a SET, by its components, in whatever order they come. A layout of the type's components reads these under the tag
+/// (`components`), and a value of a SET type under whatever constraints (`as_meant`). The error is [`DecodeError::Depth`] if no
+/// depth is left, before anything but `Failed` (`depth_first`). An error makes the decoder failed, a failed decoder answers
+/// [`DecodeError::Failed`], and a success keeps the depth left (`keeps_depth`).
 ///
-/// Which name an error has is said of the calls that it rests on: a component that comes twice is refused by its name (`twice` of
-/// `FillsOnce`, which is `read` of [`crate::decode_unique`]), an error of a component is answered with a name (`named` of [`crate::decode_unique`]),
-/// and of missing components the first is named (`missing` of [`DecodeSetByIndex::from_slots`]). A record whose tag no component
-/// has is refused with [`DecodeError::UnknownField`], by its index among the records; no clause says so.
+/// The contracts of the calls below promise the names: a component that comes twice is refused by its name (`twice` of `FillsOnce`,
+/// which is `read` of [`crate::decode_unique`]), an error of a component has a name (`named` of [`crate::decode_unique`]), and the
+/// first missing component is named (`missing` of [`DecodeSetByIndex::from_slots`]). A record whose tag no component has is refused
+/// with [`DecodeError::UnknownField`] and its index among the records; no contract covers this.
 #[inline(always)]
 pub fn decode_set_by_index<S: DecodeSetByIndex + ConstructedType, D: Decoder>(
     decoder: &mut D,

@@ -1,4 +1,4 @@
-//! What is in a slot.
+//! The values of slots.
 ghost use Rattle.asn1_slots.specs.Slots.{holds_or_default, holds_or_passes, is_empty_list};
 ghost use Rattle.asn1_laws.specs.DecodeErrors.{missing_field, reason};
 ghost use Rattle.std.specs.Prelude.{◌≡◌, MatchOption, Ok, Vec, true};
@@ -7,7 +7,7 @@ ghost use Rattle.std.specs.Result.{IsErrAnd};
 use asn1_laws::DecodeError;
 use std::alloc::Global;
 
-/// The component that is in a slot. Where there is none, the error is [`DecodeError::MissingField`], with the name.
+/// The component in a slot. The error of an empty slot is [`DecodeError::MissingField`] with the name.
 #[inline(always)]
 pub fn filled<T: Drop>(slot: Option<T>, name: &'static str) -> Result<T, DecodeError>
     ensures { MatchOption slot (IsErrAnd result (λ error. reason error ≡ missing_field name.now))

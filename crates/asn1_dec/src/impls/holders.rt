@@ -16,7 +16,7 @@ use std::borrow::Cow;
 use std::marker::PhantomData;
 
 impl<T: Decode> Decode for Box<T> {
-    // What its content refuses.
+    // The refusals of its content.
     ghost refusals = { T.refusals };
 
     #[inline(always)]
@@ -32,7 +32,7 @@ impl<T: Decode> Decode for Box<T> {
 }
 
 impl<T: Decode> Decode for Cow<'_, T> {
-    // What its content refuses.
+    // The refusals of its content.
     ghost refusals = { T.refusals };
 
     #[inline(always)]

@@ -8,7 +8,7 @@ use asn1_tags::Tag;
 use asn1_types::{Any, Explicit, Implicit};
 
 impl<T: AsnType, V: Decode> Decode for Implicit<T, V> {
-    // What its content refuses.
+    // The refusals of its content.
     ghost refusals = { V.refusals };
 
     #[inline(always)]
