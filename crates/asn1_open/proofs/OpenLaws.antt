@@ -50,8 +50,8 @@ numbered (ObjectIdentifier arcs) tag has = subst (λ t. HasNumber t.value (Objec
 numbered (OctetString string) tag has = subst (λ t. HasNumber t.value (OctetString string)) (sym (its_tag has)) (string, refl)
 numbered (UniversalString string) tag has = subst (λ t. HasNumber t.value (UniversalString string)) (sym (its_tag has)) (string, refl)
 numbered (VisibleString string) tag has = subst (λ t. HasNumber t.value (VisibleString string)) (sym (its_tag has)) (string, refl)
-numbered (InstanceOf' place type_id value) tag has = subst (λ t. HasNumber t.value (InstanceOf' place type_id value)) (sym (its_tag has))
-    (record { ptr = place.ptr; alloc = place.alloc; value = record { type_id = type_id; value = value } }, refl)
+numbered (InstanceOf' cell type_id value) tag has = subst (λ t. HasNumber t.value (InstanceOf' cell type_id value)) (sym (its_tag has))
+    (record { ptr = cell.ptr; alloc = cell.alloc; value = record { type_id = type_id; value = value } }, refl)
 
 -- so it is by the number of a tag
 pub of_number : (n : ℕ) (tag : Tag) → tag.value ≡ n → (v : Open) → Has (tree_tags (chosen (all_of open_alternatives) (open_pick v)).type.tree) tag → HasNumber n v

@@ -17,7 +17,7 @@ each_open_valid (ObjectIdentifier arcs) accepts = tt
 each_open_valid (OctetString string) accepts = tt
 each_open_valid (UniversalString string) accepts = tt
 each_open_valid (VisibleString string) accepts = tt
-each_open_valid (InstanceOf' place type_id value) accepts = (tt, (each_open_valid value accepts, tt))
+each_open_valid (InstanceOf' cell type_id value) accepts = (tt, (each_open_valid value accepts, tt))
 
 -- an INSTANCE OF, as the alternative that it is
 pub instance_height : (v : Open) (instance : Box (Instance Open) Global) → v ≡ InstanceOf instance →
@@ -34,4 +34,4 @@ flat_height (ObjectIdentifier arcs) other = refl
 flat_height (OctetString string) other = refl
 flat_height (UniversalString string) other = refl
 flat_height (VisibleString string) other = refl
-flat_height (InstanceOf' place type_id value) other = absurd (other (record { ptr = place.ptr; alloc = place.alloc; value = record { type_id = type_id; value = value } }) refl)
+flat_height (InstanceOf' cell type_id value) other = absurd (other (record { ptr = cell.ptr; alloc = cell.alloc; value = record { type_id = type_id; value = value } }) refl)

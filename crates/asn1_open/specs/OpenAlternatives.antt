@@ -84,7 +84,7 @@ open_means (ObjectIdentifier arcs) = value_meaning (untagged object_identifier) 
 open_means (OctetString string) = value_meaning (untagged octet_string) string
 open_means (UniversalString string) = value_meaning (untagged universal_string) string
 open_means (VisibleString string) = value_meaning (untagged visible_string) string
-open_means (InstanceOf' place type_id value) = instance_says type_id (open_means value)
+open_means (InstanceOf' cell type_id value) = instance_says type_id (open_means value)
 
 abbrev pub open_alternatives : Alternatives
 open_alternatives = alternatives_with_itself (codes "Open") open_alternatives_with open_means
@@ -98,7 +98,7 @@ open_pick (ObjectIdentifier arcs) = inr (inr (inr (inr (inl arcs))))
 open_pick (OctetString string) = inr (inr (inr (inr (inr (inl string)))))
 open_pick (UniversalString string) = inr (inr (inr (inr (inr (inr (inl string))))))
 open_pick (VisibleString string) = inr (inr (inr (inr (inr (inr (inr (inl string)))))))
-open_pick (InstanceOf' place type_id value) = inr (inr (inr (inr (inr (inr (inr (inr (inl (record { type_id = type_id; value = value })))))))))
+open_pick (InstanceOf' cell type_id value) = inr (inr (inr (inr (inr (inr (inr (inr (inl (record { type_id = type_id; value = value })))))))))
 
 pub open_agrees : (v : Open) → MeansTheSame (open_means v) (chosen_meaning (all_of open_alternatives) (open_pick v))
 open_agrees (BitString string) = means_itself
@@ -109,7 +109,7 @@ open_agrees (ObjectIdentifier arcs) = means_itself
 open_agrees (OctetString string) = means_itself
 open_agrees (UniversalString string) = means_itself
 open_agrees (VisibleString string) = means_itself
-open_agrees (InstanceOf' place type_id value) = record { records = refl; of_type = (λ h. h, λ h. h); valid = λ _. (λ h. h, λ h. h) }
+open_agrees (InstanceOf' cell type_id value) = record { records = refl; of_type = (λ h. h, λ h. h); valid = λ _. (λ h. h, λ h. h) }
 
 -- The meaning of an `Open`.
 abbrev pub open_meaning : Meaning Open

@@ -34,8 +34,8 @@ pub fn alternatives_have_their_tags()
         universal 26 ∷ universal 8 ∷ [] }
 {}
 
-/// A law of the places: they are from 0 to 8, and there is no extension marker.
-pub fn places_are_from_0_to_8()
+/// A law of the indices: they are from 0 to 8, and there is no extension marker.
+pub fn indices_are_from_0_to_8()
     ensures { variance_of ⟦<Open as Choice>⟧.alternatives ≡
         values_of (Range (Some (pos 0)) (Some (pos 8))) }
 {}

@@ -21,7 +21,7 @@
 //! | Item | What it is |
 //! |---|---|
 //! | [`Open`] | the CHOICE |
-//! | [`laws`] | the names, the tags and the places of its alternatives, and when two values are equal |
+//! | [`laws`] | the names, the tags and the indices of its alternatives, and when two values are equal |
 //!
 //! The contracts promise the following, in these words:
 //!

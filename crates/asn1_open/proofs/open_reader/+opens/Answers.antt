@@ -143,7 +143,7 @@ read_alternative-returns-clause-read g t c =
       | OctetString string ↦ search rules
       | UniversalString string ↦ search rules
       | VisibleString string ↦ search rules
-      | InstanceOf' place type_id value ↦ search rules
+      | InstanceOf' cell type_id value ↦ search rules
     ]
 
 pub read_instance-returns-in_err-open_sequence-clause-read : goal.read_instance-returns-in_err-open_sequence-clause-read
