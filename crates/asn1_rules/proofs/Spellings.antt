@@ -1,14 +1,20 @@
 -- A value with one spelling, read and written again.
-use Rattle.std.proofs.Common.{◌≡◌, ◌⊎◌, ◌<◌, ◌≤◌, ℕ, Bool, true, List, inl, inr, refl, arith}
+use Rattle.std.proofs.Common.{◌≡◌, ◌⊎◌, ◌<◌, ◌≤◌, ℕ, Bool, true, List, inl, inr, refl, sym, ◌∙◌, arith}
 use Rattle.std.specs.Prelude.{Vec}
 use Rattle.std.specs.declared.alloc.Global.{Global}
 use Rattle.asn1_laws.specs.declared.encode_error.EncodeError.{EncodeError}
 use Rattle.asn1_laws.specs.declared.encode_error.EncodeError.TheVariants.{Memory, Depth, Failed, Custom}
-use Rattle.asn1_model.proofs.SameUpToOrder.{same-highest}
+use Rattle.asn1_model.proofs.RecordLists.{inner_height-held}
+use Rattle.asn1_model.proofs.SameRecords.{same-inner_height}
 use Rattle.asn1_model.specs.Meaning.{Meaning, own_records}
-use Rattle.asn1_model.specs.Records.{highest}
+use Rattle.asn1_model.specs.Orders.{SameRecords}
+use Rattle.asn1_model.specs.Records.{Record, highest}
 use Rattle.asn1_rules.specs.CanonicalReading.{HasOneSpelling}
 use Rattle.asn1_rules.specs.Rules.{Format, IsLawful, IsNotWritten, IsWritten}
+
+-- records that are the same up to order are nested as deep
+same-highest : (rs ss : List Record) → SameRecords rs ss → highest rs ≡ highest ss
+same-highest rs ss same = sym (inner_height-held rs) ∙ (same-inner_height same ∙ inner_height-held ss)
 
 module _ {V : Type 0} (F : Format (Vec ℕ Global)) (lawful : IsLawful F) (m : Meaning V) (eq : V → V → Bool) (v : V) (bytes : List ℕ) where
   -- an equal value is written as that spelling
