@@ -31,6 +31,9 @@ pub trait TypeCase {
 
 type OneToTen = ConstrainedInteger<1, 10>;
 
+/// `[0] IMPLICIT T`
+type Tagged<T> = Implicit<ContextTag<0>, T>;
+
 /// `[APPLICATION 3] IMPLICIT VisibleString`
 type Type2 = Implicit<ApplicationTag<3>, VisibleString>;
 
@@ -115,6 +118,21 @@ fn wrapper<C: TypeCase>(case: &C, name: &str) -> Option<C::Answer> {
         "[201]String" => Some(case.try_type::<Explicit<ApplicationTag<201>, String>>()),
         "[31]()" => Some(case.try_type::<Implicit<PrivateTag<31>, ()>>()),
         "[28]String" => Some(case.try_type::<Implicit<tag::UNIVERSAL_STRING, String>>()),
+        _ => tagged(case, name),
+    }
+}
+
+/// A type of each kind under the tag of a component.
+fn tagged<C: TypeCase>(case: &C, name: &str) -> Option<C::Answer> {
+    match name {
+        "[0]Integer" => Some(case.try_type::<Tagged<Integer>>()),
+        "[0]ObjectIdentifier" => Some(case.try_type::<Tagged<ObjectIdentifier>>()),
+        "[0]BitString" => Some(case.try_type::<Tagged<BitString>>()),
+        "[0]TeletexString" => Some(case.try_type::<Tagged<TeletexString>>()),
+        "[0]BmpString" => Some(case.try_type::<Tagged<BmpString>>()),
+        "[0]Vec<u8>" => Some(case.try_type::<Tagged<Vec<u8>>>()),
+        "[0]SetOf<u8>" => Some(case.try_type::<Tagged<SetOf<u8>>>()),
+        "[0]InstanceOf<u8>" => Some(case.try_type::<Tagged<InstanceOf<u8>>>()),
         _ => type_of_x690(case, name),
     }
 }

@@ -22,6 +22,16 @@ fn append_null(rt: &impl Abort, buffer: &mut DerBuffer, tag: Tag) {
         .expect(rt, "memory");
 }
 
+// openssl asn1parse -genstr ENUM:-129
+#[test]
+fn a_negative_item_is_that_of_openssl(rt: HostRuntime) {
+    let mut buffer = DerBuffer::new(rt.alloc());
+    buffer
+        .append_scalar(Tag::ENUMERATED, Content::Discriminant(-129))
+        .expect(&rt, "memory");
+    assert_bytes(&rt, &buffer.finish(), &[0x0a, 2, 0xff, 0x7f]);
+}
+
 /// Asserts that the bytes of the buffer are these, after the end of a scope.
 fn assert_ended(rt: &impl Abort, mut buffer: DerBuffer, bytes: &[u8]) {
     buffer.end_scope().expect(rt, "a scope");

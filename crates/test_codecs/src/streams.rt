@@ -11,10 +11,10 @@ use std::alloc::Global;
 use std::process::Abort;
 use test_calls::made::text;
 
-fn person(rt: &impl Abort, alloc: Global) -> Person {
+fn person(rt: &impl Abort, alloc: Global, age: u8, name: &str) -> Person {
     Person {
-        age: Integer::from(30u8),
-        name: text(alloc, "Ann").expect(rt, "memory"),
+        age: Integer::from(age),
+        name: text(alloc, name).expect(rt, "memory"),
     }
 }
 
@@ -72,12 +72,12 @@ fn assert_comes_twice<T: Decode, F: FrontReader<T> + Drop>(
 #[test]
 fn a_value_comes_with_its_last_byte(rt: HostRuntime) {
     let alloc = rt.alloc();
-    let ann = person(&rt, alloc);
+    let ann = person(&rt, alloc, 30, "Ann");
     assert_comes_twice(&rt, alloc, BenchReader::new(alloc, 1), PERSON, &ann);
     assert_comes_twice(&rt, alloc, DerReader::new(alloc, 1), PERSON_IN_DER, &ann);
 }
 
-/// Asserts that two persons, one of them with an empty name, come back out of two pieces.
+/// Asserts that these persons come back out of pieces of 20 bytes, of 9, and of the others.
 fn assert_round_trip<R: Rules<Output = Vec<u8>>, F: FrontReader<Person> + Drop>(
     rt: &impl Abort,
     alloc: Global,
@@ -85,14 +85,29 @@ fn assert_round_trip<R: Rules<Output = Vec<u8>>, F: FrontReader<Person> + Drop>(
     reader: F,
     persons: &[Person],
 ) {
-    let read = round_trip_in_pieces(alloc, rules, reader, persons, 1, &[20]).expect(rt, "memory");
+    let read = round_trip_in_pieces(alloc, rules, reader, persons, 1, &[20, 9]).expect(
+        rt, "memory",
+    );
     assert!(rt; read.values.as_slice() == persons && read.last.is_none());
+}
+
+fn push(rt: &impl Abort, alloc: Global, persons: &mut Vec<Person>, age: u8, name: &str) {
+    let person = person(rt, alloc, age, name);
+    persons.push(person).expect(rt, "memory");
+}
+
+fn three_persons(rt: &impl Abort, alloc: Global) -> Vec<Person> {
+    let mut persons = Vec::new(alloc);
+    push(rt, alloc, &mut persons, 30, "Ann");
+    push(rt, alloc, &mut persons, 0, "");
+    push(rt, alloc, &mut persons, 255, "Zo\u{eb}");
+    persons
 }
 
 #[test]
 fn persons_make_the_round_trip_in_pieces(rt: HostRuntime) {
     let alloc = rt.alloc();
-    let persons = [person(&rt, alloc), person(&rt, alloc)];
+    let persons = three_persons(&rt, alloc);
     let packed = BenchRules::new(alloc);
     assert_round_trip(&rt, alloc, &packed, BenchReader::new(alloc, 1), &persons);
     assert_round_trip(

@@ -17,7 +17,7 @@
 //! | `encoder` | the number of elements that a codec gets beside the records |
 //! | `errors` | the texts of all errors |
 //! | `samples` | a type whose constraints take memory, and sets of values that are equal by a part |
-//! | `packed` | types that are written and not read, arrays of octets, and an entry point, in packed bytes |
+//! | `packed` | types that are written and not read, and an entry point, in packed bytes |
 //! | `streams` | what an `Iter` has unread, consumed and moved, and what comes out of pieces |
 //! | `clash` | the search for components without distinct tags, against that of `asn1_fields` |
 //!

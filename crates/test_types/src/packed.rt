@@ -1,4 +1,4 @@
-//! Bytes of types that are not read, of arrays of octets, and of the entry point with a tag and a name.
+//! Bytes of types that are not read, and of the entry point with a tag and a name.
 ghost use Rattle.std.specs.Prelude.{◌≡◌, [], ◌∷◌, Some, codes, pos};
 ghost use Rattle.asn1_laws.specs.GivenTypes.{with_tag};
 ghost use Rattle.asn1_model.specs.ConstraintSets.{values_of};
@@ -8,7 +8,6 @@ ghost use Rattle.asn1_ranges.specs.declared.bounded.Bounded.TheVariants.{Range};
 
 use asn1_bench::{BenchRules, ItemBuffer, PresenceMarks};
 use asn1_buffers::BufferEncoder;
-use asn1_dec::DecodeError;
 use asn1_enc::Encode;
 use asn1_rules::Rules;
 use asn1_tags::{Identifier, Tag};
@@ -48,42 +47,6 @@ fn types_that_are_not_read_are_written(rt: HostRuntime) {
         alloc,
         &borrowed,
         &[1, 0, 0, 0, 0, 2, 2, 0, 0, 0, 2, 0, 7],
-    );
-}
-
-/// Asserts what a list of these octets is read as, where an array of two is asked for.
-fn assert_pair(
-    rt: &impl Abort,
-    alloc: Global,
-    octets: &[u8],
-    expected: Result<[u8; 2], DecodeError>,
-) {
-    let rules = BenchRules::new(alloc);
-    let list = Vec::from_slice(alloc, octets).expect(rt, "memory");
-    let written = rules.write_value(&list, 1).expect(rt, "memory");
-    assert!(rt; rules.read_value::<[u8; 2]>(&written, 1) == expected);
-}
-
-#[test]
-fn a_list_is_read_as_an_array_of_its_length(rt: HostRuntime) {
-    assert_pair(&rt, rt.alloc(), &[7, 8], Ok([7, 8]));
-    assert_pair(
-        &rt,
-        rt.alloc(),
-        &[7, 8, 9],
-        Err(DecodeError::IncorrectItemNumber {
-            expected: 2,
-            actual: 3,
-        }),
-    );
-    assert_pair(
-        &rt,
-        rt.alloc(),
-        &[7],
-        Err(DecodeError::IncorrectItemNumber {
-            expected: 2,
-            actual: 1,
-        }),
     );
 }
 
