@@ -1,7 +1,8 @@
 -- A canonical reader is steady if the inner reader is, and belongs to the rules by which each value has one spelling.
-use Rattle.std.proofs.Common.{◌≡◌, ◌<◌, ◌⊎◌, inl, inr, ℕ, Bool, List, ◌++◌, subst, sym, arith}
+use Rattle.std.proofs.Common.{◌≡◌, ◌<◌, ◌⊎◌, inl, inr, ℕ, Bool, List, ◌++◌, subst, sym, arith, get_or, Fits, w8}
 use Rattle.std.proofs.Math.Seq.{take-length}
-use Rattle.std.proofs.lemmas.List.{take-append-le}
+use Rattle.std.proofs.Math.Facts.{Fits-lt-pow}
+use Rattle.std.proofs.lemmas.List.{get_or-take, get_or_default, length-take, take-append-le}
 use Rattle.std.specs.Prelude.{Vec, min, take}
 use Rattle.std.specs.declared.alloc.Global.{Global}
 use Rattle.asn1_laws.specs.Reading.{MayFail}
@@ -12,10 +13,17 @@ use Rattle.asn1_laws.specs.declared.encode_error.EncodeError.TheVariants as writ
 use Rattle.asn1_model.specs.Meaning.{Meaning, own_records}
 use Rattle.asn1_model.specs.Records.{highest}
 use Rattle.asn1_rules.specs.CanonicalFronts.{HasOneSpellingEach, IsCanonicalFront, canonical_fronts}
-use Rattle.asn1_rules.specs.CanonicalReading.{HasOneSpelling, IsSpelled}
+use Rattle.asn1_rules.specs.CanonicalReading.{AreOctets, HasOneSpelling, IsSpelled}
 use Rattle.asn1_rules.specs.Fronts.{BelongsTo, Fronts, IsLawful, IsSteady}
 use Rattle.asn1_rules.specs.Rules.{Format}
 use Rattle.asn1_rules.specs.declared.canonical_reader.CanonicalReader.{CanonicalReader}
+
+-- the first of some octets are octets
+pub first_octets : (bytes : List ℕ) (n : ℕ) → ((i : ℕ) → Fits w8 (get_or bytes i 0)) → AreOctets (take n bytes)
+first_octets bytes n fits = λ k d within.
+    let short = length-take n bytes in
+    let same = get_or-take n bytes k d (omega (arith, short, within)) in
+    rw same (rw (get_or_default bytes k d 0 (omega (arith, short, within))) (Fits-lt-pow (fits k)))
 
 -- writing that fails for memory or depth is a reading that may fail
 pub fails_too : (a b height : ℕ) (e : EncodeError) (answer : DecodeError) → (e ≡ writing.Memory → answer ≡ reading.Memory) →
@@ -35,7 +43,7 @@ module _ {F R V : Type 0} (inner : Fronts F V) (lawful : IsLawful inner) (format
       record {
         front = steady.front_remains bytes behind v n front.front;
         spelled = subst (λ own. IsSpelled format m v own) same front.spelled;
-        only_spelling = subst (λ own. HasOneSpelling format m inner.same v own) same front.only_spelling;
+        only_spelling = subst (λ own. AreOctets own → HasOneSpelling format m inner.same v own) same front.only_spelling;
         as_deep = front.as_deep;
       }
 
@@ -62,7 +70,7 @@ module _ {F R V : Type 0} (inner : Fronts F V) (lawful : IsLawful inner) (format
               written = record { carried = carried; within_depth_left = omega arith; of_type = of_type };
             },
           );
-          only_spelling = subst (λ own. HasOneSpelling format m inner.same v own) all (each output v of_type valid carried);
+          only_spelling = subst (λ own. AreOctets own → HasOneSpelling format m inner.same v own) all (λ octets. each output v octets of_type valid carried);
           as_deep = belongs.as_deep v;
         };
     equal = λ w v same. belongs.equal w v same;

@@ -9,7 +9,7 @@ use Rattle.asn1_model.proofs.SameRecords.{same-inner_height}
 use Rattle.asn1_model.specs.Meaning.{Meaning, own_records}
 use Rattle.asn1_model.specs.Orders.{SameRecords}
 use Rattle.asn1_model.specs.Records.{Record, highest}
-use Rattle.asn1_rules.specs.CanonicalReading.{HasOneSpelling}
+use Rattle.asn1_rules.specs.CanonicalReading.{AreOctets, HasOneSpelling}
 use Rattle.asn1_rules.specs.Rules.{Format, IsLawful, IsNotWritten, IsWritten}
 
 -- records that are the same up to order are nested as deep
@@ -19,13 +19,13 @@ same-highest rs ss same = sym (inner_height-held rs) ∙ (same-inner_height same
 module _ {V : Type 0} (F : Format (Vec ℕ Global)) (lawful : IsLawful F) (m : Meaning V) (eq : V → V → Bool) (v : V) (bytes : List ℕ) where
   -- an equal value is written as that spelling
   pub spelled : HasOneSpelling F m eq v bytes → (w : V) → eq w v ≡ true → (depth : ℕ) (output : Vec ℕ Global) →
-      IsWritten F (own_records m w) (m.IsOfType w) depth output → output.items ≡ bytes
-  spelled one w same depth output written =
-      one.no_other output (lawful.carries_in_any_order output (own_records m w) (own_records m v) (one.same_records w same) written.carried)
+      AreOctets output.items → IsWritten F (own_records m w) (m.IsOfType w) depth output → output.items ≡ bytes
+  spelled one w same depth output octets written =
+      one.no_other output octets (lawful.carries_in_any_order output (own_records m w) (own_records m v) (one.same_records w same) written.carried)
 
   -- an equal value has records that are nested as deep
   pub as_deep : HasOneSpelling F m eq v bytes → (w : V) → eq w v ≡ true → highest (own_records m w) ≡ highest (own_records m v)
-  as_deep one w same = same-highest (own_records m w) (own_records m v) (one.same_records w same)
+  as_deep one w same = sym (inner_height-held (own_records m w)) ∙ (same-inner_height (one.same_records w same) ∙ inner_height-held (own_records m v))
 
   -- and is not written only if memory runs out, or if the depth is too small
   pub not_written : HasOneSpelling F m eq v bytes → (w : V) → eq w v ≡ true → (depth : ℕ) (e : EncodeError) →

@@ -1,5 +1,5 @@
 -- Bytes that are read only if writing what was read makes the very same bytes.
-use Rattle.std.specs.Prelude.{◌≡◌, ◌≢◌, ◌⊎◌, ⊤, ℕ, ◌<◌, Bool, true, List, Vec, slice_get, take}
+use Rattle.std.specs.Prelude.{◌≡◌, ◌≢◌, ◌⊎◌, ⊤, ℕ, ◌<◌, ◌^◌, All, Bool, true, List, Vec, slice_get, take}
 use Rattle.std.specs.declared.alloc.Global.{Global}
 use Rattle.asn1_laws.specs.declared.decode_error.DecodeError.TheVariants as reading
 use Rattle.asn1_laws.specs.declared.encode_error.EncodeError.TheVariants as writing
@@ -9,6 +9,10 @@ use Rattle.asn1_model.specs.Records.{highest}
 use Rattle.asn1_rules.specs.Rules.{Format, IsNotWritten, IsWritten}
 use Rattle.asn1_rules.specs.declared.canonical.CanonicalError.{CanonicalError}
 use Rattle.asn1_rules.specs.declared.canonical.CanonicalError.TheVariants.{Read, Write, NotCanonical}
+
+-- each number is that of an octet
+abbrev pub AreOctets : List ℕ → Type 0
+AreOctets bytes = All (λ byte. byte < 2 ^ 8) bytes
 
 -- The bytes before this position are the same, and at it the two differ, or one of them ends.
 pub record IsFirstDifference (left right : List ℕ) (at : ℕ) : Type 0 where
@@ -36,11 +40,11 @@ module _ {V : Type 0} (F : Format (Vec ℕ Global)) (m : Meaning V) where
       (w : V) × (bytes : List ℕ) × IsWrittenAs depth w bytes × IsFirstDifference input bytes at
 
   -- The value has one spelling, which is these bytes: equal values have the same records, up to the order inside sets, these
-  -- records are not rejected, and an output that carries them has no other bytes.
+  -- records are not rejected, and an output of octets that carries them has no other bytes.
   pub record HasOneSpelling (eq : V → V → Bool) (v : V) (bytes : List ℕ) : Type 0 where
     pub same_records : (w : V) → eq w v ≡ true → SameRecords (own_records m w) (own_records m v)
     pub not_rejected : F.rejects (own_records m v) → ⊥
-    pub no_other : (output : Vec ℕ Global) → F.carries output (own_records m v) → output.items ≡ bytes
+    pub no_other : (output : Vec ℕ Global) → AreOctets output.items → F.carries output (own_records m v) → output.items ≡ bytes
 
   -- Memory ran out, or the value's records are nested deeper than the depth.
   abbrev pub IsRefusedFor : ℕ → V → CanonicalError → Type 0

@@ -1,6 +1,6 @@
 //! A value that is read of the very bytes that writing it makes.
 ghost use Rattle.asn1_model.specs.Meaning.{IsWellTagged, own_records};
-ghost use Rattle.asn1_rules.specs.CanonicalReading.{DepartsAs, HasOneSpelling, IsFirstDifference, IsRefusedFor, IsWrittenAs};
+ghost use Rattle.asn1_rules.specs.CanonicalReading.{AreOctets, DepartsAs, HasOneSpelling, IsFirstDifference, IsRefusedFor, IsWrittenAs};
 ghost use Rattle.std.specs.Prelude.{◌≡◌, true, IfErr, IfOk, MatchOption, MatchResult};
 
 use crate::rules::Rules;
@@ -64,8 +64,11 @@ pub fn read_canonical<T: Encode + Decode, R: Rules<Output = Vec<u8>>>(
 }
 
 /// The position of the first byte in which two byte strings differ, or at which one of them ends; `None` where they are equal.
-fn first_difference(left: &[u8], right: &[u8]) -> Option<usize>
-    ensures { MatchOption result (left.now ≡ right.now) (IsFirstDifference left.now right.now) }
+pub(crate) fn first_difference(left: &[u8], right: &[u8]) -> Option<usize>
+    ensures first { MatchOption result (left.now ≡ right.now)
+        (IsFirstDifference left.now right.now) }
+    ensures left { AreOctets left.now }
+    ensures right { AreOctets right.now }
 {
     let shorter = left.len().min(right.len());
     for index in 0..shorter {

@@ -6,6 +6,7 @@ ghost use Rattle.asn1_rules.specs.CanonicalFronts.{HasOneSpellingEach, canonical
 ghost use Rattle.asn1_rules.specs.Fronts.{BelongsTo, IsSteady};
 ghost use Rattle.std.specs.Prelude.{◌≡◌};
 
+use crate::canonical::first_difference;
 use crate::front_reader::FrontReader;
 use crate::rules::Rules;
 use asn1_dec::{Decode, DecodeError};
@@ -51,10 +52,9 @@ impl<T: Encode + Decode, F: FrontReader<T>, R: Rules<Output = Vec<u8>>> FrontRea
             Ok(output) => output,
             Err(error) => return Err(error_of_writing(error)),
         };
-        if output.as_slice() == &input[..length] {
-            Ok((value, length))
-        } else {
-            Err(DecodeError::Custom("not canonical"))
+        match first_difference(&input[..length], &output) {
+            None => Ok((value, length)),
+            Some(_at) => Err(DecodeError::Custom("not canonical")),
         }
     }
 
