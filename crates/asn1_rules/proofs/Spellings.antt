@@ -25,7 +25,7 @@ module _ {V : Type 0} (F : Format (Vec ℕ Global)) (lawful : IsLawful F) (m : M
 
   -- an equal value has records that are nested as deep
   pub as_deep : HasOneSpelling F m eq v bytes → (w : V) → eq w v ≡ true → highest (own_records m w) ≡ highest (own_records m v)
-  as_deep one w same = sym (inner_height-held (own_records m w)) ∙ (same-inner_height (one.same_records w same) ∙ inner_height-held (own_records m v))
+  as_deep one w same = same-highest (own_records m w) (own_records m v) (one.same_records w same)
 
   -- and is not written only if memory runs out, or if the depth is too small
   pub not_written : HasOneSpelling F m eq v bytes → (w : V) → eq w v ≡ true → (depth : ℕ) (e : EncodeError) →
