@@ -20,7 +20,8 @@ pub fn a_component_is_absent_where_it_has_its_default<S, V, W: AsnType + Eq>(def
         W.eq (get v) default_value.now ≡ false →
         (default_slot name get default_value.now slot (untagged W.meaning) W.eq).component.records v
         ≡ presence_mark (present in_root W.meaning.tag) ∷ own_records W.meaning (get v) }
-    ensures absent_from_additions { (name : List ℕ) (get : V → W) (slot : S → Option W) (v : V) →
+    ensures absent_from_additions { (name : List ℕ) (get : V → W) (slot : S → Option W)
+        (v : V) →
         W.eq (get v) default_value.now ≡ true →
         (addition_with_default_slot name get default_value.now slot (untagged W.meaning)
         W.eq).component.records v ≡
@@ -35,22 +36,32 @@ pub fn a_component_is_absent_where_it_has_its_default<S, V, W: AsnType + Eq>(def
 /// A law of `empty_list_slot` and `addition_with_empty_list_slot` (`DEFAULT {}`): a list that passes the test is absent, and every
 /// other list is there.
 pub fn a_list_is_absent_where_it_is_empty<S, V, T: AsnType + Eq>()
-    ensures absent_from_root { (name : List ℕ) (get : V → Vec T Global) (slot : S → Option (Vec T Global)) (v : V) →
+    ensures absent_from_root { (name : List ℕ)
+        (get : V → Vec T Global) (slot : S → Option (Vec T Global)) (v : V) →
         is_empty_list T.eq (get v) ≡ true →
-        (empty_list_slot name get slot (untagged ⟦<Vec<T> as AsnType>⟧.meaning) T.eq ⟦<Vec<T> as PartialEq>⟧.eq).component.records v
-        ≡ presence_mark (absent in_root ⟦<Vec<T> as AsnType>⟧.meaning.tag) ∷ [] }
-    ensures in_the_root { (name : List ℕ) (get : V → Vec T Global) (slot : S → Option (Vec T Global)) (v : V) →
+        (empty_list_slot name get slot (untagged ⟦<Vec<T> as AsnType>⟧.meaning)
+        T.eq ⟦<Vec<T> as PartialEq>⟧.eq).component.records v ≡
+        presence_mark (absent in_root ⟦<Vec<T> as AsnType>⟧.meaning.tag) ∷ [] }
+    ensures in_the_root { (name : List ℕ)
+        (get : V → Vec T Global) (slot : S → Option (Vec T Global)) (v : V) →
         is_empty_list T.eq (get v) ≡ false →
-        (empty_list_slot name get slot (untagged ⟦<Vec<T> as AsnType>⟧.meaning) T.eq ⟦<Vec<T> as PartialEq>⟧.eq).component.records v
-        ≡ presence_mark (present in_root ⟦<Vec<T> as AsnType>⟧.meaning.tag) ∷ own_records ⟦<Vec<T> as AsnType>⟧.meaning (get v) }
-    ensures absent_from_additions { (name : List ℕ) (get : V → Vec T Global) (slot : S → Option (Vec T Global)) (v : V) →
+        (empty_list_slot name get slot (untagged ⟦<Vec<T> as AsnType>⟧.meaning)
+        T.eq ⟦<Vec<T> as PartialEq>⟧.eq).component.records v ≡
+        presence_mark (present in_root ⟦<Vec<T> as AsnType>⟧.meaning.tag) ∷
+        own_records ⟦<Vec<T> as AsnType>⟧.meaning (get v) }
+    ensures absent_from_additions { (name : List ℕ)
+        (get : V → Vec T Global) (slot : S → Option (Vec T Global)) (v : V) →
         is_empty_list T.eq (get v) ≡ true →
-        (addition_with_empty_list_slot name get slot (untagged ⟦<Vec<T> as AsnType>⟧.meaning) T.eq ⟦<Vec<T> as PartialEq>⟧.eq).component.records v
-        ≡ presence_mark (absent in_additions ⟦<Vec<T> as AsnType>⟧.meaning.tag) ∷ [] }
-    ensures in_the_additions { (name : List ℕ) (get : V → Vec T Global) (slot : S → Option (Vec T Global)) (v : V) →
+        (addition_with_empty_list_slot name get slot (untagged ⟦<Vec<T> as AsnType>⟧.meaning)
+        T.eq ⟦<Vec<T> as PartialEq>⟧.eq).component.records v ≡
+        presence_mark (absent in_additions ⟦<Vec<T> as AsnType>⟧.meaning.tag) ∷ [] }
+    ensures in_the_additions { (name : List ℕ)
+        (get : V → Vec T Global) (slot : S → Option (Vec T Global)) (v : V) →
         is_empty_list T.eq (get v) ≡ false →
-        (addition_with_empty_list_slot name get slot (untagged ⟦<Vec<T> as AsnType>⟧.meaning) T.eq ⟦<Vec<T> as PartialEq>⟧.eq).component.records v
-        ≡ presence_mark (present in_additions ⟦<Vec<T> as AsnType>⟧.meaning.tag) ∷ own_records ⟦<Vec<T> as AsnType>⟧.meaning (get v) }
+        (addition_with_empty_list_slot name get slot (untagged ⟦<Vec<T> as AsnType>⟧.meaning)
+        T.eq ⟦<Vec<T> as PartialEq>⟧.eq).component.records v ≡
+        presence_mark (present in_additions ⟦<Vec<T> as AsnType>⟧.meaning.tag) ∷
+        own_records ⟦<Vec<T> as AsnType>⟧.meaning (get v) }
 {}
 
 /// A law of `is_empty_list`, the test of `DEFAULT {}`: a list without elements passes it, and no other.
