@@ -1,4 +1,4 @@
-use Rattle.std.proofs.Common.{sym, subst, ◌∙◌, Ok, Err, arith, inl}
+use Rattle.std.proofs.Common.{refl, sym, subst, ◌∙◌, Ok, Err, arith, inl}
 use Rattle.asn1_laws.proofs.ReadingUpToOrder.{reads_content}
 use Rattle.asn1_der_items.proofs.OneElement.{element_alone}
 use Rattle.asn1_der.proofs.RemainingElements.{is_form}
@@ -45,5 +45,5 @@ returns-in-Err-clause-read g c = λ content same k.
 
 pub returns-in-Ok-clause-only : goal.returns-in-Ok-clause-only
 returns-in-Ok-clause-only g c =
-    let primitive = c.in-Some.ensures.only tt in
+    let primitive = c.in-Some.ensures.only refl in
     record { element = _; at = c.in_ok-element.ensures.only.at; has_tag = primitive.1; primitive = primitive.0 }

@@ -1,5 +1,5 @@
 use Rattle.std.proofs.Common.{◌≡◌, Some, refl, subst, ◌∙◌, arith}
-use Rattle.asn1_der_items.specs.Elements.{element_at}
+use Rattle.asn1_der_items.specs.Elements.{element_at, element_of}
 use Rattle.asn1_der_items.proofs.TrailingBytes.{element_at-shorter}
 use Rattle.asn1_der.proofs.ParsedElements.{is_found, was_taken}
 use Rattle.asn1_der.proofs.decoder.DerDecoder.take.Goals as goal
@@ -16,4 +16,6 @@ pub slice_bounds-result-count : goal.slice_bounds-result-count
 slice_bounds-result-count c = omega (arith, element_at-shorter c.left-left.result.now _ c.in-Ok.ensures.only)
 
 pub returns-in-Ok-clause-only : goal.returns-in-Ok-clause-only
-returns-in-Ok-clause-only c = record { rest = _; at = subst (λ l. element_at l ≡ Some _) c.left-left.ensures.inside c.in-Ok.ensures.only }
+returns-in-Ok-clause-only c =
+    let e = element_of c.in-Ok.element in
+    record { rest = e.rest; at = subst (λ l. element_at l ≡ Some e) c.left-left.ensures.inside c.in-Ok.ensures.only }
