@@ -2,11 +2,10 @@
 ghost use Rattle.test_calls.specs.declared.failure.Failure.TheVariants.{Another, Memory, NotRead, NotWritten};
 ghost use Rattle.asn1_laws.specs.declared.decode_error.DecodeError.TheVariants as reading;
 ghost use Rattle.asn1_laws.specs.declared.encode_error.EncodeError.TheVariants as writing;
-ghost use Rattle.std.specs.Prelude.{◌≡◌, ◌≢◌, ◌⊎◌, IsOk, OnOk};
+ghost use Rattle.std.specs.Prelude.{◌≡◌, ◌≢◌};
 
 use asn1_dec::DecodeError;
 use asn1_enc::EncodeError;
-use asn1_rules::RoundTripError;
 use std::alloc::AllocError;
 
 /// Why a case of a codec fails.
@@ -45,41 +44,6 @@ impl Failure {
             DecodeError::Memory => Failure::Memory,
             other => Failure::NotRead(other),
         }
-    }
-
-    /// Why a case fails whose value made no round trip.
-    pub fn of_round_trip(error: RoundTripError) -> Failure
-        ensures not_another { result ≢ Another }
-    {
-        match error {
-            RoundTripError::Writing(error) => Failure::of_writing(error),
-            RoundTripError::Reading(error) => Failure::of_reading(error),
-        }
-    }
-}
-
-/// Whether a case passes that is run twice, since one run may be short of memory.
-///
-/// # Errors
-/// Why a run failed that was not short of memory, and [`Failure::Memory`] where both were.
-pub fn one_passes(first: Result<(), Failure>, second: Result<(), Failure>) -> Result<(), Failure>
-    ensures passed { OnOk result (IsOk first ⊎ IsOk second) }
-    ensures both { IsOk first → IsOk second → IsOk result }
-{
-    match first {
-        Err(Failure::Memory) => second,
-        Err(failure) => Err(failure),
-        Ok(()) => passes_or_memory(second),
-    }
-}
-
-/// Whether a case passes, or is short of memory.
-fn passes_or_memory(answer: Result<(), Failure>) -> Result<(), Failure>
-    ensures passed { IsOk answer → IsOk result }
-{
-    match answer {
-        Err(Failure::Memory) => Ok(()),
-        other => other,
     }
 }
 

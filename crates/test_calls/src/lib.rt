@@ -3,10 +3,10 @@
 //! | Item | Contents |
 //! |---|---|
 //! | [`each_call_comes_back`] | the case of all calls, over any [`CallRules`] |
-//! | [`CallRules`], [`Calls`], [`NumberedCalls`] | a codec whose calls can be made, and the calls of a case |
+//! | [`CallRules`], [`Calls`] | a codec whose calls can be made, and the calls of a case |
 //! | [`Request`], [`Codec`] | a line that asks a codec over bytes, and these codecs |
 //! | [`TypeCase`], [`try_named`] | what is tried of many types, and the types by their names |
-//! | [`Failure`], [`one_passes`] | the reason why a case failed, and a case of which one run may be short of memory |
+//! | [`Failure`], [`is_same`] | the reason why a case failed, and the comparison of two values |
 //! | [`made`], [`node_chain`] | values that tests and programs make |
 //!
 //! A case answers `Ok`, or why it failed. `test_codecs` calls it for each codec. Values of types are lines of `test_vectors`, and
@@ -24,15 +24,10 @@ mod named_types;
 mod nested;
 mod request;
 
-pub use call_rules::{
-    CallRules, Calls, FIRST, NAME, NumberedCalls, answers, answers_none, answers_some,
-    calls_come_back, done, is_same, is_this, numbered_calls_come_back,
-};
+pub use call_rules::{CallRules, Calls, NAME, is_same};
 pub use calls::each_call_comes_back;
 pub use codec::Codec;
-pub use failure::{Failure, one_passes};
-pub use hollow::Hollow;
-pub use marker_tags::{ApplicationTag, ContextTag, PrivateTag};
+pub use failure::Failure;
 pub use named_types::{TypeCase, try_named};
 pub use nested::node_chain;
 pub use request::Request;
