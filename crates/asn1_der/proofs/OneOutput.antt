@@ -1,12 +1,14 @@
 -- Of records without a SET there is one output, whatever the order inside sets.
-use Rattle.std.proofs.Common.{List}
+use Rattle.std.proofs.Common.{List, subst}
 use Rattle.std.proofs.lemmas.List.Elements.{All-cons, All-head, All-nil, All-tail}
 use Rattle.std.proofs.lemmas.List.Sorted.{All-permutation}
 use Rattle.std.specs.Prelude.{All}
-use Rattle.asn1_der.specs.OneOutput.{HasNoSet, HaveNoSet, HaveOneOutput, IsNoSet}
+use Rattle.asn1_der.specs.Format.{Carries}
+use Rattle.asn1_der.specs.OneOutput.{HasNoSet, HaveNoSet, HaveOneOutput, HaveOneSpelling, IsNoSet}
 use Rattle.asn1_der_items.proofs.Canonical.{same_ders}
 use Rattle.asn1_der_items.specs.DistinctTags.{AreDistinctIn, HasDistinctSets, HaveDistinctSets}
 use Rattle.asn1_model.proofs.SameUpToOrder.{SameAll-sym, SameAll-trans}
+use Rattle.asn1_model.specs.Meaning.{Meaning, own_records}
 use Rattle.asn1_model.specs.Orders.{SameRecord, SameAll, SameRecords, at_end, equal, in_any_order, one_by_one, next}
 use Rattle.asn1_model.specs.Records.{Head, Record, Records, alternative, explicit_tag, held, listed, more, none, open_type, presence_mark, scalar, scope, sequence, sequence_of, set, set_of}
 
@@ -54,3 +56,11 @@ one_output rs ss same free own other below above a b =
     let back : SameAll (held rs) (held a.exactly) = SameAll-sym a.same in
     let there : SameAll (held a.exactly) (held b.exactly) = SameAll-trans a.same (SameAll-trans same (SameAll-sym b.same)) in
     same_ders (held a.exactly) (held b.exactly) there (have_distinct_sets (held a.exactly) (same_have_none back free)) own other below above a.have_bytes b.have_bytes
+
+-- and so octets that are written of values with the same records
+pub one_spelling : {V : Type 0} (m : Meaning V) (v w : V) → SameRecords (own_records m v) (own_records m w) → HaveNoSet (held (own_records m v)) →
+    HaveOneSpelling m v w
+one_spelling m v w same free own other below above x y =
+    one_output (own_records m v) (own_records m w) same free own other below above
+    (subst (λ octets. Carries octets (own_records m v)) x.1.has_bytes x.1.written.carried)
+    (subst (λ octets. Carries octets (own_records m w)) y.1.has_bytes y.1.written.carried)

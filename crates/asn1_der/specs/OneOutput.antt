@@ -1,8 +1,10 @@
 -- The records with one output in DER, whatever the order inside sets.
 use Rattle.std.specs.Prelude.{◌≡◌, ⊤, ℕ, List}
 use Rattle.std.specs.Int.Digits.{AllBelowBase}
-use Rattle.asn1_der.specs.Format.{Carries}
+use Rattle.asn1_der.specs.Format.{Carries, der_format}
+use Rattle.asn1_model.specs.Meaning.{Meaning}
 use Rattle.asn1_model.specs.Records.{Head, Record, Records, scalar, scope, open_type, presence_mark, none, more, sequence, set, sequence_of, set_of, explicit_tag, alternative}
+use Rattle.asn1_rules.specs.CanonicalReading.{IsSpelled}
 
 -- what holds records is no SET (X.680, 27); it may be a SET OF
 abbrev pub IsNoSet : Head → Type 0
@@ -29,3 +31,10 @@ abbrev mutual
 abbrev pub HaveOneOutput : List Record → List Record → Type 0
 HaveOneOutput rs ss =
     (own other : List ℕ) → AllBelowBase 256 own → AllBelowBase 256 other → Carries own rs → Carries other ss → own ≡ other
+
+-- Octets that writing one of these values makes are the same as those that writing the other makes. A value that
+-- `read_canonical` answers is written as the octets that were read.
+abbrev pub HaveOneSpelling : {V : Type 0} → Meaning V → V → V → Type 0
+HaveOneSpelling m v w =
+    (own other : List ℕ) → AllBelowBase 256 own → AllBelowBase 256 other → IsSpelled der_format m v own → IsSpelled der_format m w other →
+    own ≡ other
