@@ -9,6 +9,7 @@ with the codecs over bytes, of which measure_codecs is the program, or with cert
     python3 bench/run.py --stack
     python3 bench/run.py --damage SECONDS
     python3 bench/run.py --growths
+    python3 bench/run.py --long
     python3 bench/run.py --certificates
 
 proves and builds the program first, or with --built takes the one that `rt ci` built in this checkout. The first prints a line for
@@ -24,8 +25,9 @@ each node of a chain of 200, those of plain Rust, and how many times as many. Re
 with plain Rust that makes a table of the tags of its CHOICE.
 
 The next prints for each type that holds itself how many nested scopes a stack of 8 MiB holds in writing, reading and dropping. The
-one after it damages the bytes of a value of each sample type for this long, by one seed after another. The one before the last
-refuses each growth of memory in turn, while a value of each sample type is written and read. The last is bench/certificates.py.
+one after it damages the bytes of a value of each sample type for this long, by one seed after another. Then it
+refuses each growth of memory in turn, while a value of each sample type is written and read, and writes an OCTET STRING of 2^32
+octets, which no item can hold. The last is bench/certificates.py.
 """
 import os
 import resource
@@ -349,6 +351,19 @@ def refused_growths(library, line):
         number += 1
 
 
+def write_long_contents():
+    """Writes an OCTET STRING of 2^32 octets by the codecs over items, and stops where one answers anything else than that it is too
+    long; and one of 2^32 - 1 octets, which is not."""
+    for codec in ("packed", "tag"):
+        for length, answer in ((2**32, "item too long"), (2**32 - 1, f"written: {2**32 + 10} bytes")):
+            line = f"{codec} octets 0 long {length}"
+            process = subprocess.run([TRIALS_PROGRAM], input=f"{line}\n".encode(), stdout=subprocess.PIPE)
+            said = process.stdout.decode().splitlines()
+            if process.returncode != 0 or said != [line, answer]:
+                sys.exit(f"{line}: status {process.returncode}, {said}")
+            print(f"{line}: {answer}", flush=True)
+
+
 def measure_certificates():
     """Calls bench/certificates.py, with the program that was built if that is asked for."""
     built = [CERTIFICATES_PROGRAM] if "--built" in sys.argv else []
@@ -364,12 +379,14 @@ def main():
     if "--codecs" in sys.argv:
         build(SPEED)
         return count_instructions() if "--values" in sys.argv else compare_codecs()
-    if {"--stack", "--damage", "--growths"} & set(sys.argv):
+    if {"--stack", "--damage", "--growths", "--long"} & set(sys.argv):
         build(TRIALS)
         if "--damage" in sys.argv:
             return damage(float(sys.argv[-1]))
         if "--growths" in sys.argv:
             return refuse_growths()
+        if "--long" in sys.argv:
+            return write_long_contents()
         return measure_stack()
     build(CRATE)
     print(f"cores: {os.cpu_count()}")

@@ -9,6 +9,7 @@
 //! | `begun -` | each beginning of the bytes is read | the number of beginnings that are too short, which all have to be |
 //! | `changed -` | each byte of the bytes is replaced by each byte; what is read has to be written as these bytes | the places at which not one byte alone makes a value, with the number of those bytes |
 //! | `nest LEVELS` | a value that holds itself is made, written, read and dropped | a line after each step |
+//! | `long LENGTH` | an OCTET STRING of so many octets is written, whatever the type | how many bytes it has, or the error |
 //! | `drop LEVELS` | such a value is made and dropped | the same |
 //!
 //! `CODEC` and `TYPE` are as in `test_vectors`; after `nest` and `drop` the type is `node`, `not` or `and` for two kinds of filter,
@@ -22,6 +23,7 @@
 mod bytes;
 mod damage;
 mod growths;
+mod long;
 mod nested;
 mod report;
 mod source;
@@ -64,6 +66,10 @@ fn print_request(
     if request.action == "nest" || request.action == "drop" {
         println!(rt; "{line}")?;
         return nested::run(rt, alloc, request);
+    }
+    if request.action == "long" {
+        println!(rt; "{line}")?;
+        return long::run(rt, alloc, request);
     }
     match trial::answer_to(alloc, request) {
         Some(answer) => println!(rt; "{answer} <- {line}"),
