@@ -1,11 +1,11 @@
 -- Bytes that begin with a header, and bytes that begin with none.
-use Rattle.std.proofs.Common.{◌≡◌, ℕ, ◌≤◌, ◌<◌, Bool, true, false, Option, None, Some, List, [], ◌∷◌, length, get_or, drop, refl, sym, ap, ◌∙◌, arith, zero, suc}
+use Rattle.std.proofs.Common.{◌≡◌, ℕ, ◌≤◌, ◌<◌, Option, None, Some, List, [], ◌∷◌, length, get_or, drop, refl, sym, ap, ◌∙◌, arith, zero, suc}
 use Rattle.std.specs.Option.{option_and_then}
 use Rattle.asn1_tags.specs.Tags.{class_number}
 use Rattle.asn1_tags.specs.declared.classes.Class.{Class}
 use Rattle.asn1_tags.specs.declared.classes.Class.TheVariants.{Universal, Application, Context, Private}
 use Rattle.asn1_tags.specs.declared.tags.Tag.{Tag}
-use Rattle.asn1_items.specs.Headers.{Header, class_at, number_at, from_size, of_kind, from_class, header_at}
+use Rattle.asn1_items.specs.Headers.{Header, class_at, number_at, from_size, of_kind, from_class}
 use Rattle.asn1_items.specs.Kinds.{item_byte, item_kind_at}
 use Rattle.asn1_items.specs.declared.kinds.ItemKind.{ItemKind}
 use Rattle.asn1_items.specs.declared.kinds.ItemKind.TheVariants as item

@@ -11,7 +11,7 @@ use Rattle.asn1_items.specs.declared.kinds.ContentKind.TheVariants as own_kind
 use Rattle.asn1_model.specs.Records as model
 use Rattle.asn1_model.specs.Records.{StringKind, null, boolean, number, discriminant, arcs, bits, units, teletex, bmp}
 use Rattle.asn1_model.specs.RecordTables.{no_table}
-use Rattle.asn1_types.specs.AnyStrings.{IsStringOf, content_of_str, octet_kind}
+use Rattle.asn1_types.specs.AnyStrings.{IsStringOf, content_of_str}
 use Rattle.asn1_types.specs.declared.any_string.StringKind as kind
 use Rattle.asn1_types.specs.declared.any_string.StringKind.TheVariants as kinds
 
