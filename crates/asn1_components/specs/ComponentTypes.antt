@@ -122,11 +122,11 @@ default_in side name get is_default type = record {
   well_formed = λ accepts v. well_formed_default side type accepts (get v) (is_default v);
 }
 
--- one of the root, and an addition
-abbrev pub with_default : {V W : Type 0} → List ℕ → (V → W) → (V → Bool) → TaggedType W →
+-- one of the root, and an addition: a value has the default if it has what is equal to it
+abbrev pub with_default : {V W : Type 0} → List ℕ → (V → W) → W → TaggedType W → (W → W → Bool) →
     ComponentType V
-with_default = default_in in_root
+with_default name get default_value type eq = default_in in_root name get (λ v. eq (get v) default_value) type
 
-abbrev pub addition_with_default : {V W : Type 0} → List ℕ → (V → W) → (V → Bool) → TaggedType W →
+abbrev pub addition_with_default : {V W : Type 0} → List ℕ → (V → W) → W → TaggedType W → (W → W → Bool) →
     ComponentType V
-addition_with_default = default_in in_additions
+addition_with_default name get default_value type eq = default_in in_additions name get (λ v. eq (get v) default_value) type

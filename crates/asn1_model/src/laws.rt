@@ -4,9 +4,10 @@ ghost use Rattle.std.specs.Prelude.{◌≡◌, ◌↔◌, ℕ, ℤ, ◌<◌, ◌
 ghost use Rattle.std.specs.Int.{w8, w16, w32, w64, w128};
 ghost use Rattle.asn1_values.specs.Alphabets.{is_visible, is_ia5, is_numeric, is_printable};
 ghost use Rattle.asn1_tags.specs.Derives.{ClonesAll};
-ghost use Rattle.asn1_model.specs.ConstraintSets.{unconstrained};
-ghost use Rattle.asn1_model.specs.Meaning.{own_records};
-ghost use Rattle.asn1_model.specs.Records.{arcs, bits, units, octet, visible, general, graphic, ia5, printable, numeric, teletex, bmp, null, scalar};
+ghost use Rattle.asn1_tags.specs.declared.tags.Tag.{Tag};
+ghost use Rattle.asn1_model.specs.ConstraintSets.{ConstraintSet, unconstrained};
+ghost use Rattle.asn1_model.specs.Meaning.{HasOwn, own_records};
+ghost use Rattle.asn1_model.specs.Records.{Name, arcs, bits, units, octet, visible, general, graphic, ia5, printable, numeric, teletex, bmp, null, scalar};
 ghost use Rattle.asn1_model.specs.Tags.{universal};
 
 mod invariants;
@@ -44,8 +45,11 @@ pub use tags::{
 /// A law of the markers: each name is that of the number that X.680 gives its type (8.4, table 1), and the marker of a
 /// number is a NULL under it.
 pub fn markers_have_their_numbers<const NUMBER: u32>(_marker: Marker<NUMBER>)
-    ensures records { own_records ⟦<Marker<NUMBER> as AsnType>⟧.meaning _marker.entry ≡
-        scalar (universal NUMBER) unconstrained None null ∷ [] }
+    ensures own { HasOwn ⟦<Marker<NUMBER> as AsnType>⟧.meaning (universal NUMBER) unconstrained
+        None }
+    ensures records { (v : _) (t : Tag) (c : ConstraintSet) (name : Name) →
+        ⟦<Marker<NUMBER> as AsnType>⟧.meaning.records v t c name ≡
+        scalar t unconstrained name null ∷ [] }
     ensures eoc { ⟦<EOC as AsnType>⟧.meaning.tag ≡ universal 0 }
     ensures bool { ⟦<BOOL as AsnType>⟧.meaning.tag ≡ universal 1 }
     ensures integer { ⟦<INTEGER as AsnType>⟧.meaning.tag ≡ universal 2 }

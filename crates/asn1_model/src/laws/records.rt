@@ -116,6 +116,8 @@ pub fn strings_have_their_records<
     ensures of_alphabet { (s : List U) (t : Tag) (c : ConstraintSet) (name : Name) →
         ⟦<AlphabetString<U, A> as AsnType>⟧.meaning.records s t c name ≡
         scalar t c (name_or name (Some A.own_name)) (A.content s) ∷ [] }
+    ensures identifier_own { HasOwn ⟦<ObjectIdentifier as AsnType>⟧.meaning (universal 6)
+        unconstrained (Some (codes "OBJECT_IDENTIFIER")) }
     ensures identifier { (s : List ℕ) (t : Tag) (c : ConstraintSet) (name : Name) →
         ⟦<ObjectIdentifier as AsnType>⟧.meaning.records s t c name ≡
         scalar t unconstrained (name_or name (Some (codes "OBJECT_IDENTIFIER"))) (arcs s) ∷ [] }
