@@ -910,7 +910,7 @@ fn badge(number: u32) -> Badge {
 }
 
 fn node(levels: u32) -> Node {
-    let leaf = Node { label: Some("a".to_owned()), children: Vec::new() };
+    let leaf = Node { label: None, children: Vec::new() };
     (0..levels).fold(leaf, |node, _| Node { label: None, children: vec![node] })
 }
 

@@ -2,13 +2,13 @@
 use asn1_samples::Node;
 use std::alloc::{AllocError, Global};
 
-/// A node with the label `a` and without children, with this many nodes around it, one in another.
+/// A node without a label and without children, with this many nodes around it, one in another.
 ///
 /// # Errors
 /// There was no memory.
 pub fn node_chain(alloc: Global, around: usize) -> Result<Node, AllocError> {
     let mut node = Node {
-        label: Some(String::from_str(alloc, "a")?),
+        label: None,
         children: Vec::new(alloc),
     };
     for _index in 0..around {

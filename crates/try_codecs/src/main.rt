@@ -8,7 +8,7 @@
 //! | `pieces -` | two values come out of two pieces, wherever their bytes are cut | `comes back` |
 //! | `begun -` | each beginning of the bytes is read | the number of beginnings that are too short, which all have to be |
 //! | `changed -` | each byte of the bytes is replaced by each byte; what is read has to be written as these bytes | the places at which not one byte alone makes a value, with the number of those bytes |
-//! | `nest LEVELS` | a value that holds itself is made, written, read and dropped | a line after each step |
+//! | `nest LEVELS` | a value that holds itself is made, written, read and dropped; if `DEPTH` is too small to write it, it is written without a limit | a line after each step |
 //! | `long LENGTH` | an OCTET STRING of so many octets is written, whatever the type | how many bytes it has, or the error |
 //! | `drop LEVELS` | such a value is made and dropped | the same |
 //!

@@ -1,6 +1,6 @@
 //! Values that hold themselves.
 use asn1_dec::Decode;
-use asn1_enc::Encode;
+use asn1_enc::{Encode, EncodeError};
 use asn1_open::Open;
 use asn1_recursive::{Filter, Nested};
 use asn1_types::{InstanceOf, SetOf};
@@ -48,6 +48,7 @@ fn go<T: Encode + Decode>(
     println!(rt; "dropped")
 }
 
+/// Writes a value and reads it. If it is nested too deep to be written, it is written without a limit, and read with the limit.
 fn write_and_read<T: Encode + Decode>(
     rt: &impl Print,
     alloc: Global,
@@ -59,6 +60,22 @@ fn write_and_read<T: Encode + Decode>(
             println!(rt; "written: {} bytes", bytes.len())?;
             read::<T>(rt, alloc, &bytes, request)
         }
+        Err(EncodeError::Depth) => {
+            println!(rt; "{}", EncodeError::Depth)?;
+            write_all_and_read(rt, alloc, value, request)
+        }
+        Err(error) => println!(rt; "{error}"),
+    }
+}
+
+fn write_all_and_read<T: Encode + Decode>(
+    rt: &impl Print,
+    alloc: Global,
+    value: &T,
+    request: &Request<'_>,
+) -> io::Result<()> {
+    match request.codec.write(alloc, value, usize::MAX) {
+        Ok(bytes) => read::<T>(rt, alloc, &bytes, request),
         Err(error) => println!(rt; "{error}"),
     }
 }
