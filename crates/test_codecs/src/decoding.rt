@@ -1,14 +1,16 @@
 //! Errors of reading, and a decoder after an error.
-use crate::cases::assert_that;
+use crate::cases::{assert_bytes, assert_that};
 use asn1_bench::{ItemDecoder, PackedDecoder};
 use asn1_buffers::WholeDecoder;
 use asn1_dec::{Decode, DecodeError, DecodeSet, Needed};
 use asn1_der::DerDecoder;
-use asn1_samples::{Badge, Person};
+use asn1_samples::{Badge, Labelled, Person, Settings};
 use asn1_tagform::NextItem;
 use asn1_tags::Tag;
 use asn1_values::{ConstrainedInteger, OctetString};
+use std::alloc::Global;
 use std::process::Abort;
+use test_calls::Codec;
 
 /// INTEGER 11 as an item.
 const ELEVEN: &[u8] = &[1, 0, 0, 0, 0, 2, 2, 0, 0, 0, 2, 0, 11];
@@ -98,4 +100,28 @@ fn no_other_component_of_a_badge_is_read(rt: HostRuntime) {
     };
     let error = Badge::decode_field(&mut decoder, 3, Tag::BOOL).err();
     assert_that(&rt, error == Some(unknown));
+}
+
+/// Asserts that settings that are equal to the DEFAULT, but for a note, which is not compared, have these bytes, and that the note of
+/// the DEFAULT is read.
+fn assert_note_of_default(rt: &impl Abort, alloc: Global, codec: Codec, bytes: &[u8]) {
+    let settings = Settings {
+        entry: Labelled { key: 1, note: 9 },
+    };
+    let written = codec.write(alloc, &settings, 1).expect(rt, "memory");
+    assert_bytes(rt, &written, bytes);
+    let back = codec
+        .read::<Settings>(alloc, &written, 1)
+        .expect(rt, "a value");
+    assert!(rt; back.entry.note == 0 && back == settings);
+}
+
+#[test]
+fn the_note_of_a_default_is_read(rt: HostRuntime) {
+    let alloc = rt.alloc();
+    let packed = [2, 0, 0, 0, 0, 16, 0, 0, 0, 1, 0x11];
+    assert_note_of_default(&rt, alloc, Codec::Packed, &packed);
+    let without_marks = [2, 0, 0, 0, 0, 16, 0, 0, 0, 0];
+    assert_note_of_default(&rt, alloc, Codec::TagForm, &without_marks);
+    assert_note_of_default(&rt, alloc, Codec::Der, &[0x30, 0]);
 }

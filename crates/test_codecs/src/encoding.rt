@@ -1,10 +1,10 @@
 //! Errors of writing, and an encoder after an error.
-use crate::cases::{assert_bytes, assert_that};
+use crate::cases::{assert_bytes, assert_that, person};
 use asn1_bench::{ItemBuffer, PackedBuffer};
 use asn1_bounds::Constraints;
 use asn1_buffers::{BufferEncoder, RecordBuffer, write_whole};
 use asn1_der::DerBuffer;
-use asn1_enc::{EncodeError, Encoder};
+use asn1_enc::{Encode, EncodeError, Encoder};
 use asn1_samples::{Color, Contact, Profile};
 use asn1_tagform::NextItem;
 use asn1_tags::{Identifier, Tag};
@@ -30,6 +30,12 @@ const NOTHING_IS_OPEN: EncodeError = EncodeError::Custom("nothing is open");
 /// No scope may be opened.
 fn open_too_deep<E: Encoder>(rt: &impl Abort, encoder: &mut E) {
     let answer = encoder.open_explicit_prefix(Tag::NULL, Identifier::NULL);
+    assert_error(rt, encoder, answer, EncodeError::Depth);
+}
+
+/// A person has a scope, which may not be opened.
+fn write_a_person<E: Encoder>(rt: &impl Abort, alloc: Global, encoder: &mut E) {
+    let answer = person(rt, alloc, 30, "Ann").encode(encoder);
     assert_error(rt, encoder, answer, EncodeError::Depth);
 }
 
@@ -94,6 +100,7 @@ fn new<B: RecordBuffer>(alloc: Global, depth: usize) -> BufferEncoder<B> {
 
 fn fail_each<B: RecordBuffer>(rt: &impl Abort, alloc: Global) {
     open_too_deep(rt, &mut new::<B>(alloc, 0));
+    write_a_person(rt, alloc, &mut new::<B>(alloc, 0));
     refuse_memory(rt, &mut new::<B>(alloc, 0));
     close_a_scope(rt, &mut new::<B>(alloc, 0));
     write_no_default(rt, &mut new::<B>(alloc, 0));

@@ -3,12 +3,13 @@
 //! `rt try --test --fail-alloc N` refuses the Nth growth of each test. All is done twice, so that one of the two has its memory.
 use crate::cases::{assert_bytes, assert_that};
 use asn1_bench::{ItemBuffer, ItemDecoder, PackedBuffer, PackedDecoder};
-use asn1_buffers::{RecordBuffer, WholeDecoder, write_whole};
+use asn1_buffers::{BufferEncoder, RecordBuffer, WholeDecoder};
 use asn1_dec::{Decode, DecodeError, Decoder};
 use asn1_der::{DerBuffer, DerDecoder};
-use asn1_enc::EncodeError;
+use asn1_enc::{Encode, EncodeError, Encoder};
 use asn1_samples::Plate;
 use asn1_tagform::NextItem;
+use asn1_tags::{Identifier, Tag};
 use std::alloc::Global;
 use std::process::Abort;
 use test_calls::made::letters;
@@ -82,18 +83,24 @@ fn memory_to_read_an_alphabet_runs_out(rt: HostRuntime) {
     assert_that(&rt, first || reads_plate_in_der(&rt, rt.alloc()));
 }
 
-/// Whether a plate is written as these bytes. Else memory ran out.
+/// Asserts that memory ran out, and that the next call of the encoder answers that it has failed.
+fn assert_no_memory<E: Encoder>(rt: &impl Abort, encoder: &mut E, error: EncodeError) {
+    assert!(rt; error == EncodeError::Memory);
+    let later = encoder.encode_null(Tag::NULL, Identifier::NULL);
+    assert!(rt; later == Err(EncodeError::Failed));
+}
+
+/// Whether a plate is written as these bytes. Else memory ran out, and the encoder has failed.
 fn writes_plate<B: RecordBuffer>(rt: &impl Abort, alloc: Global, bytes: &[u8]) -> bool {
     let Ok(letters) = letters(alloc, b"AB") else {
         return false;
     };
-    match write_whole::<B, Plate>(alloc, &Plate(letters), 0) {
-        Ok(written) => assert_bytes(rt, &written, bytes),
-        Err(error) => {
-            assert_that(rt, error == EncodeError::Memory);
-            return false;
-        }
+    let mut encoder = BufferEncoder::<B>::new(alloc, 0);
+    if let Err(error) = Plate(letters).encode(&mut encoder) {
+        assert_no_memory(rt, &mut encoder, error);
+        return false;
     }
+    assert_bytes(rt, &encoder.finish(), bytes);
     true
 }
 

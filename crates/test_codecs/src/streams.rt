@@ -1,32 +1,31 @@
-//! Values one after another, out of bytes that come byte by byte. `try_codecs` reads them out of two pieces.
-use crate::cases::{PERSON, PERSON_IN_DER, assert_bytes};
+//! Values one after another, out of bytes that come byte by byte, or in two pieces.
+use crate::cases::{PERSON, PERSON_IN_DER, assert_bytes, person};
 use asn1_bench::{BenchReader, BenchRules};
 use asn1_dec::{Decode, DecodeError, Needed};
 use asn1_der::{DerReader, DerRules};
-use asn1_rules::{FrontReader, Iter, Rules, iter_of, round_trip_in_pieces, write_list};
+use asn1_rules::{
+    FrontReader, Iter, Rules, iter_of, read_pieces, round_trip_in_pieces, write_list,
+};
 use asn1_samples::Person;
 use asn1_tagform::TagRules;
-use asn1_values::Integer;
 use std::alloc::Global;
 use std::process::Abort;
-use test_calls::made::text;
 
-fn person(rt: &impl Abort, alloc: Global, age: u8, name: &str) -> Person {
-    Person {
-        age: Integer::from(age),
-        name: text(alloc, name).expect(rt, "memory"),
-    }
-}
+/// `TRUE` in packed form.
+const TRUE: &[u8] = &[1, 0, 0, 0, 0, 1, 1, 0, 0, 0, 1, 1];
 
-/// Asserts that more bytes are wanted, and that the unread ones are as they were.
+/// The same in DER.
+const TRUE_IN_DER: &[u8] = &[1, 1, 0xff];
+
+/// Asserts that more bytes are wanted, and that these are unread.
 fn assert_incomplete<T: Decode, F: FrontReader<T> + Drop>(
     rt: &impl Abort,
     iter: &mut Iter<'_, T, F>,
+    unread: &[u8],
 ) {
-    let unread = iter.unread().len();
     let next = iter.next();
     assert!(rt; matches!(next, Some(Err(DecodeError::Incomplete(Needed::Size(_))))));
-    assert!(rt; iter.unread().len() == unread);
+    assert!(rt; iter.unread() == unread);
 }
 
 /// Asserts that this value is next, and that no bytes are left.
@@ -48,8 +47,9 @@ fn assert_comes<T: Decode, F: FrontReader<T> + Drop>(
     bytes: &[u8],
     value: &T,
 ) {
-    for byte in bytes {
-        assert_incomplete(rt, iter);
+    for (count, byte) in bytes.iter().enumerate() {
+        let (begun, _rest) = bytes.split_at(count.min(bytes.len()));
+        assert_incomplete(rt, iter, begun);
         iter.append_bytes(&[*byte]).expect(rt, "memory");
     }
     assert_next(rt, iter, value);
@@ -65,16 +65,32 @@ fn assert_comes_twice<T: Decode, F: FrontReader<T> + Drop>(
     let mut iter = iter_of::<T, F>(alloc, &[], reader);
     assert_comes(rt, &mut iter, bytes, value);
     assert_comes(rt, &mut iter, bytes, value);
-    assert_incomplete(rt, &mut iter);
-    assert_incomplete(rt, &mut iter);
+    assert_incomplete(rt, &mut iter, &[]);
+    assert_incomplete(rt, &mut iter, &[]);
 }
 
 #[test]
 fn a_value_comes_with_its_last_byte(rt: HostRuntime) {
     let alloc = rt.alloc();
+    assert_comes_twice(&rt, alloc, BenchReader::new(alloc, 0), TRUE, &true);
+    assert_comes_twice(&rt, alloc, DerReader::new(alloc, 0), TRUE_IN_DER, &true);
     let ann = person(&rt, alloc, 30, "Ann");
     assert_comes_twice(&rt, alloc, BenchReader::new(alloc, 1), PERSON, &ann);
     assert_comes_twice(&rt, alloc, DerReader::new(alloc, 1), PERSON_IN_DER, &ann);
+}
+
+/// Asserts that one byte more is wanted of a truth value, and that these are unread.
+fn assert_one_byte_more(rt: &impl Abort, alloc: Global, bytes: &[u8]) {
+    let mut iter = iter_of::<bool, BenchReader>(alloc, bytes, BenchReader::new(alloc, 0));
+    let next = iter.next();
+    assert!(rt; matches!(next, Some(Err(DecodeError::Incomplete(Needed::Size(1))))));
+    assert!(rt; iter.unread() == bytes);
+}
+
+#[test]
+fn missing_bytes_are_counted(rt: HostRuntime) {
+    assert_one_byte_more(&rt, rt.alloc(), &[1, 0, 0, 0, 0, 1, 1, 0, 0, 0, 1]);
+    assert_one_byte_more(&rt, rt.alloc(), &[]);
 }
 
 /// Asserts that these persons come back out of pieces of 20 bytes, of 9, and of the others.
@@ -102,6 +118,52 @@ fn three_persons(rt: &impl Abort, alloc: Global) -> Vec<Person> {
     push(rt, alloc, &mut persons, 0, "");
     push(rt, alloc, &mut persons, 255, "Zo\u{eb}");
     persons
+}
+
+/// Asserts that these persons are read of these bytes, cut at a place.
+fn assert_read<F: FrontReader<Person> + Drop>(
+    rt: &impl Abort,
+    alloc: Global,
+    reader: F,
+    persons: &[Person],
+    (bytes, place): (&[u8], usize),
+) {
+    let (first, second) = bytes.split_at(place.min(bytes.len()));
+    let read = read_pieces::<Person, F>(alloc, reader, &[first, second], 3).expect(rt, "memory");
+    assert!(rt; read.values.as_slice() == persons && read.last.is_none());
+}
+
+fn assert_read_wherever_cut(rt: &impl Abort, alloc: Global, persons: &[Person]) {
+    let bytes = write_list(alloc, &BenchRules::new(alloc), persons, 1).expect(rt, "memory");
+    for place in 0..=bytes.len() {
+        assert_read(
+            rt,
+            alloc,
+            BenchReader::new(alloc, 1),
+            persons,
+            (&bytes, place),
+        );
+    }
+}
+
+fn assert_read_of_der_wherever_cut(rt: &impl Abort, alloc: Global, persons: &[Person]) {
+    let bytes = write_list(alloc, &DerRules::new(alloc), persons, 1).expect(rt, "memory");
+    for place in 0..=bytes.len() {
+        assert_read(
+            rt,
+            alloc,
+            DerReader::new(alloc, 1),
+            persons,
+            (&bytes, place),
+        );
+    }
+}
+
+#[test]
+fn persons_come_back_wherever_their_bytes_are_cut(rt: HostRuntime) {
+    let persons = three_persons(&rt, rt.alloc());
+    assert_read_wherever_cut(&rt, rt.alloc(), &persons);
+    assert_read_of_der_wherever_cut(&rt, rt.alloc(), &persons);
 }
 
 #[test]
