@@ -17,7 +17,7 @@ measured bits bytes m =
 -- no bit is unused
 pub none_unused : (bits : List Bool) (first : ℕ) (octets : List ℕ) → AreBits bits (first ∷ octets) → length bits % 8 ≡ 0 → bits_of_octets octets ≡ bits
 none_unused bits first octets m whole =
-    let unused : m.unused ≡ 0 = omega (arith, measured bits (first ∷ octets) m, m.few, whole) in
+    let unused : m.unused ≡ 0 = omega (arith, measured bits (first ∷ octets) m, m.below_eight, whole) in
     let same : octets ≡ m.octets = cc m.are in
     ap bits_of_octets same ∙ m.same ∙ ap (λ n. bits ++ replicate n false) unused ∙ append-nil bits
 
