@@ -331,6 +331,27 @@ def refuse_growths():
             counts[line.split(" ")[0]] += refused_growths(library, line)
         for codec, count in counts.items():
             print(f"{codec}: {count} growths", flush=True)
+        for line in requests("table"):
+            refuse_tags(library, line)
+
+
+def refuse_tags(library, line):
+    """Refuses each growth in turn while a list of tags is made with a table that does not fit, and stops where none is answered by the
+    memory that is missing for the tags: it is asked for before the table is looked at."""
+    number, answers = 1, []
+    while True:
+        environment = {**os.environ, "LD_PRELOAD": library, "REFUSED": str(number)}
+        process = subprocess.run([TRIALS_PROGRAM], input=f"{line}\n".encode(), env=environment, capture_output=True)
+        said = process.stdout.decode().splitlines()
+        if b"a growth is refused" not in process.stderr:
+            if process.returncode != 0 or said != [line, "table entry 1 does not fit"]:
+                sys.exit(f"{line}, no growth refused: status {process.returncode}, {said}")
+            break
+        answers.append(said)
+        number += 1
+    if [line, "no memory"] not in answers:
+        sys.exit(f"{line}: {answers}")
+    print(f"table: {len(answers)} growths", flush=True)
 
 
 def refused_growths(library, line):

@@ -8,9 +8,11 @@
 //! | `pieces -` | two values come out of two pieces, wherever their bytes are cut | `comes back` |
 //! | `begun -` | each beginning of the bytes is read | the number of beginnings that are too short, which all have to be |
 //! | `changed -` | each byte of the bytes is replaced by each byte; what is read has to be written as these bytes | the places at which not one byte alone makes a value, with the number of those bytes |
+//! | `recode -` | the bytes of the value are recoded to the tag form, and back | `comes back` |
 //! | `nest LEVELS` | a value that holds itself is made, written, read and dropped; if `DEPTH` is too small to write it, it is written without a limit | a line after each step |
 //! | `long LENGTH` | an OCTET STRING of so many octets is written, whatever the type | how many bytes it has, or the error |
 //! | `drop LEVELS` | such a value is made and dropped | the same |
+//! | `table -` | a list of tags is made with a table that does not fit, whatever the codec and the type | the error |
 //!
 //! `CODEC` and `TYPE` are as in `test_vectors`; after `nest` and `drop` the type is `node`, `not` or `and` for two kinds of filter,
 //! `nested` or `open`. Lines that are empty or begin with `#` are written as they are, and ` ; ` begins a comment.
@@ -25,8 +27,10 @@ mod damage;
 mod growths;
 mod long;
 mod nested;
+mod recoded;
 mod report;
 mod source;
+mod table;
 mod trial;
 
 use std::alloc::Global;
@@ -70,6 +74,10 @@ fn print_request(
     if request.action == "long" {
         println!(rt; "{line}")?;
         return long::run(rt, alloc, request);
+    }
+    if request.action == "table" {
+        println!(rt; "{line}")?;
+        return table::run(rt, alloc);
     }
     match trial::answer_to(alloc, request) {
         Some(answer) => println!(rt; "{answer} <- {line}"),

@@ -2,6 +2,7 @@
 use crate::bytes::{beginnings_are_too_short, values_with_one_other_byte};
 use crate::damage::try_damage;
 use crate::growths::{try_growths, try_pieces};
+use crate::recoded::try_recoding;
 use crate::report::{Answer, Report};
 use asn1_dec::{Decode, DecodeError};
 use asn1_enc::Encode;
@@ -21,6 +22,8 @@ enum Action {
     Begun,
     /// To read with each other byte.
     Changed,
+    /// To recode to the tag form and back.
+    Recode,
 }
 
 impl Action {
@@ -32,6 +35,7 @@ impl Action {
             "pieces" => Some(Action::Pieces),
             "begun" => Some(Action::Begun),
             "changed" => Some(Action::Changed),
+            "recode" => Some(Action::Recode),
             _ => None,
         }
     }
@@ -46,7 +50,8 @@ pub(crate) struct Trial<'a> {
     pub(crate) codec: Codec,
     /// The greatest number of nested scopes.
     pub(crate) depth: usize,
-    bytes: &'a Vec<u8>,
+    /// The bytes of the value.
+    pub(crate) bytes: &'a Vec<u8>,
     action: Action,
 }
 
@@ -80,6 +85,7 @@ impl Trial<'_> {
             Action::Growths => try_growths(self, value),
             Action::Pieces => try_pieces(self, value),
             Action::Begun => beginnings_are_too_short::<T>(self, &self.written(&value)?),
+            Action::Recode => try_recoding(self, &value),
             Action::Changed => values_with_one_other_byte::<T>(self, &self.written(&value)?),
         }
     }
