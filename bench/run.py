@@ -24,10 +24,10 @@ best of five, less what it takes to make the values. With --values it prints the
 each node of a chain of 200, those of plain Rust, and how many times as many. Reading a Badge in packed form is compared a third time,
 with plain Rust that makes a table of the tags of its CHOICE.
 
-The next prints for each type that holds itself how many nested scopes a stack of 8 MiB holds in writing, reading and dropping. The
-one after it damages the bytes of a value of each sample type for this long, by one seed after another. Then it
-refuses each growth of memory in turn, while a value of each sample type is written and read, and writes an OCTET STRING of 2^32
-octets, which no item can hold. The last is bench/certificates.py.
+The next prints for each type that holds itself how many nested scopes a stack of 8 MiB holds in writing, reading and dropping.
+The one after it damages the bytes of a value of each sample type for this long, by one seed after another. Then it refuses each
+growth of memory in turn, while a value of each sample type is written and read and a list of tags is made, and writes an OCTET
+STRING of 2^32 octets, which no item can hold. The last is bench/certificates.py.
 """
 import os
 import resource
