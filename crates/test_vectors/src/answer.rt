@@ -22,7 +22,7 @@ pub(crate) enum Answer {
     /// The other codec reads no value.
     NoValue(DecodeError),
     /// The other codec does not write the value.
-    NotTold(EncodeError),
+    NotWrittenByOther(EncodeError),
 }
 
 /// The action of a request.
@@ -88,7 +88,7 @@ impl Question<'_> {
             .codec
             .read::<T>(self.alloc, &request.bytes, request.depth)
         {
-            Ok(value) => told(self.other.write(self.alloc, &value, ENOUGH)),
+            Ok(value) => written_by_other(self.other.write(self.alloc, &value, ENOUGH)),
             Err(error) => Answer::NotRead(error),
         }
     }
@@ -101,7 +101,7 @@ impl Question<'_> {
         {
             Ok((value, length)) => match self.other.write(self.alloc, &value, ENOUGH) {
                 Ok(written) => Answer::Front { written, length },
-                Err(error) => Answer::NotTold(error),
+                Err(error) => Answer::NotWrittenByOther(error),
             },
             Err(error) => Answer::NotRead(error),
         }
@@ -116,11 +116,11 @@ impl Question<'_> {
     }
 }
 
-/// The answer where the other codec tells what was read.
-fn told(written: Result<Vec<u8>, EncodeError>) -> Answer {
+/// The answer with the bytes, in the other codec, of the value that was read.
+fn written_by_other(written: Result<Vec<u8>, EncodeError>) -> Answer {
     match written {
         Ok(bytes) => Answer::Written(bytes),
-        Err(error) => Answer::NotTold(error),
+        Err(error) => Answer::NotWrittenByOther(error),
     }
 }
 
@@ -143,7 +143,10 @@ impl fmt::Display for Answer {
             Answer::NotRead(error) => write_refusal(f, "refused", *error),
             Answer::NotWritten(error) => write!(f, "not written: {error}"),
             Answer::NoValue(error) => write_refusal(f, "no value", *error),
-            Answer::NotTold(error) => write!(f, "a value that is not told: {error}"),
+            Answer::NotWrittenByOther(error) => write!(
+                f,
+                "a value that the other codec does not write: {error}"
+            ),
         }
     }
 }

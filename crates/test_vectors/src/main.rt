@@ -12,8 +12,9 @@
 //! `crates/test_calls/src/named_types.rt`. `BYTES` are in hexadecimal, with spaces wherever they help. Lines that are empty or begin
 //! with `#` are written as they are.
 //!
-//! The stored run is the test. The answers in `stdout` were made by hand or with another tool: a model of the three codecs in
-//! another language, X.690's examples and OpenSSL. The answer to bytes that are refused is the text of the error.
+//! The stored run is the test. The answers in `stdout` were made by hand or with another tool: X.690's examples, OpenSSL, and a
+//! model of the three codecs in Python, `bench/vectors.py`, which checks each line that has a value in two forms. The answer to
+//! bytes that are refused is the text of the error.
 #![tactic(auto)]
 
 mod answer;

@@ -1,0 +1,169 @@
+#!/usr/bin/env python3
+"""Checks lines of test_vectors by another program than the codecs.
+
+    python3 bench/vectors.py
+
+goes through crates/test_vectors/stdout. Where a line has a value in packed form or in the tag form and in another form, the other
+one is made here of the items alone, by the rules of docs/RECORDS_TO_BYTES.md and of X.690, and compared. It stops at the first that
+differs, and prints how many lines were checked. Left out are refusals, open types by themselves, lines of one form, and the four lines
+that read a component that is its DEFAULT, which is not written again.
+"""
+import os
+import sys
+
+ROOT = os.path.dirname(os.path.dirname(os.path.abspath(__file__)))
+LINES = os.path.join(ROOT, "crates", "test_vectors", "stdout")
+
+CONTENT, SET, SET_OF, ALTERNATIVE = 1, 3, 5, 7
+SCOPES = range(2, 8)
+MARKS = range(0x10, 0x15)
+BOOLEAN, NUMBER, DISCRIMINANT, ARCS, TELETEX = 1, 2, 3, 5, 15
+
+
+class NoItems(Exception):
+    """The bytes are no items."""
+
+
+def items_of(data):
+    """The items and presence marks of these bytes, as pairs and numbers."""
+    found, at = [], 0
+    while at < len(data):
+        kind = data[at]
+        if kind in MARKS:
+            found.append(kind)
+            at += 1
+            continue
+        if kind != CONTENT and kind not in SCOPES:
+            raise NoItems
+        tag = (data[at + 1], int.from_bytes(data[at + 2:at + 6], "big"))
+        at += 6
+        content = None
+        if kind == CONTENT:
+            content = data[at]
+            at += 1
+        length = int.from_bytes(data[at:at + 4], "big")
+        inside = data[at + 4:at + 4 + length]
+        if len(inside) != length:
+            raise NoItems
+        at += 4 + length
+        found.append((kind, tag, content, inside if kind == CONTENT else items_of(inside)))
+    return found
+
+
+def tag_form(items):
+    """The bytes of these items, without presence marks."""
+    out = b""
+    for item in items:
+        if item in MARKS:
+            continue
+        kind, (tag_class, number), content, inside = item
+        body = inside if kind == CONTENT else tag_form(inside)
+        head = bytes([kind, tag_class]) + number.to_bytes(4, "big")
+        out += head + (bytes([content]) if kind == CONTENT else b"") + len(body).to_bytes(4, "big") + body
+    return out
+
+
+def base_128(number):
+    """A number to the base 128, with bit 8 set in each octet but the last (X.690, 8.1.2.4 and 8.19.2)."""
+    digits = [number & 0x7F]
+    while number := number >> 7:
+        digits.append(number & 0x7F | 0x80)
+    return bytes(reversed(digits))
+
+
+def element(tag, constructed, contents):
+    """An element (X.690, 8.1 and 10.1)."""
+    tag_class, number = tag
+    first = tag_class << 6 | (0x20 if constructed else 0)
+    identifier = bytes([first | number]) if number < 31 else bytes([first | 31]) + base_128(number)
+    size = len(contents)
+    if size < 128:
+        return identifier + bytes([size]) + contents
+    octets = size.to_bytes((size.bit_length() + 7) // 8, "big")
+    return identifier + bytes([0x80 | len(octets)]) + octets + contents
+
+
+def contents_octets(content, inside):
+    """The contents octets of a content (X.690, 8.2 to 8.23)."""
+    if content == BOOLEAN:
+        return b"\xff" if inside == b"\x01" else b"\x00"
+    if content in (NUMBER, DISCRIMINANT):
+        magnitude = int.from_bytes(inside[1:], "big")
+        number = -magnitude if inside[0] else magnitude
+        bits = (-number - 1 if number < 0 else number).bit_length() + 1
+        return number.to_bytes((bits + 7) // 8, "big", signed=True)
+    if content == ARCS:
+        arcs = [int.from_bytes(inside[at:at + 4], "big") for at in range(0, len(inside), 4)]
+        return b"".join(base_128(arc) for arc in [arcs[0] * 40 + arcs[1], *arcs[2:]])
+    if content == TELETEX:
+        return bytes(int.from_bytes(inside[at:at + 4], "big") for at in range(0, len(inside), 4))
+    return inside
+
+
+def der_elements(items):
+    """The elements of DER of these items, each with the tag with which it begins (X.690, 8 to 11)."""
+    found = []
+    for item in items:
+        if item in MARKS:
+            continue
+        kind, tag, content, inside = item
+        if kind == CONTENT:
+            found.append((tag, element(tag, False, contents_octets(content, inside))))
+            continue
+        inner = der_elements(inside)
+        if kind == ALTERNATIVE:
+            found += inner
+            continue
+        if kind == SET:
+            inner.sort()
+        if kind == SET_OF:
+            inner.sort(key=lambda pair: pair[1])
+        found.append((tag, element(tag, True, b"".join(octets for _, octets in inner))))
+    return found
+
+
+def in_form(form, data):
+    """The bytes in this form of a value whose items these bytes are."""
+    items = items_of(data)
+    return tag_form(items) if form == "tag" else b"".join(octets for _, octets in der_elements(items))
+
+
+def sides(line):
+    """The two forms of a line and the bytes in each, and whether the first bytes were read; nothing if it is a refusal."""
+    words, answer = line.split(" ; ")[0].split(" -> ")
+    codec, _type, _depth, action, other, digits = (words + " ").split(" ", 5)
+    if answer.startswith("refused") or not all(part in "0123456789abcdef " for part in answer.split(" of ")[0]):
+        return None
+    asked, answered = bytes.fromhex(digits), bytes.fromhex(answer.split(" of ")[0])
+    if action == "front":
+        asked = asked[:int(answer.split(" of ")[1].split(" ")[0])]
+    return (codec, other, asked, answered) if action != "write" else (other, codec, asked, answered)
+
+
+def main():
+    if len(sys.argv) > 1:
+        return print(__doc__.strip())
+    checked = left = 0
+    with open(LINES) as lines:
+        for number, line in enumerate(lines, 1):
+            line = line.rstrip("\n")
+            if not line or line.startswith("#"):
+                continue
+            found = sides(line)
+            if found is None or " Any " in line or found[0] == found[1]:
+                left += 1
+                continue
+            form, other, asked, answered = found
+            if form == "der" or (form == "tag" and other == "packed"):
+                form, other, asked, answered = other, form, answered, asked
+            made = in_form(other, asked)
+            if made == answered:
+                checked += 1
+            elif " default" in line:
+                left += 1
+            else:
+                sys.exit(f"line {number}: {line}\nmade: {made.hex(' ')}")
+    print(f"{checked} lines checked, {left} left out")
+
+
+main()
