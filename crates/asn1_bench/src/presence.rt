@@ -3,7 +3,7 @@ ghost use Rattle.asn1_bounds.specs.declared.codec.Codec.{Codec};
 ghost use Rattle.asn1_buffers.specs.MarksAndContents.{kind_of_mark};
 ghost use Rattle.asn1_laws.specs.Reading.{marks_passed};
 ghost use Rattle.asn1_components.specs.ComponentLists.{trees_of};
-ghost use Rattle.asn1_components.specs.Components.{all_components, lines};
+ghost use Rattle.asn1_components.specs.Components.{all_components, rows};
 ghost use Rattle.asn1_items.specs.Items.{HaveBytes, MarkBytes, read_with};
 ghost use Rattle.asn1_items.specs.Slices.{left_inside};
 ghost use Rattle.asn1_model.specs.Records.{PresenceMark, Record, Side, absent, group_absent, group_end, group_start, held, present};
@@ -50,7 +50,7 @@ pub trait Presence {
     /// # Errors
     /// As `component`.
     fn group<C: FieldTable>(slices: &mut Slices<'_>) -> Result<bool, ItemError>
-        ensures found { FindsPresence mark_bytes (group_start (lines C.components)) group_absent
+        ensures found { FindsPresence mark_bytes (group_start (rows C.components)) group_absent
             (tree_tags (choice (trees_of (all_components C.components))))
             slices.old slices.new result }
         ensures keeps_outside { KeepsOutside slices.old slices.new };

@@ -16,7 +16,7 @@ use Rattle.asn1_model.proofs.SameUpToOrder.{SameRecord-trans}
 use Rattle.asn1_model.specs.Composites.{group_records}
 use Rattle.asn1_model.specs.Orders.{at_end, one_by_one, next}
 use Rattle.asn1_model.specs.Records.{Content, Head, Record, height, holding}
-use Rattle.asn1_model.specs.RecordTables.{Line, Table}
+use Rattle.asn1_model.specs.RecordTables.{Row, Table}
 use Rattle.asn1_rules.specs.Rules.{IsNotWritten}
 use Rattle.asn1_types.specs.AnyStrings.{content_of_str}
 use Rattle.asn1_types.specs.declared.any_string.AnyStr.{AnyStr}
@@ -118,7 +118,7 @@ module _ {B : Type 0} (F : BufferForm B) where
   scope_is_not_closed old new e rejected not_deep other was now = record { error = is_error old new e other was now; not_too_deep = not_deep; rejected = rejected }
 
   -- groups
-  pub group_is_opened : (old new : BufferEncoder B) (table : Table Line) → ((w : Written) → F.wrote old.buffer w → F.wrote new.buffer (in_group table [] w)) → new.limit ≡ old.limit →
+  pub group_is_opened : (old new : BufferEncoder B) (table : Table Row) → ((w : Written) → F.wrote old.buffer w → F.wrote new.buffer (in_group table [] w)) → new.limit ≡ old.limit →
       old.failed ≡ false → new.failed ≡ false → new.depth_left ≡ old.depth_left → GroupIsOpen (in_one_order F) old table new
   group_is_opened old new table opened limit was now same = record {
     opened = λ w wrote. (opened w wrote.0, omega (arith, wrote.1, limit, same));
@@ -127,11 +127,11 @@ module _ {B : Type 0} (F : BufferForm B) where
     same_depth = same;
   }
 
-  pub group_is_not_opened : {table : Table Line} (old new : BufferEncoder B) (e : EncodeError) → ¬ IsRejection e → e ≢ Depth → e ≢ Failed → old.failed ≡ false → new.failed ≡ true →
+  pub group_is_not_opened : {table : Table Row} (old new : BufferEncoder B) (e : EncodeError) → ¬ IsRejection e → e ≢ Depth → e ≢ Failed → old.failed ≡ false → new.failed ≡ true →
       GroupIsNotOpen (in_one_order F) old table new e
   group_is_not_opened old new e not_custom not_deep other was now = record { error = is_error old new e other was now; not_too_deep = not_deep; rejected = λ custom rs. absurd (not_custom custom) }
 
-  pub group_is_closed : (old new : BufferEncoder B) → ((table : Table Line) (rs : List Record) (w : Written) → F.wrote old.buffer (in_group table rs w) → F.wrote new.buffer (followed_by w (group_records table (Some rs)))) →
+  pub group_is_closed : (old new : BufferEncoder B) → ((table : Table Row) (rs : List Record) (w : Written) → F.wrote old.buffer (in_group table rs w) → F.wrote new.buffer (followed_by w (group_records table (Some rs)))) →
       new.limit ≡ old.limit → old.failed ≡ false → new.failed ≡ false → new.depth_left ≡ old.depth_left → GroupIsClosed (in_one_order F) old new
   group_is_closed old new closed limit was now same = record {
     closed = λ table rs w wrote. (closed table rs w wrote.0, omega (arith, wrote.1, limit, same, scopes_in-followed w (group_records table (Some rs))));
@@ -140,7 +140,7 @@ module _ {B : Type 0} (F : BufferForm B) where
     same_depth = same;
   }
 
-  pub group_is_not_closed : (old new : BufferEncoder B) (e : EncodeError) → (IsRejection e → (table : Table Line) (rs : List Record) (w : Written) → ¬ F.wrote old.buffer (in_group table rs w)) →
+  pub group_is_not_closed : (old new : BufferEncoder B) (e : EncodeError) → (IsRejection e → (table : Table Row) (rs : List Record) (w : Written) → ¬ F.wrote old.buffer (in_group table rs w)) →
       e ≢ Depth → e ≢ Failed → old.failed ≡ false → new.failed ≡ true → GroupIsNotClosed (in_one_order F) old new e
   group_is_not_closed old new e none not_deep other was now = record {
     error = is_error old new e other was now;

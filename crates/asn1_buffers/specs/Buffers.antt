@@ -6,7 +6,7 @@ use Rattle.asn1_laws.specs.Writing.{Written, followed_by, in_group, in_scope}
 use Rattle.asn1_model.specs.Composites.{group_records}
 use Rattle.asn1_model.specs.Orders.{SameRecord}
 use Rattle.asn1_model.specs.Records.{Head, Record, holding}
-use Rattle.asn1_model.specs.RecordTables.{Line, Table}
+use Rattle.asn1_model.specs.RecordTables.{Row, Table}
 
 -- The description of a buffer: the records that it has written, in their very order; the records that it rejects; and the bytes of
 -- records.
@@ -42,10 +42,10 @@ module _ {B : Type 0} (F : BufferForm B) where
       OnOk result (F.wrote new (followed_by w (holding h rs ∷ [])))
 
   -- a call that begins a group of additions
-  abbrev pub BeginsGroup : {A : Type 0} → B → Table Line → B → Result A WriteError → Type 0
+  abbrev pub BeginsGroup : {A : Type 0} → B → Table Row → B → Result A WriteError → Type 0
   BeginsGroup old table new result = MatchResult result (λ _. (w : Written) → F.wrote old w → F.wrote new (in_group table [] w)) (λ e. e ≡ Memory)
 
   -- a call that ends the innermost group, which is absent where its components are presence marks alone
   abbrev pub EndsGroup : {A : Type 0} → B → B → Result A WriteError → Type 0
-  EndsGroup old new result = (table : Table Line) (rs : List Record) (w : Written) → F.wrote old (in_group table rs w) →
+  EndsGroup old new result = (table : Table Row) (rs : List Record) (w : Written) → F.wrote old (in_group table rs w) →
       MatchResult result (λ _. F.wrote new (followed_by w (group_records table (Some rs)))) (λ e. e ≡ Memory)

@@ -10,7 +10,7 @@ ghost use Rattle.asn1_items.specs.Kinds.{kind_of_scope};
 ghost use Rattle.asn1_model.specs.ConstraintSets.{ConstraintSet};
 ghost use Rattle.asn1_model.specs.Records as model;
 ghost use Rattle.asn1_model.specs.Records.{Head, Name, PresenceMark, Record, open_type, presence_mark, scalar};
-ghost use Rattle.asn1_model.specs.RecordTables.{Line, Table};
+ghost use Rattle.asn1_model.specs.RecordTables.{Row, Table};
 ghost use Rattle.asn1_model.specs.Tags.{head_tag};
 ghost use Rattle.std.specs.Prelude.{◌≡◌, [], List};
 
@@ -73,7 +73,7 @@ pub trait RecordBuffer: Drop + Sized {
 
     /// Begins a group of additions.
     fn begin_group(&mut self) -> Result<(), WriteError>
-        ensures { (table : Table Line) → BeginsGroup form self.old table self.new result };
+        ensures { (table : Table Row) → BeginsGroup form self.old table self.new result };
 
     /// Ends the innermost group.
     fn end_group(&mut self) -> Result<(), WriteError>

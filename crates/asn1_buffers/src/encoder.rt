@@ -39,7 +39,7 @@ impl<B: RecordBuffer> BufferEncoder<B> {
     ghost use Rattle.asn1_model.specs.ConstraintSets.{ConstraintSet};
     ghost use Rattle.asn1_model.specs.Records as model;
     ghost use Rattle.asn1_model.specs.Records.{Name, presence_mark, open_type, scalar};
-    ghost use Rattle.asn1_model.specs.RecordTables.{Line, Table};
+    ghost use Rattle.asn1_model.specs.RecordTables.{Row, Table};
     ghost use Rattle.asn1_model.specs.Tags.{head_tag};
     ghost use Rattle.std.specs.Prelude.{◌≡◌, ◌≢◌, ◌∷◌, [], ⊤, IsErr, List, false, true};
 
@@ -188,7 +188,7 @@ impl<B: RecordBuffer> BufferEncoder<B> {
     /// Opens a group.
     #[inline(always)]
     fn open_inner_group(&mut self) -> Result<(), EncodeError>
-        ensures { (table : Table Line) →
+        ensures { (table : Table Row) →
             OpensGroup (buffer_writer B.form) self.old table self.new result }
     {
         if self.failed {

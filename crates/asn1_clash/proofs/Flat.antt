@@ -6,7 +6,7 @@ use Rattle.asn1_tags.specs.declared.tags.Tag.{Tag}
 use Rattle.asn1_tags.proofs.Leaves.{leaf_of}
 use Rattle.asn1_fields.specs.CanonicalOrder.{canonical}
 use Rattle.asn1_fields.specs.DistinctTags.{IsLeast, IsSequenceClash, IsSetClash, sequence_clash, set_clash}
-use Rattle.asn1_fields.specs.Entries.{Component}
+use Rattle.asn1_fields.specs.FieldViews.{Component}
 use Rattle.asn1_fields.proofs.AlikeTables.{look_at, sequence_clash-alike, set_clash-alike, canonical-alike}
 use Rattle.asn1_fields.proofs.Clashes.{sequence_clash-is, set_clash-is}
 use Rattle.asn1_clash.specs.Flat.{side_by_side, flat_tree, flat, flat_component}

@@ -25,7 +25,7 @@ use Rattle.asn1_tags.specs.Trees.{is_open, leaves}
 use Rattle.asn1_tags.specs.Walks.{have_common_tag}
 use Rattle.asn1_tags.proofs.Smallest.{IsAtMost-from_not_less, IsAtMost-antisym}
 use Rattle.asn1_tags.proofs.TagListTests.{tag_eq-true, tag_eq-refl}
-use Rattle.asn1_fields.specs.Entries.{Component}
+use Rattle.asn1_fields.specs.FieldViews.{Component}
 use Rattle.asn1_fields.specs.DistinctTags.{IsLeast, IsSetClash, IsUpTo, set_clash}
 use Rattle.asn1_fields.proofs.Clashes.{set_clash-is}
 use Rattle.asn1_fields.proofs.SharedTags.{open_or_leaf, tag-from_open_or_leaf, ShareTag-from_test}

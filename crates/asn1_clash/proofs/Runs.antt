@@ -7,7 +7,7 @@ use Rattle.std.proofs.lemmas.Bool.{false≢true}
 use Rattle.std.proofs.lemmas.Bool.Decides.{nat_tests}
 use Rattle.std.proofs.lemmas.List.{length-map, take-map, drop-map}
 use Rattle.std.proofs.lemmas.Option.{slice_get_within}
-use Rattle.asn1_fields.specs.Entries.{Component, may_be_absent}
+use Rattle.asn1_fields.specs.FieldViews.{Component, may_be_absent}
 use Rattle.asn1_fields.specs.DistinctTags.{sequence_clash, set_clash, share_tag, up_to_required, IsLeast, IsSetClash}
 use Rattle.asn1_fields.proofs.Clashes.{set_clash-is}
 use Rattle.asn1_fields.proofs.ClashSearches.{shifted, shifted-shifted}

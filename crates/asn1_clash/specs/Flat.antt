@@ -2,7 +2,7 @@
 use Rattle.std.specs.Prelude.{Bool, if◌then◌else◌, List, [], ◌∷◌}
 use Rattle.asn1_tags.specs.Trees.{Tree, Trees, leaf, choice, none, more, leaves, is_open}
 use Rattle.asn1_tags.specs.declared.tags.Tag.{Tag}
-use Rattle.asn1_fields.specs.Entries.{Component}
+use Rattle.asn1_fields.specs.FieldViews.{Component}
 
 -- leaves side by side, and after them a choice of nothing if there is one
 abbrev pub side_by_side : List Tag → Bool → Trees

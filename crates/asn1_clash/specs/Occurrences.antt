@@ -5,7 +5,7 @@ use Rattle.std.specs.Ordering.{nat_cmp, on, then_cmp}
 use Rattle.asn1_tags.specs.Tags.{tag_cmp, tag_eq}
 use Rattle.asn1_tags.specs.Trees.{is_open, leaves}
 use Rattle.asn1_tags.specs.declared.tags.Tag.{Tag}
-use Rattle.asn1_fields.specs.Entries.{Component}
+use Rattle.asn1_fields.specs.FieldViews.{Component}
 use Rattle.asn1_clash.specs.declared.search.Occurrence.{Occurrence}
 
 -- the leaves of the component at an index

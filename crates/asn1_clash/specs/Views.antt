@@ -1,7 +1,7 @@
 -- The values that the types of this crate represent.
 use Rattle.std.specs.Prelude.{◌≡◌, ◌++◌, ◌||◌, List, map}
 use Rattle.asn1_tags.specs.Trees.{Tree, leaves, is_open}
-use Rattle.asn1_fields.specs.Entries.{Component}
+use Rattle.asn1_fields.specs.FieldViews.{Component}
 use Rattle.asn1_clash.specs.Flat.{flat_tree}
 use Rattle.asn1_clash.specs.declared.flat_component.FlatComponent.{FlatComponent}
 use Rattle.asn1_clash.specs.declared.flat_tree.FlatTree.{FlatTree}

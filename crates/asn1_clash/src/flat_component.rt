@@ -2,7 +2,7 @@
 ghost use Rattle.std.specs.Prelude.{◌≡◌, map, IfOk};
 ghost use Rattle.asn1_tags.specs.Trees.{is_open, leaves};
 ghost use Rattle.asn1_fields.specs.CanonicalOrder.{in_order, smallest_tag};
-ghost use Rattle.asn1_fields.specs.Entries.{component_of, components, entry_of, may_be_absent};
+ghost use Rattle.asn1_fields.specs.FieldViews.{component_of, components, view_of, may_be_absent};
 ghost use Rattle.asn1_clash.specs.Flat.{flat_component};
 
 use crate::flat_tree::FlatTree;
@@ -25,7 +25,7 @@ impl FlatComponent {
     /// The flat component of a line of a field table.
     pub fn of_field(alloc: Global, field: &Field<'_>) -> Result<FlatComponent, AllocError>
         ensures flattened { IfOk result (λ component.
-            component_view component ≡ flat_component (component_of (entry_of field.now))) }
+            component_view component ≡ flat_component (component_of (view_of field.now))) }
     {
         Ok(FlatComponent {
             presence: field.presence,

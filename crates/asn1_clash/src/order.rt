@@ -1,7 +1,7 @@
 //! The canonical order of components.
 ghost use Rattle.std.specs.Prelude.{◌≡◌, ◌↔◌, List, map, IsTrue};
 ghost use Rattle.asn1_fields.specs.CanonicalOrder.{IsCanonical, canonical};
-ghost use Rattle.asn1_fields.specs.Entries.{Component};
+ghost use Rattle.asn1_fields.specs.FieldViews.{Component};
 ghost use Rattle.asn1_clash.specs.Flat.{flat_component};
 ghost use Rattle.asn1_clash.specs.Views.{components_view};
 

@@ -3,7 +3,7 @@ ghost use Rattle.std.specs.Prelude.{◌≡◌, List, length, map, not, position,
 ghost use Rattle.std.specs.List.Sorted.{IsSorted};
 ghost use Rattle.asn1_tags.specs.Trees.{is_open};
 ghost use Rattle.asn1_fields.specs.DistinctTags.{IsLeast, IsSequenceClash, IsSetClash, sequence_clash, set_clash, up_to_required};
-ghost use Rattle.asn1_fields.specs.Entries.{Component, may_be_absent};
+ghost use Rattle.asn1_fields.specs.FieldViews.{Component, may_be_absent};
 ghost use Rattle.asn1_clash.specs.Flat.{flat_component};
 ghost use Rattle.asn1_clash.specs.Views.{component_view, components_view};
 ghost use Rattle.asn1_clash.specs.Occurrences.{HasOpen, OccursTwice, lesser_pair, occurrence_cmp, occurrences, pair_less, pair_of};

@@ -9,7 +9,7 @@ use Rattle.asn1_tags.specs.Trees.{Tree, choice}
 use Rattle.asn1_model.specs.Records.{Record}
 use Rattle.asn1_model.specs.Tags.{Has, ShareNone, among, tree_tags, first_tags}
 use Rattle.asn1_fields.specs.DistinctTags.{share_tag, rivals, up_to_required, first_clash, sequence_clash, set_clash}
-use Rattle.asn1_fields.specs.Entries.{Component, may_be_absent}
+use Rattle.asn1_fields.specs.FieldViews.{Component, may_be_absent}
 use Rattle.asn1_tags.proofs.ListPositions.{position-missing}
 use Rattle.asn1_fields.proofs.SharedTags.{test-from_ShareTag}
 use Rattle.asn1_model.proofs.FirstTags.{first_passes, first_stays}

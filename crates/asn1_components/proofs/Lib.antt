@@ -2,7 +2,7 @@ pub mod DistinctFollowers
 pub mod TableOrder
 pub mod ContentsOfValues
 pub mod TableLengths
-mod AlternativeLines
+mod AlternativeRows
 mod Variants
 pub mod LabelSearches
 pub mod LabelsOfValues

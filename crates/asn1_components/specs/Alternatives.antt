@@ -8,7 +8,7 @@ use Rattle.asn1_tags.specs.Trees.{Trees, none, more, is_open, leaves_of}
 use Rattle.asn1_model.specs.ConstraintSets.{ConstraintSet, unconstrained}
 use Rattle.asn1_model.specs.WellFormed.{AreWellFormed}
 use Rattle.asn1_model.specs.Records.{Record}
-use Rattle.asn1_model.specs.RecordTables.{Line, Table}
+use Rattle.asn1_model.specs.RecordTables.{Row, Table}
 use Rattle.asn1_model.specs.TaggedTypes.{TaggedType}
 
 -- An alternative is a named type (X.680, 29.1): a name, and a type under a tag.
@@ -51,19 +51,19 @@ added_trees_of (closed root) = None
 added_trees_of (extensible root added) = Some (trees_of added)
 
 -- their table, as records have it
-abbrev pub line_of : Alternative → Line
-line_of a = record { name = a.name; tree = a.type.tree; may_be_absent = false }
+abbrev pub row_of : Alternative → Row
+row_of a = record { name = a.name; tree = a.type.tree; may_be_absent = false }
 
-abbrev pub table_of : Alternatives → Table Line
-table_of (closed root) = record { root = map line_of root; additions = None }
-table_of (extensible root added) = record { root = map line_of root; additions = Some (map line_of added) }
+abbrev pub table_of : Alternatives → Table Row
+table_of (closed root) = record { root = map row_of root; additions = None }
+table_of (extensible root added) = record { root = map row_of root; additions = Some (map row_of added) }
 
--- all lines of a table, those of the root first
-abbrev pub all_lines : Table Line → List Line
-all_lines table = table.root ++ unwrap_or table.additions []
+-- all rows of a table, those of the root first
+abbrev pub all_rows : Table Row → List Row
+all_rows table = table.root ++ unwrap_or table.additions []
 
--- the tags with which what is in each of some lines can begin
-abbrev pub trees_in : List Line → Trees
+-- the tags with which what is in each of some rows can begin
+abbrev pub trees_in : List Row → Trees
 trees_in [] = none
 trees_in (l ∷ ls) = more l.tree (trees_in ls)
 

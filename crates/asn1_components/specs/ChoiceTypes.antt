@@ -6,7 +6,7 @@ use Rattle.asn1_tags.specs.Trees.{Trees, choice, none}
 use Rattle.asn1_model.specs.ConstraintSets.{ConstraintSet, unconstrained}
 use Rattle.asn1_model.specs.WellFormed.{well_formed_choice}
 use Rattle.asn1_model.specs.Records.{Name}
-use Rattle.asn1_model.specs.RecordTables.{Line, Table, no_table}
+use Rattle.asn1_model.specs.RecordTables.{Row, Table, no_table}
 use Rattle.asn1_model.specs.Tags.{CHOICE, Has, first_tag, tree_tags}
 use Rattle.asn1_model.specs.Composites.{choice_records}
 use Rattle.asn1_model.specs.Meaning.{Meaning}
@@ -16,7 +16,7 @@ use Rattle.asn1_components.specs.ChosenTags.{chosen_tag, chosen_is_among}
 
 -- A CHOICE (X.680, 29) by its name, the table and the trees of its alternatives, whether they can be chosen, and what the
 -- chosen one says of each value.
-abbrev pub choice_by : {V : Type 0} → List ℕ → Table Line → (alternatives : Trees) →
+abbrev pub choice_by : {V : Type 0} → List ℕ → Table Row → (alternatives : Trees) →
     (CanChoose : Type 0) → (means : V → ValueMeaning) →
     (CanChoose → (v : V) → Has (tree_tags (choice alternatives)) (first_tag (means v).records)) → Meaning V
 choice_by name table alternatives CanChoose means is_among = choice_type (Some name) unconstrained
@@ -43,12 +43,12 @@ module _ {V : Type 0} (name : List ℕ) (alts : Alternatives) (pick : V → OneO
 
 -- The meaning of a CHOICE that holds itself to its own alternatives, without any premise. There it has to be under a tag:
 -- without one it may begin with every tag, and so is no alternative.
-abbrev pub inside_itself : {V : Type 0} → List ℕ → Table Line → (V → ValueMeaning) → Meaning V
+abbrev pub inside_itself : {V : Type 0} → List ℕ → Table Row → (V → ValueMeaning) → Meaning V
 inside_itself name table means = choice_by name table none ⊤ means (λ _ _. tt)
 
 -- The table of a CHOICE that holds itself, by its alternatives beside what it is to them: the table rests on nothing that it
 -- says of values.
-abbrev pub table_with_itself : {V : Type 0} → List ℕ → (Meaning V → Alternatives) → Table Line
+abbrev pub table_with_itself : {V : Type 0} → List ℕ → (Meaning V → Alternatives) → Table Row
 table_with_itself name alternatives_with =
     table_of (alternatives_with (inside_itself name no_table (λ _. no_meaning)))
 
@@ -68,7 +68,7 @@ choice_holding_itself name alternatives_with means pick agree =
     choice_by_meanings name (alternatives_with_itself name alternatives_with means) pick means agree
 
 -- the meaning of a value as the alternative that is the CHOICE itself under this tag, by its meaning in the CHOICE
-abbrev pub itself_under : List ℕ → Table Line → Tag → ValueMeaning → ValueMeaning
+abbrev pub itself_under : List ℕ → Table Row → Tag → ValueMeaning → ValueMeaning
 itself_under name table t meaning = record meaning {
   records = choice_records (first_tag meaning.records) table meaning.records unconstrained (Some name) t
       unconstrained (Some name);

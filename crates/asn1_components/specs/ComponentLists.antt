@@ -7,11 +7,11 @@ use Rattle.asn1_tags.specs.Trees.{Tree, Trees, choice, leaves, none, more}
 use Rattle.asn1_model.specs.Composites.{group_records}
 use Rattle.asn1_model.specs.Records.{Record, Side, presence_mark, group_start, group_end, group_absent, presence_marks_alone}
 use Rattle.asn1_model.specs.WellFormed.{AreWellFormed, well_formed_append}
-use Rattle.asn1_model.specs.RecordTables.{Line, Table}
+use Rattle.asn1_model.specs.RecordTables.{Row, Table}
 use Rattle.asn1_model.specs.Tags.{CHOICE, BeginsWithin, LiesIn, tree_tags, first_tags}
 use Rattle.asn1_model.proofs.FirstTags.{begins_before, first_passes, first_stays, alone_append}
 use Rattle.asn1_model.proofs.TagSets.{in_first_tree, in_later_trees}
-use Rattle.asn1_fields.specs.Entries.{Component, Entry, may_be_absent}
+use Rattle.asn1_fields.specs.FieldViews.{Component, FieldView, may_be_absent}
 use Rattle.asn1_fields.specs.DistinctTags.{sequence_clash, set_clash}
 use Rattle.asn1_fields.specs.declared.presence.FieldPresence.TheVariants.{Optional}
 use Rattle.asn1_components.specs.ComponentTypes.{ComponentType, Fits}
@@ -26,14 +26,14 @@ abbrev pub tagged_components : {V : Type 0} → List (ComponentType V) → List 
 tagged_components [] = []
 tagged_components (c ∷ cs) = record { presence = c.presence; tree = c.tree } ∷ tagged_components cs
 
--- a component's line in a table, with its index
-abbrev pub entry_at : {V : Type 0} → ℕ → ComponentType V → Entry
-entry_at k c = record { index = k; tag = c.tag; tree = c.tree; presence = c.presence; name = c.name }
+-- a component's row in a table, with its index
+abbrev pub view_at : {V : Type 0} → ℕ → ComponentType V → FieldView
+view_at k c = record { index = k; tag = c.tag; tree = c.tree; presence = c.presence; name = c.name }
 
--- the lines of all, in the order of the definition; the index of the first is given
-abbrev pub entries_from : {V : Type 0} → ℕ → List (ComponentType V) → List Entry
-entries_from k [] = []
-entries_from k (c ∷ cs) = entry_at k c ∷ entries_from (k + 1) cs
+-- the rows of all, in the order of the definition; the index of the first is given
+abbrev pub views_from : {V : Type 0} → ℕ → List (ComponentType V) → List FieldView
+views_from k [] = []
+views_from k (c ∷ cs) = view_at k c ∷ views_from (k + 1) cs
 
 -- the trees of all
 abbrev pub trees_of : {V : Type 0} → List (ComponentType V) → Trees
@@ -78,14 +78,14 @@ all_well_formed (c ∷ cs) accepts v valid = well_formed_append accepts (c.recor
     (c.well_formed accepts v valid.0) (all_well_formed cs accepts v valid.1)
 
 -- and so are those of a group of them
-well_formed_between : (table : Table Line) (accepts : List ℕ → Bool) (rs : List Record) (b : Bool) →
+well_formed_between : (table : Table Row) (accepts : List ℕ → Bool) (rs : List Record) (b : Bool) →
     AreWellFormed accepts rs →
     AreWellFormed accepts (if b then presence_mark group_absent ∷ [] else presence_mark (group_start table) ∷ rs ++ presence_mark group_end ∷ [])
 well_formed_between table accepts rs true are = (tt, tt)
 well_formed_between table accepts rs false are =
     (tt, well_formed_append accepts rs (presence_mark group_end ∷ []) are (tt, tt))
 
-pub group_well_formed : {W : Type 0} (table : Table Line) (cs : List (ComponentType W))
+pub group_well_formed : {W : Type 0} (table : Table Row) (cs : List (ComponentType W))
     (accepts : List ℕ → Bool) (o : Option W) →
     IfSome o (λ w. EachIsValid cs accepts w × (presence_marks_alone (all_records cs w) ≡ false)) →
     AreWellFormed accepts (group_records table (option_map (all_records cs) o))
@@ -126,7 +126,7 @@ begins_with_one : {V : Type 0} (cs : List (ComponentType V)) → EachIsWellTagge
 begins_with_one [] can v some = cc
 begins_with_one (c ∷ cs) can v some = first_or_later c cs v some (c.fits can.0 v) (begins_with_one cs can.1 v)
 
-between_marks : (table : Table Line) (tree : Tree) (rs : List Record) (b : Bool) →
+between_marks : (table : Table Row) (tree : Tree) (rs : List Record) (b : Bool) →
     presence_marks_alone rs ≡ b → (presence_marks_alone rs ≡ false → BeginsWithin (tree_tags tree) rs) →
     Fits Optional tree (if b then presence_mark group_absent ∷ [] else presence_mark (group_start table) ∷ rs ++ presence_mark group_end ∷ [])
 between_marks table tree rs true e f = inr (refl, refl)
@@ -134,7 +134,7 @@ between_marks table tree rs false e f =
     let h = begins_before (tree_tags tree) rs (presence_mark group_end ∷ []) (f e) in
     inl (record { some = h.some; within = h.within })
 
-pub group_fits : {W : Type 0} (table : Table Line) (cs : List (ComponentType W)) →
+pub group_fits : {W : Type 0} (table : Table Row) (cs : List (ComponentType W)) →
     EachIsWellTagged cs → (o : Option W) →
     Fits Optional (choice (trees_of cs)) (group_records table (option_map (all_records cs) o))
 group_fits table cs can None = inr (refl, refl)
@@ -144,7 +144,7 @@ group_fits table cs can (Some w) =
 
 -- A group of additions (X.680, 25.1, "ExtensionAdditionGroup"): it has the tags of all of its components, and one that is
 -- there writes a component. It has a table of its own. Its marks say no side, so it can also be inside another group.
-abbrev pub group_of : {V W : Type 0} → List ℕ → (V → Option W) → Table Line →
+abbrev pub group_of : {V W : Type 0} → List ℕ → (V → Option W) → Table Row →
     List (ComponentType W) → ComponentType V
 group_of name get table cs = record {
   name = name;

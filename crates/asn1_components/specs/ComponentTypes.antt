@@ -10,7 +10,7 @@ use Rattle.asn1_model.specs.WellFormed.{AreWellFormed, well_formed_option}
 use Rattle.asn1_model.specs.TaggedTypes.{TaggedType}
 use Rattle.asn1_model.specs.Tags.{BeginsWithin, tree_tags}
 use Rattle.asn1_model.proofs.FirstTags.{one_begins, present_begins}
-use Rattle.asn1_fields.specs.Entries.{may_be_absent}
+use Rattle.asn1_fields.specs.FieldViews.{may_be_absent}
 use Rattle.asn1_fields.specs.declared.presence.FieldPresence.{FieldPresence}
 use Rattle.asn1_fields.specs.declared.presence.FieldPresence.TheVariants.{Required, Optional, Default}
 

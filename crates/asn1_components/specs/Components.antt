@@ -1,4 +1,4 @@
--- The components of a SEQUENCE, a SET or a group, each written once: the records of a value, the lines of the field table,
+-- The components of a SEQUENCE, a SET or a group, each written once: the records of a value, the rows of the field table,
 -- whether the tags are distinct, and which values are valid follow from them.
 use Rattle.std.specs.Prelude.{◌≡◌, ◌↔◌, ℕ, ⊤, Bool, true, false, List, [], ◌∷◌, ◌++◌, drop, length, map, take, Option, None, Some, refl, if◌then◌else◌}
 use Rattle.asn1_tags.specs.declared.tags.Tag.{Tag}
@@ -7,11 +7,11 @@ use Rattle.asn1_model.specs.ConstraintSets.{ConstraintSet, unconstrained}
 use Rattle.asn1_model.specs.Kinds.{Inside, scope_type}
 use Rattle.asn1_model.specs.Meaning.{Meaning}
 use Rattle.asn1_model.specs.Records.{Name, Record, Head, in_additions, in_root, sequence as sequence_head, set as set_head, holding}
-use Rattle.asn1_model.specs.RecordTables.{Line, Table, no_table}
+use Rattle.asn1_model.specs.RecordTables.{Row, Table, no_table}
 use Rattle.asn1_model.specs.Tags.{IsATag, HasOwnTag, universal}
 use Rattle.asn1_fields.specs.CanonicalOrder.{in_order}
-use Rattle.asn1_fields.specs.Entries.{Entry, component_of, line_of}
-use Rattle.asn1_components.specs.ComponentLists.{all_records, entries_from, EachIsWellTagged, EachCanBeOn, EachMayBeAbsent, EachIsOfType, EachIsValid, all_well_formed, AreDistinctInSequence, AreDistinctInSet, CanBeInSequence, group_fits, group_of}
+use Rattle.asn1_fields.specs.FieldViews.{FieldView, component_of, row_of}
+use Rattle.asn1_components.specs.ComponentLists.{all_records, views_from, EachIsWellTagged, EachCanBeOn, EachMayBeAbsent, EachIsOfType, EachIsValid, all_well_formed, AreDistinctInSequence, AreDistinctInSet, CanBeInSequence, group_fits, group_of}
 use Rattle.asn1_components.specs.ComponentTypes.{ComponentType}
 
 -- A SEQUENCE (X.680, 25) or a SET (27); a group is a SEQUENCE here.
@@ -44,18 +44,18 @@ extensible_sequence root additions = record { kind = is_sequence; root = root; e
 abbrev pub extensible_set : {V : Type 0} → List (ComponentType V) → List (ComponentType V) → Components V
 extensible_set root additions = record { kind = is_set; root = root; extension = marker additions }
 
--- the entry, at its place among entries in canonical order
-abbrev pub insert_in_order : Entry → List Entry → List Entry
+-- the field, at its index among fields in canonical order
+abbrev pub insert_in_order : FieldView → List FieldView → List FieldView
 insert_in_order e [] = e ∷ []
 insert_in_order e (f ∷ fs) = if in_order (component_of e) (component_of f) then e ∷ f ∷ fs else f ∷ insert_in_order e fs
 
--- the entries in canonical order: by the smallest tag of each (X.680, 8.6)
-abbrev pub in_canonical_order : List Entry → List Entry
+-- the fields in canonical order: by the smallest tag of each (X.680, 8.6)
+abbrev pub in_canonical_order : List FieldView → List FieldView
 in_canonical_order [] = []
 in_canonical_order (e ∷ es) = insert_in_order e (in_canonical_order es)
 
 -- the table of the root: of a SEQUENCE in the order of the definition, of a SET in canonical order
-abbrev pub table_of_kind : Kind → List Entry → List Entry
+abbrev pub table_of_kind : Kind → List FieldView → List FieldView
 table_of_kind is_sequence es = es
 table_of_kind is_set es = in_canonical_order es
 
@@ -65,11 +65,11 @@ AreDistinctIn is_sequence cs = AreDistinctInSequence cs
 AreDistinctIn is_set cs = AreDistinctInSet cs
 
 -- the head of a value's record
-abbrev pub head_of_kind : Kind → Tag → Table Line → Name → Head
+abbrev pub head_of_kind : Kind → Tag → Table Row → Name → Head
 head_of_kind is_sequence t table n = sequence_head t table n
 head_of_kind is_set t table n = set_head t table n
 
-pub head_has_tag : (kind : Kind) (t : Tag) (table : Table Line) (n : Name) →
+pub head_has_tag : (kind : Kind) (t : Tag) (table : Table Row) (n : Name) →
     HasOwnTag t (head_of_kind kind t table n)
 head_has_tag is_sequence t table n = refl
 head_has_tag is_set t table n = refl
@@ -94,13 +94,13 @@ abbrev pub index_of_marker : {V : Type 0} → Extension V → ℕ → Option ℕ
 index_of_marker no_marker k = None
 index_of_marker (marker additions) k = Some k
 
--- these lines after the extension marker, if there is one
-abbrev pub after_marker : {V : Type 0} → Extension V → List Line → Option (List Line)
-after_marker no_marker lines = None
-after_marker (marker additions) lines = Some lines
+-- these rows after the extension marker, if there is one
+abbrev pub after_marker : {V : Type 0} → Extension V → List Row → Option (List Row)
+after_marker no_marker rows = None
+after_marker (marker additions) rows = Some rows
 
--- lines of a table, those after the extension marker apart, by the index of the marker
-abbrev pub split_at_marker : List Line → Option ℕ → Table Line
+-- rows of a table, those after the extension marker apart, by the index of the marker
+abbrev pub split_at_marker : List Row → Option ℕ → Table Row
 split_at_marker ls None = record { root = ls; additions = None }
 split_at_marker ls (Some k) = record { root = take k ls; additions = Some (drop k ls) }
 
@@ -117,20 +117,20 @@ module _ {V : Type 0} (components : Components V) where
   abbrev pub component_records : V → List Record
   component_records = all_records all_components
 
-  -- The lines of the field table: those of the root, and then the additions. The index of each is its index in the
+  -- The rows of the field table: those of the root, and then the additions. The index of each is its index in the
   -- definition.
-  abbrev pub root_entries : List Entry
-  root_entries = table_of_kind components.kind (entries_from 0 components.root)
+  abbrev pub root_views : List FieldView
+  root_views = table_of_kind components.kind (views_from 0 components.root)
 
-  abbrev pub added_entries : List Entry
-  added_entries = entries_from (length components.root) added
+  abbrev pub added_views : List FieldView
+  added_views = views_from (length components.root) added
 
-  abbrev pub table : List Entry
-  table = root_entries ++ added_entries
+  abbrev pub table : List FieldView
+  table = root_views ++ added_views
 
   -- the same, as records have it
-  abbrev pub lines : Table Line
-  lines = record { root = map line_of root_entries; additions = after_marker components.extension (map line_of added_entries) }
+  abbrev pub rows : Table Row
+  rows = record { root = map row_of root_views; additions = after_marker components.extension (map row_of added_views) }
 
   -- how many components come before the extension marker, if there is one
   abbrev pub extension_index : Option ℕ
@@ -159,7 +159,7 @@ module _ {V : Type 0} (components : Components V) where
   -- The type of these components, under a tag of its own, and with a name.
   abbrev pub constructed_type_under : Tag → List ℕ → Meaning V
   constructed_type_under tag name =
-      scope_type (λ t c n. head_of_kind components.kind t lines n) (λ t c n. head_has_tag components.kind t lines n) tag unconstrained (Some name) inside
+      scope_type (λ t c n. head_of_kind components.kind t rows n) (λ t c n. head_has_tag components.kind t rows n) tag unconstrained (Some name) inside
 
 -- The type of these components, under the tag of its kind.
 abbrev pub constructed_type : {V : Type 0} → List ℕ → Components V → Meaning V
@@ -167,10 +167,10 @@ constructed_type name components = constructed_type_under components (tag_of com
 
 -- A group of additions (X.680, 25.1), by its components: those of a SEQUENCE, without an extension marker of its own.
 abbrev pub group : {V W : Type 0} → List ℕ → (V → Option W) → Components W → ComponentType V
-group name get components = record (group_of name get (lines components) (all_components components)) {
+group name get components = record (group_of name get (rows components) (all_components components)) {
   IsWellTagged = CanBeInSequence (all_components components) × (components.kind ≡ is_sequence) ×
       (has_marker components.extension ≡ false) × EachCanBeOn in_root components.root;
-  fits = λ can v. group_fits (lines components) (all_components components) can.0.0 (get v);
+  fits = λ can v. group_fits (rows components) (all_components components) can.0.0 (get v);
 }
 
 -- The law of a type of components: its meaning is that of these. A value is always there, begins with the tag of the type,
@@ -179,7 +179,7 @@ group name get components = record (group_of name get (lines components) (all_co
 pub record AgreesWithComponents {V : Type 0} (components : Components V) (m : Meaning V) : Type 0 where
   pub tree : (t : Tag) → m.tree t ≡ leaf t
   pub records : (v : V) (t : Tag) (c : ConstraintSet) (n : Name) →
-      m.records v t c n ≡ holding (head_of_kind components.kind t (lines components) n) (component_records components v) ∷ []
+      m.records v t c n ≡ holding (head_of_kind components.kind t (rows components) n) (component_records components v) ∷ []
   pub single : m.IsSingleRecord
   pub present : (v : V) → m.is_present v ≡ true
   pub distinct_tags : (t : Tag) → m.HasDistinctTags t ↔ (IsATag t × AreWellTagged components)
@@ -200,14 +200,14 @@ constructed_agrees = record {
 }
 
 -- A type of this name and kind whose values are one record each, by its table and what is inside.
-abbrev pub holding_type : {V : Type 0} → List ℕ → Kind → Table Line → Inside V → Meaning V
+abbrev pub holding_type : {V : Type 0} → List ℕ → Kind → Table Row → Inside V → Meaning V
 holding_type name kind table inside =
     scope_type (λ t c n. head_of_kind kind t table n) (λ t c n. head_has_tag kind t table n) (tag_of kind)
     unconstrained (Some name) inside
 
 -- A type that holds itself. Its components speak of it, so the contents of its values are defined first, by recursion over
 -- these. This is its meaning to its own components, without any premise.
-abbrev pub inside_itself : {V : Type 0} → List ℕ → Kind → Table Line → Inside V → Meaning V
+abbrev pub inside_itself : {V : Type 0} → List ℕ → Kind → Table Row → Inside V → Meaning V
 inside_itself name kind table inside =
     holding_type name kind table (record inside { IsWellTagged = ⊤ })
 
@@ -223,9 +223,9 @@ nothing = record {
 
 -- The table, by the components beside what the type is to them: it rests on nothing that the type says of values.
 abbrev pub table_with_itself : {V W : Type 0} → List ℕ → Kind → (Meaning W → Components V) →
-    Table Line
+    Table Row
 table_with_itself name kind components_with =
-    lines (components_with (inside_itself name kind no_table nothing))
+    rows (components_with (inside_itself name kind no_table nothing))
 
 -- Its components, which speak of it by the words above.
 abbrev pub components_with_itself : {V : Type 0} → List ℕ → Kind → (Meaning V → Components V) →
@@ -236,5 +236,5 @@ components_with_itself name kind components_with inside =
 -- And this is what it means to all others.
 abbrev pub holding_itself : {V : Type 0} → List ℕ → Inside V → Components V → Meaning V
 holding_itself name inside components =
-    holding_type name components.kind (lines components)
+    holding_type name components.kind (rows components)
     (record inside { IsWellTagged = AreWellTagged components })

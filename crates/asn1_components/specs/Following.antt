@@ -3,7 +3,7 @@ use Rattle.std.specs.Prelude.{⊤, Bool, true, false, ◌&&◌, List, [], ◌∷
 use Rattle.asn1_tags.specs.Trees.{Tree}
 use Rattle.asn1_model.specs.Records.{Record}
 use Rattle.asn1_model.specs.Tags.{ShareNone, tree_tags, first_tags}
-use Rattle.asn1_fields.specs.Entries.{may_be_absent}
+use Rattle.asn1_fields.specs.FieldViews.{may_be_absent}
 use Rattle.asn1_components.specs.ComponentTypes.{ComponentType}
 
 -- the list does not begin with a tag of the tree

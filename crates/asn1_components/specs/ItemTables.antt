@@ -7,13 +7,13 @@ use Rattle.asn1_components.specs.declared.iterators.DiscriminantIter.{Discrimina
 use Rattle.asn1_components.specs.declared.iterators.ItemIdentifierIter.{ItemIdentifierIter}
 use Rattle.asn1_components.specs.declared.iterators.VariantIter.{VariantIter}
 
--- the item of a line
-abbrev pub line_item : {V : Type 0} → EnumerationItem V → Item V
-line_item l = item l.value l.number l.name.now
+-- the item of a row
+abbrev pub item_view : {V : Type 0} → EnumerationItem V → Item V
+item_view l = item l.value l.number l.name.now
 
 -- the items of a table
 abbrev pub table_items : {V : Type 0} → List (EnumerationItem V) → List (Item V)
-table_items lines = map line_item lines
+table_items rows = map item_view rows
 
 -- the items left in an iterator: over values, over values with their numbers, and over names
 abbrev pub variants_left : {V : Type 0} → VariantIter V → List V

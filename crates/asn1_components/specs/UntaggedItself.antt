@@ -3,7 +3,7 @@
 use Rattle.std.specs.Prelude.{ℕ, ⊤, List}
 use Rattle.asn1_tags.specs.Trees.{Trees, choice}
 use Rattle.asn1_model.specs.Meaning.{Meaning}
-use Rattle.asn1_model.specs.RecordTables.{Line, Table, no_table}
+use Rattle.asn1_model.specs.RecordTables.{Row, Table, no_table}
 use Rattle.asn1_model.specs.Tags.{Has, first_tag, tree_tags}
 use Rattle.asn1_components.specs.Alternatives.{Alternatives, OneOf, MeansTheSame, ValueMeaning, all_of, chosen_meaning, no_meaning, trees_of}
 use Rattle.asn1_components.specs.ChoiceTypes.{choice_by, choice_by_meanings, inside_itself, table_with_itself}
@@ -19,7 +19,7 @@ pub record MeaningWithin (trees : Trees) : Type 1 where
   pub within : Has (tree_tags (choice trees)) (first_tag meaning.records)
 
 -- The meaning of the CHOICE to its own alternatives, by its author's meaning of each value.
-abbrev pub untagged_inside_itself : {V : Type 0} → List ℕ → Table Line → (trees : Trees) →
+abbrev pub untagged_inside_itself : {V : Type 0} → List ℕ → Table Row → (trees : Trees) →
     (V → MeaningWithin trees) → Meaning V
 untagged_inside_itself name table trees means =
     choice_by name table trees ⊤ (λ v. (means v).meaning) (λ _ v. (means v).within)

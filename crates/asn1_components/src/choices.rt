@@ -4,7 +4,7 @@ ghost use Rattle.std.specs.Option.{option_copied, option_map};
 ghost use Rattle.asn1_model.specs.ConstraintSets.{constraint_set};
 ghost use Rattle.asn1_tags.specs.Trees.{shapes};
 ghost use Rattle.asn1_tags.specs.declared.tags.Tag.{Tag};
-ghost use Rattle.asn1_components.specs.Alternatives.{Alternatives, OneOf, root_of, all_of, all_lines, names_of, table_of, trees_in, trees_of, added_trees_of, variance_of};
+ghost use Rattle.asn1_components.specs.Alternatives.{Alternatives, OneOf, root_of, all_of, all_rows, names_of, table_of, trees_in, trees_of, added_trees_of, variance_of};
 ghost use Rattle.asn1_components.specs.ChosenTags.{TagIdentifiesAlternative};
 ghost use Rattle.asn1_components.specs.ChoiceTypes.{AgreesWithChoice};
 
@@ -82,8 +82,8 @@ pub fn alternatives_are_as_in_records<T: Choice>()
     ensures root { trees_in (table_of T.alternatives).root ≡ trees_of (root_of T.alternatives) }
     ensures additions { option_map trees_in (table_of T.alternatives).additions ≡
         added_trees_of T.alternatives }
-    ensures names { map (λ l. l.name) (all_lines (table_of T.alternatives)) ≡
+    ensures names { map (λ l. l.name) (all_rows (table_of T.alternatives)) ≡
         names_of (all_of T.alternatives) }
     ensures always_there { All (λ l. l.may_be_absent ≡
-        false) (all_lines (table_of T.alternatives)) }
+        false) (all_rows (table_of T.alternatives)) }
 {}

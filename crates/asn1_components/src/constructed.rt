@@ -1,9 +1,9 @@
 //! Types whose fields are tables in static memory.
 ghost use Rattle.std.specs.Prelude.{◌≡◌, ◌++◌, MatchOption, length, slice_get, true, false};
 ghost use Rattle.std.specs.Option.{option_map};
-ghost use Rattle.asn1_fields.specs.Entries.{entries, entry_of};
+ghost use Rattle.asn1_fields.specs.FieldViews.{views, view_of};
 ghost use Rattle.asn1_fields.specs.FieldLists.{fields_of};
-ghost use Rattle.asn1_components.specs.Components.{added_entries, has_marker, root_entries};
+ghost use Rattle.asn1_components.specs.Components.{added_views, has_marker, root_views};
 
 use crate::field_table::FieldTable;
 use asn1_fields::{Field, Fields};
@@ -13,11 +13,11 @@ use asn1_fields::{Field, Fields};
 pub trait Constructed<const RL: usize, const EL: usize>: FieldTable {
     /// The fields of the root.
     fn root_fields() -> &'static [Field<'static>]
-        ensures { entries result.now ≡ root_entries Self.components };
+        ensures { views result.now ≡ root_views Self.components };
 
     /// The additions.
     fn added_fields() -> &'static [Field<'static>]
-        ensures { entries result.now ≡ added_entries Self.components };
+        ensures { views result.now ≡ added_views Self.components };
 
     /// Whether the type has an extension marker.
     final fn is_extensible() -> bool
@@ -28,7 +28,7 @@ pub trait Constructed<const RL: usize, const EL: usize>: FieldTable {
 
     /// The fields of the root, as a table.
     final fn fields() -> Fields<'static, RL>
-        ensures { entries (fields_of result) ≡ root_entries Self.components }
+        ensures { views (fields_of result) ≡ root_views Self.components }
     {
         Fields::from_slice(Self::root_fields()).unwrap()
     }
@@ -37,7 +37,7 @@ pub trait Constructed<const RL: usize, const EL: usize>: FieldTable {
     final fn extended_fields() -> Option<Fields<'static, EL>>
         ensures { MatchOption result (has_marker Self.components.extension ≡ false)
             (λ table. (has_marker Self.components.extension ≡ true) ×
-            (entries (fields_of table) ≡ added_entries Self.components)) }
+            (views (fields_of table) ≡ added_views Self.components)) }
     {
         if Self::is_extensible() {
             Fields::from_slice(Self::added_fields())
@@ -47,9 +47,9 @@ pub trait Constructed<const RL: usize, const EL: usize>: FieldTable {
     }
 
     // the counts are those of the tables
-    ghost root_length: { length (root_entries Self.components) ≡ RL };
+    ghost root_length: { length (root_views Self.components) ≡ RL };
 
-    ghost additions_length: { length (added_entries Self.components) ≡ EL };
+    ghost additions_length: { length (added_views Self.components) ≡ EL };
 }
 
 /// The field at an index of two tables, the root's and that of the additions; `None` if there is none. For the
@@ -59,7 +59,7 @@ pub fn field_in(
     added: &[Field<'static>],
     index: usize,
 ) -> Option<Field<'static>>
-    ensures { option_map entry_of result ≡ slice_get (entries root.now ++ entries added.now) index }
+    ensures { option_map view_of result ≡ slice_get (views root.now ++ views added.now) index }
 {
     match index.checked_sub(root.len()) {
         Some(later) => added.get(later).copied(),

@@ -10,10 +10,10 @@ ghost use Rattle.asn1_components.specs.EnumerationTypes.{AgreesWithEnumeration};
 ghost use Rattle.asn1_model.specs.ConstraintSets.{ConstraintSet, unconstrained};
 ghost use Rattle.asn1_model.specs.Records.{Name, discriminant, scalar};
 ghost use Rattle.asn1_tags.specs.declared.tags.Tag.{Tag};
-ghost use Rattle.asn1_components.specs.ItemTables.{line_item, table_items, variants_left, discriminants_left, identifiers_left};
+ghost use Rattle.asn1_components.specs.ItemTables.{item_view, table_items, variants_left, discriminants_left, identifiers_left};
 
 use crate::enumerated_items::EnumeratedItems;
-use crate::items::{EnumerationItem, line_with_name, line_with_number};
+use crate::items::{EnumerationItem, item_with_name, item_with_number};
 use crate::iterators::{DiscriminantIter, ItemIdentifierIter, VariantIter};
 use asn1_model::AsnType;
 
@@ -52,7 +52,7 @@ pub trait Enumerated: AsnType + EnumeratedItems {
     final fn identifiers<'a>() -> ItemIdentifierIter<'a, Self>
         ensures { identifiers_left result ≡ names (items_of Self.enumeration) }
     {
-        ItemIdentifierIter::new(Self::items(), added_lines::<Self>())
+        ItemIdentifierIter::new(Self::items(), additions::<Self>())
     }
 
     /// How many values the root has.
@@ -66,7 +66,7 @@ pub trait Enumerated: AsnType + EnumeratedItems {
     final fn extended_variance() -> usize
         ensures { result ≡ length (added Self.enumeration) }
     {
-        added_lines::<Self>().len()
+        additions::<Self>().len()
     }
 
     /// How many values there are.
@@ -80,21 +80,21 @@ pub trait Enumerated: AsnType + EnumeratedItems {
     final fn is_extended_variant(&self) -> bool
         ensures { IsTrue result ↔ Contains (values (added Self.enumeration)) self.now }
     {
-        index_in(self, added_lines::<Self>()).is_some()
+        index_in(self, additions::<Self>()).is_some()
     }
 
     /// The number of this value.
     final fn discriminant(&self) -> isize
         ensures { result ≡ number_of Self.eq Self.enumeration self.now }
     {
-        line_of(self).number
+        own_item(self).number
     }
 
     /// The name of this value.
     final fn identifier(&self) -> &'static str
         ensures { result.now ≡ name_of Self.eq Self.enumeration self.now }
     {
-        line_of(self).name
+        own_item(self).name
     }
 
     /// The index of this value in its own table.
@@ -106,7 +106,7 @@ pub trait Enumerated: AsnType + EnumeratedItems {
     {
         match index_in(self, Self::items()) {
             Some(index) => index,
-            None => match index_in(self, added_lines::<Self>()) {
+            None => match index_in(self, additions::<Self>()) {
                 Some(index) => index,
                 None => unreachable!(),
             },
@@ -119,7 +119,7 @@ pub trait Enumerated: AsnType + EnumeratedItems {
             result ≡ Some v }
         ensures only { IfSome result (λ v. number_of Self.eq Self.enumeration v ≡ discriminant) }
     {
-        with_number(discriminant, Self::items(), added_lines::<Self>())
+        with_number(discriminant, Self::items(), additions::<Self>())
     }
 
     /// The value at that index of the root; `None` if there is none.
@@ -133,7 +133,7 @@ pub trait Enumerated: AsnType + EnumeratedItems {
     final fn from_extended_enumeration_index(index: usize) -> Option<Self>
         ensures { result ≡ slice_get (values (added Self.enumeration)) index }
     {
-        value_at(added_lines::<Self>(), index)
+        value_at(additions::<Self>(), index)
     }
 
     /// The value of that name; `None` if no value has it.
@@ -142,7 +142,7 @@ pub trait Enumerated: AsnType + EnumeratedItems {
             result ≡ Some v }
         ensures only { IfSome result (λ v. name_of Self.eq Self.enumeration v ≡ identifier.now) }
     {
-        with_name(identifier, Self::items(), added_lines::<Self>())
+        with_name(identifier, Self::items(), additions::<Self>())
     }
 
     // each value has its item
@@ -165,7 +165,7 @@ pub fn written_number<T: Enumerated>(value: &T) -> isize
 }
 
 // The items after the extension marker, none if there is no marker.
-pub(crate) fn added_lines<T: EnumeratedItems>() -> &'static [EnumerationItem<T>]
+pub(crate) fn additions<T: EnumeratedItems>() -> &'static [EnumerationItem<T>]
     ensures { table_items result.now ≡ added T.enumeration }
 {
     match T::added_items() {
@@ -175,11 +175,11 @@ pub(crate) fn added_lines<T: EnumeratedItems>() -> &'static [EnumerationItem<T>]
 }
 
 // The line of the value.
-fn line_of<'a, T: Enumerated>(value: &T) -> &'a EnumerationItem<T>
-    ensures { item_of T.eq T.enumeration value.now ≡ Some (line_item result.now) }
+fn own_item<'a, T: Enumerated>(value: &T) -> &'a EnumerationItem<T>
+    ensures { item_of T.eq T.enumeration value.now ≡ Some (item_view result.now) }
 {
-    match with_value(value, T::items(), added_lines::<T>()) {
-        Some(line) => line,
+    match with_value(value, T::items(), additions::<T>()) {
+        Some(item) => item,
         None => unreachable!(),
     }
 }
@@ -195,7 +195,7 @@ fn with_value<'a, T: Eq>(
 {
     root.iter()
         .chain(additions.iter())
-        .find(|line| line.value == *value)
+        .find(|item| item.value == *value)
 }
 
 // The value of the first line of that number in two tables.
@@ -207,7 +207,7 @@ fn with_number<T: Copy>(
     ensures { result ≡
         option_map (λ l. l.value) (find (λ l. int_eq l.number number) (root.now ++ additions.now)) }
 {
-    Some(line_with_number(number, root, additions)?.value)
+    Some(item_with_number(number, root, additions)?.value)
 }
 
 // The value of the first line of that name in two tables.
@@ -220,19 +220,19 @@ fn with_name<T: Copy>(
         option_map (λ l. l.value) (find (λ l. bytes_eq l.name.now name.now)
         (root.now ++ additions.now)) }
 {
-    Some(line_with_name(name, root, additions)?.value)
+    Some(item_with_name(name, root, additions)?.value)
 }
 
 // The first index of the value in a table.
 fn index_in<T: Eq>(value: &T, table: &[EnumerationItem<T>]) -> Option<usize>
     ensures { result ≡ position (λ l. T.eq l.value value.now) table.now }
 {
-    table.iter().position(|line| line.value == *value)
+    table.iter().position(|item| item.value == *value)
 }
 
 // The value at an index of a table; `None` if there is none.
 fn value_at<T: Copy>(table: &[EnumerationItem<T>], index: usize) -> Option<T>
     ensures { result ≡ option_map (λ l. l.value) (slice_get table.now index) }
 {
-    table.get(index).map(|line| line.value)
+    table.get(index).map(|item| item.value)
 }

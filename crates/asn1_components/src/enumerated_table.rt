@@ -6,8 +6,8 @@ ghost use Rattle.std.specs.Ordering.{int_eq};
 ghost use Rattle.std.specs.Str.{bytes_eq};
 ghost use Rattle.asn1_components.specs.Labels.{Labels, LabelsDiffer, added_labels, all_labels, labels_of, numbers_in};
 
-use crate::enumerated::{Enumerated, added_lines};
-use crate::items::{EnumerationItem, line_with_name, line_with_number};
+use crate::enumerated::{Enumerated, additions};
+use crate::items::{EnumerationItem, item_with_name, item_with_number};
 
 /// The table of an ENUMERATED type without its values: the numbers and the names of its items, in their indices. It tells a
 /// codec which numbers there are. Each [`Enumerated`] type has it.
@@ -73,7 +73,7 @@ impl<E: Enumerated> EnumeratedTable for E {
     }
 
     fn added_number(index: usize) -> Option<isize> {
-        number_at(added_lines::<E>(), index)
+        number_at(additions::<E>(), index)
     }
 
     fn root_index(number: isize) -> Option<usize> {
@@ -81,15 +81,15 @@ impl<E: Enumerated> EnumeratedTable for E {
     }
 
     fn added_index(number: isize) -> Option<usize> {
-        index_of(number, added_lines::<E>())
+        index_of(number, additions::<E>())
     }
 
     fn name_of_number(number: isize) -> Option<&'static str> {
-        name_of(number, E::items(), added_lines::<E>())
+        name_of(number, E::items(), additions::<E>())
     }
 
     fn number_of_name(name: &str) -> Option<isize> {
-        number_of(name, E::items(), added_lines::<E>())
+        number_of(name, E::items(), additions::<E>())
     }
 }
 
@@ -97,14 +97,14 @@ impl<E: Enumerated> EnumeratedTable for E {
 fn number_at<T>(table: &[EnumerationItem<T>], index: usize) -> Option<isize>
     ensures { result ≡ option_map (λ l. l.number) (slice_get table.now index) }
 {
-    table.get(index).map(|line| line.number)
+    table.get(index).map(|item| item.number)
 }
 
 // The first index of the number in a table.
 fn index_of<T>(number: isize, table: &[EnumerationItem<T>]) -> Option<usize>
     ensures { result ≡ position (λ l. int_eq l.number number) table.now }
 {
-    table.iter().position(|line| line.number == number)
+    table.iter().position(|item| item.number == number)
 }
 
 // The name of the first line of that number in two tables.
@@ -117,7 +117,7 @@ fn name_of<T>(
         option_map (λ l. l.name.now)
         (find (λ l. int_eq l.number number) (root.now ++ additions.now)) }
 {
-    Some(line_with_number(number, root, additions)?.name)
+    Some(item_with_number(number, root, additions)?.name)
 }
 
 // The number of the first line of that name in two tables.
@@ -130,5 +130,5 @@ fn number_of<T>(
         option_map (λ l. l.number) (find (λ l. bytes_eq l.name.now name.now)
         (root.now ++ additions.now)) }
 {
-    Some(line_with_name(name, root, additions)?.number)
+    Some(item_with_name(name, root, additions)?.number)
 }

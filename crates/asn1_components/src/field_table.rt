@@ -1,7 +1,7 @@
 //! Types with a table of fields.
 ghost use Rattle.std.specs.Prelude.{◌≡◌, length, slice_get};
 ghost use Rattle.std.specs.Option.{option_map};
-ghost use Rattle.asn1_fields.specs.Entries.{entry_of};
+ghost use Rattle.asn1_fields.specs.FieldViews.{view_of};
 ghost use Rattle.asn1_components.specs.Components.{AgreesWithComponents, Components, extension_index, table};
 
 use asn1_fields::Field;
@@ -21,7 +21,7 @@ pub trait FieldTable {
 
     /// The field at an index of the table; `None` if there is none.
     fn field_at(index: usize) -> Option<Field<'static>>
-        ensures { option_map entry_of result ≡ slice_get (table components) index };
+        ensures { option_map view_of result ≡ slice_get (table components) index };
 
     /// How many fields come before the extension marker, which are those of the root; `None` if there is no marker.
     fn extension_index() -> Option<usize>

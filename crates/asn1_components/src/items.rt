@@ -29,7 +29,7 @@ macro_rules! item {
 }
 
 /// The first line of that number in two tables.
-pub(crate) fn line_with_number<'a, T>(
+pub(crate) fn item_with_number<'a, T>(
     number: isize,
     root: &'a [EnumerationItem<T>],
     additions: &'a [EnumerationItem<T>],
@@ -39,11 +39,11 @@ pub(crate) fn line_with_number<'a, T>(
 {
     root.iter()
         .chain(additions.iter())
-        .find(|line| line.number == number)
+        .find(|row| row.number == number)
 }
 
 /// The first line of that name in two tables.
-pub(crate) fn line_with_name<'a, T>(
+pub(crate) fn item_with_name<'a, T>(
     name: &str,
     root: &'a [EnumerationItem<T>],
     additions: &'a [EnumerationItem<T>],
@@ -53,5 +53,5 @@ pub(crate) fn line_with_name<'a, T>(
 {
     root.iter()
         .chain(additions.iter())
-        .find(|line| line.name == name)
+        .find(|row| row.name == name)
 }

@@ -23,8 +23,8 @@ pub fn iterators_give_what_is_left<T: Copy + 'static>()
         YieldsFirstBy (λ name. name.now) identifiers_left s item t }
 {}
 
-/// A law of the derived clone: a clone of a line has a clone of the value, and the same number and name.
-pub fn lines_are_cloned_as_they_are<T: Clone>()
+/// A law of the derived clone: a clone of an item has a clone of the value, and the same number and name.
+pub fn items_are_cloned_as_they_are<T: Clone>()
     ensures { (a b : EnumerationItem T) → ⟦<EnumerationItem<T> as Clone>⟧.is_clone a b →
         T.is_clone a.value b.value × (b.number ≡ a.number) × (b.name ≡ a.name) }
 {}

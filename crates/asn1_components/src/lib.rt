@@ -1,12 +1,12 @@
 //! The lists that make up constructed types: components, alternatives and items (X.680, 20, 25, 27 and 29).
 //!
 //! A type states its list once: the components of a SEQUENCE, a SET or a group, the alternatives of a CHOICE, or the items of
-//! an ENUMERATED. The meaning of its values, the lines of its table, the tags with which it can begin and whether these tags are
+//! an ENUMERATED. The meaning of its values, the rows of its table, the tags with which it can begin and whether these tags are
 //! distinct follow from that list, so a type's table and its values cannot disagree.
 //!
 //! | Item | What it is |
 //! |---|---|
-//! | [`FieldTable`] | the components of a type, and their table, line by line |
+//! | [`FieldTable`] | the components of a type, and their table, row by row |
 //! | [`ConstructedType`] | a type of ASN.1 whose meaning is that of its components |
 //! | [`Constructed`], [`field_in`] | a type whose table is in static memory, as slices |
 //! | [`components_are_identified_by_tags`] | the law on which a reader of components rests |
@@ -15,12 +15,12 @@
 //! | [`ChoiceType`] | a type of ASN.1 whose meaning is that of its alternatives |
 //! | [`the_chosen_tag_identifies_the_alternative`] | the law on which a decoder of a CHOICE rests |
 //! | [`alternatives_are_as_in_records`] | the law that the table in records is the one that the calls of a type answer |
-//! | [`EnumerationItem`], `item!` | a value with its number and its name: a line of a type's table; a macro that writes one |
+//! | [`EnumerationItem`], `item!` | a value with its number and its name: a row of a type's table; a macro that writes one |
 //! | [`EnumeratedItems`] | the two tables of a type: the items of its root, and those after the extension marker |
 //! | [`Enumerated`], [`written_number`] | a type of ASN.1 whose meaning is that of its items, with all calls on them; the number in the records of a value |
 //! | [`EnumeratedTable`] | the numbers and names of such a type's items, in their order, as a codec knows them |
 //! | [`VariantIter`], [`DiscriminantIter`], [`ItemIdentifierIter`] | the values of a table, these with their numbers, and the names |
-//! | [`laws`] | the laws of the iterators, and of a clone of a line |
+//! | [`laws`] | the laws of the iterators, and of a clone of an item |
 //!
 //! # Components
 //!
@@ -34,8 +34,8 @@
 //! - `specs/Following.antt` has the words for the records after a component. `components_are_identified_by_tags` says that these begin
 //!   with none of the component's tags, where the component may be absent, even past the end of a group.
 //!   `tables_are_in_order` says that a SET's table is canonical, and that no index occurs twice.
-//! - The table is in records too (`lines`), with the lines after the extension marker apart (`extension_index`). A clause of
-//!   `tables_are_in_order` (`as_in_records`) says that `FieldTable` answers these lines.
+//! - The table is in records too (`rows`), with the rows after the extension marker apart (`extension_index`). A clause of
+//!   `tables_are_in_order` (`as_in_records`) says that `FieldTable` answers these rows.
 //! - A type that holds itself defines its values by recursion. To its own components it is `inside_itself`, without any
 //!   premise, and to all others `holding_itself`.
 //!

@@ -1,9 +1,9 @@
 //! The order of field tables.
 ghost use Rattle.std.specs.Prelude.{◌≡◌, ◌≢◌, ℕ, AllPairs, IsPermutation, Some, length, map, slice_get};
 ghost use Rattle.asn1_fields.specs.CanonicalOrder.{IsCanonical};
-ghost use Rattle.asn1_fields.specs.Entries.{Entry, component_of, line_of};
-ghost use Rattle.asn1_components.specs.ComponentLists.{entries_from};
-ghost use Rattle.asn1_components.specs.Components.{all_components, is_sequence, is_set, lines, extension_index, split_at_marker, root_entries, table};
+ghost use Rattle.asn1_fields.specs.FieldViews.{FieldView, component_of, row_of};
+ghost use Rattle.asn1_components.specs.ComponentLists.{views_from};
+ghost use Rattle.asn1_components.specs.Components.{all_components, is_sequence, is_set, rows, extension_index, split_at_marker, root_views, table};
 
 use crate::field_table::FieldTable;
 
@@ -15,17 +15,17 @@ use crate::field_table::FieldTable;
 /// is in canonical order (`canonical`; X.680, 8.6). Records carry the lines of the table, with those of the additions
 /// after the extension marker (`as_in_records`).
 pub fn tables_are_in_order<T: FieldTable>()
-    ensures numbered { (index : ℕ) (entry : Entry) →
-        slice_get (entries_from 0 (all_components T.components)) index ≡ Some entry →
+    ensures numbered { (index : ℕ) (entry : FieldView) →
+        slice_get (views_from 0 (all_components T.components)) index ≡ Some entry →
         entry.index ≡ index }
-    ensures rearranged { IsPermutation (entries_from 0 (all_components T.components))
+    ensures rearranged { IsPermutation (views_from 0 (all_components T.components))
         (table T.components) }
     ensures counted { length (table T.components) ≡ length (all_components T.components) }
     ensures indices_differ { AllPairs (λ d e. d.index ≢ e.index) (table T.components) }
-    ensures definition_order { T.components.kind ≡ is_sequence → (index : ℕ) (entry : Entry) →
+    ensures definition_order { T.components.kind ≡ is_sequence → (index : ℕ) (entry : FieldView) →
         slice_get (table T.components) index ≡ Some entry → entry.index ≡ index }
-    ensures as_in_records { lines T.components ≡
-        split_at_marker (map line_of (table T.components)) (extension_index T.components) }
+    ensures as_in_records { rows T.components ≡
+        split_at_marker (map row_of (table T.components)) (extension_index T.components) }
     ensures canonical { T.components.kind ≡ is_set →
-        IsCanonical (map component_of (root_entries T.components)) }
+        IsCanonical (map component_of (root_views T.components)) }
 {}

@@ -1,6 +1,6 @@
 //! The calls with which a codec reads.
 ghost use Rattle.asn1_components.specs.ComponentLists.{trees_of};
-ghost use Rattle.asn1_components.specs.Components.{all_components, is_sequence, is_set, lines};
+ghost use Rattle.asn1_components.specs.Components.{all_components, is_sequence, is_set, rows};
 ghost use Rattle.asn1_laws.specs.Defaults.{MayAnswer};
 ghost use Rattle.asn1_laws.specs.GivenTypes.{as_it_is, given, given_after_tag, with_constraints, with_tag};
 ghost use Rattle.asn1_laws.specs.Reading.{GivesDepthBack, IsLawful, KeepsDepth, NeedsDepth, OpensNothing, TakesDepth, Reader, ReadsEnd, ReadsHead, ReadsHeadOfSet, ReadsMark, ReadsValue, TellsMore, TellsNextTag, TellsPresence, records_in};
@@ -145,7 +145,7 @@ pub trait Decoder: Sized {
     /// remain to be read. A group is no scope, and takes nothing from the depth left. The rule of `presence` on the
     /// outermost list holds here too.
     fn open_group<C: FieldTable>(&mut self) -> Result<bool, DecodeError>
-        ensures read { TellsPresence reader self.old self.new (group_start (lines C.components))
+        ensures read { TellsPresence reader self.old self.new (group_start (rows C.components))
             group_absent (tree_tags (choice (trees_of (all_components C.components)))) result }
         ensures opens_nothing { OpensNothing reader self.old self.new result };
 
@@ -156,14 +156,14 @@ pub trait Decoder: Sized {
 
     /// Opens a SEQUENCE, whose components are those of the table of `C`.
     fn open_sequence<C: FieldTable>(&mut self, tag: Tag) -> Result<(), DecodeError>
-        ensures read { ReadsHead reader self.old self.new (sequence tag (lines C.components))
+        ensures read { ReadsHead reader self.old self.new (sequence tag (rows C.components))
             (λ _ _. ⊤) result }
         ensures takes_depth { TakesDepth reader self.old self.new result };
 
     /// Opens a SET, whose components are those of the table of `C`, and come in any order. Answers a bound on the number of its
     /// records.
     fn open_set<C: FieldTable>(&mut self, tag: Tag) -> Result<usize, DecodeError>
-        ensures read { ReadsHeadOfSet reader self.old self.new (set tag (lines C.components))
+        ensures read { ReadsHeadOfSet reader self.old self.new (set tag (rows C.components))
             (λ items bound. records_in items ≤ bound) result }
         ensures takes_depth { TakesDepth reader self.old self.new result };
 
@@ -171,7 +171,7 @@ pub trait Decoder: Sized {
     /// inside a SET that was opened by the table of `C`, whose components can be told apart.
     fn next_component<C: FieldTable>(&mut self) -> Result<Option<Tag>, DecodeError>
         ensures read { (tag : Tag) (n : Name) → CanBeInSet (all_components C.components) →
-            TellsNextTag reader self.old self.new (set tag (lines C.components) n)
+            TellsNextTag reader self.old self.new (set tag (rows C.components) n)
             (all_components C.components) result }
         ensures opens_nothing { OpensNothing reader self.old self.new result };
 

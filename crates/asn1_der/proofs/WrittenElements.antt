@@ -24,7 +24,7 @@ use Rattle.asn1_model.specs.ConstraintSets.{ConstraintSet}
 use Rattle.asn1_model.specs.Orders.{equal, is_unordered}
 use Rattle.asn1_model.specs.Records as model
 use Rattle.asn1_model.specs.Records.{Content, Head, Name, Record, held, holding, presence_mark, presence_marks_alone, scalar, group_absent, group_end, group_start}
-use Rattle.asn1_model.specs.RecordTables.{Line, Table}
+use Rattle.asn1_model.specs.RecordTables.{Row, Table}
 use Rattle.asn1_model.specs.Tags.{head_tag}
 use Rattle.asn1_tags.specs.declared.tags.Tag.{Tag}
 
@@ -194,7 +194,7 @@ not_chosen h rs inside t content_order tag is chosen have other =
     inr (subst (λ f. CannotHold f (head_tag h) (HaveDer (held rs))) (sym chosen ∙ is) (record { inside = inside; are = have; not = λ one. other (subst (λ u. IsElementOf u inside) (sym tag) one) }))
 
 -- groups
-pub group_begun : (fs : List Frame) (bytes : List ℕ) (table : Table Line) (w : Written) → IsWritten w (reverse fs) bytes → IsWritten (in_group table [] w) (reverse fs) bytes
+pub group_begun : (fs : List Frame) (bytes : List ℕ) (table : Table Row) (w : Written) → IsWritten w (reverse fs) bytes → IsWritten (in_group table [] w) (reverse fs) bytes
 group_begun fs bytes table w wrote = record { first = bytes; others = []; is_first = wrote; are_others = refl; are = sym (append-nil bytes) }
 
 marks_are_nothing : (rs : List Record) (bytes : List ℕ) → presence_marks_alone rs ≡ true → HaveDer (held rs) bytes → bytes ≡ []
@@ -205,7 +205,7 @@ marks_are_nothing (model.open_type n own ∷ rs) bytes alone have = cc
 marks_are_nothing (model.presence_mark m ∷ rs) bytes alone have = have.are ∙ ap (λ l. l ++ have.others) have.is_first ∙ marks_are_nothing rs have.others alone have.are_others
 
 -- a group leaves no trace
-group_has_no_trace : (table : Table Line) (rs : List Record) (bytes : List ℕ) → HaveDer (held rs) bytes → HaveDer (held (group_records table (Some rs))) bytes
+group_has_no_trace : (table : Table Row) (rs : List Record) (bytes : List ℕ) → HaveDer (held rs) bytes → HaveDer (held (group_records table (Some rs))) bytes
 group_has_no_trace table rs bytes have = by (presence_marks_alone rs) refl
   where
     group : List Record
@@ -221,7 +221,7 @@ group_has_no_trace table rs bytes have = by (presence_marks_alone rs) refl
       are = refl;
     }
 
-pub group_ended : (fs : List Frame) (bytes : List ℕ) (table : Table Line) (rs : List Record) (w : Written) → IsWritten (in_group table rs w) (reverse fs) bytes → IsWritten (followed_by w (group_records table (Some rs))) (reverse fs) bytes
+pub group_ended : (fs : List Frame) (bytes : List ℕ) (table : Table Row) (rs : List Record) (w : Written) → IsWritten (in_group table rs w) (reverse fs) bytes → IsWritten (followed_by w (group_records table (Some rs))) (reverse fs) bytes
 group_ended fs bytes table rs w wrote =
     subst (λ l. IsWritten (followed_by w (group_records table (Some rs))) (reverse fs) l) (sym wrote.are) (followed w (reverse fs) wrote.first wrote.others (group_records table (Some rs)) wrote.is_first (group_has_no_trace table rs wrote.others wrote.are_others))
 

@@ -234,7 +234,7 @@ impl<'a> Decoder for DerDecoder<'a> {
     ghost use Rattle.asn1_bounds.specs.declared.codec.Codec.TheVariants.{Der};
     ghost use Rattle.asn1_laws.proofs.ReadingUpToOrder.{lawful};
     ghost use Rattle.asn1_laws.specs.Reading.{ReadsHeadOfSet, TakesDepth, records_in};
-    ghost use Rattle.asn1_components.specs.Components.{lines};
+    ghost use Rattle.asn1_components.specs.Components.{rows};
     ghost use Rattle.asn1_der.specs.Decoder.{der_reader, in_one_order};
     ghost use Rattle.asn1_der_items.specs.Series.{AreElements, AscendByEncoding, AscendByTag};
     ghost use Rattle.asn1_items.specs.Slices.{left_inside};
@@ -352,7 +352,7 @@ impl<'a> Decoder for DerDecoder<'a> {
     // The elements of a SET that was opened are in the order of their tags.
     fn open_set<C: FieldTable>(&mut self, tag: Tag) -> Result<usize, DecodeError>
         ensures read { ReadsHeadOfSet der_reader self.old self.new
-            (set tag (lines C.components)) (λ items bound. records_in items ≤ bound) result }
+            (set tag (rows C.components)) (λ items bound. records_in items ≤ bound) result }
         ensures takes_depth { TakesDepth der_reader self.old self.new result }
         ensures in_order { OnOk result
             (AreElements AscendByTag (left_inside self.new.state.slices)) }

@@ -7,7 +7,7 @@ ghost use Rattle.asn1_der_items.specs.Series.{IsElementOf};
 ghost use Rattle.asn1_model.specs.ConstraintSets.{ConstraintSet};
 ghost use Rattle.asn1_model.specs.Orders.{SameRecord};
 ghost use Rattle.asn1_model.specs.Records.{Name, PresenceMark, Record, alternative, held, holding, is_presence_mark, presence_mark};
-ghost use Rattle.asn1_model.specs.RecordTables.{Line, Table};
+ghost use Rattle.asn1_model.specs.RecordTables.{Row, Table};
 ghost use Rattle.asn1_tags.specs.Derives.{ClonesAll, ComparesAll};
 ghost use Rattle.asn1_tags.specs.declared.tags.Tag.{Tag};
 ghost use Rattle.std.specs.Prelude.{◌≡◌, ◌↔◌, ◌∷◌, List, ℕ, false};
@@ -17,7 +17,7 @@ use crate::content_order::ContentOrder;
 
 /// A law of a CHOICE: it has the bytes of the chosen alternative, which are one element of the chosen tag, and no others.
 pub fn a_choice_has_no_element_of_its_own()
-    ensures { (t : Tag) (c : ConstraintSet) (table : Table Line) (n : Name) (rs : List Record)
+    ensures { (t : Tag) (c : ConstraintSet) (table : Table Row) (n : Name) (rs : List Record)
         (bytes : List ℕ) → HasDer (holding (alternative t c table n) rs) bytes ↔
         (HaveDer (held rs) bytes × IsElementOf t bytes) }
 {}

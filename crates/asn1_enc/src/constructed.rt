@@ -1,5 +1,5 @@
 //! A SEQUENCE or a SET, by its components.
-ghost use Rattle.asn1_components.specs.Components.{head_of_kind, lines};
+ghost use Rattle.asn1_components.specs.Components.{head_of_kind, rows};
 ghost use Rattle.asn1_laws.specs.GivenTypes.{given};
 ghost use Rattle.asn1_laws.specs.Writing.{NeedsDepth, WritesHead};
 ghost use Rattle.asn1_laws.specs.WritingTypes.{WritesComponents, WritesValue};
@@ -30,7 +30,7 @@ fn open<C: FieldTable, E: Encoder>(
     name: Identifier,
 ) -> Result<(), EncodeError>
     ensures { WritesHead E.writer encoder.old
-        (head_of_kind (kind_of kind) tag (lines C.components) (name_of name)) encoder.new result }
+        (head_of_kind (kind_of kind) tag (rows C.components) (name_of name)) encoder.new result }
 {
     match kind {
         Kind::Sequence => encoder.open_sequence::<C>(tag, name),

@@ -1,6 +1,6 @@
 //! The calls with which a codec writes.
 ghost use Rattle.asn1_components.specs.Alternatives.{table_of};
-ghost use Rattle.asn1_components.specs.Components.{is_sequence, is_set, lines};
+ghost use Rattle.asn1_components.specs.Components.{is_sequence, is_set, rows};
 ghost use Rattle.asn1_laws.specs.Defaults.{MayAnswer};
 ghost use Rattle.asn1_laws.specs.GivenTypes.{after_tag, as_it_is, given, with_constraints, with_tag};
 ghost use Rattle.asn1_laws.specs.Writing.{ClosesGroup, IsLawful, IsOutOfMemory, NeedsDepth, OpensGroup, Writer, Writes, WritesEnd, WritesHead};
@@ -152,12 +152,12 @@ pub trait Encoder: Sized {
         tag: Tag,
         name: Identifier,
     ) -> Result<(), EncodeError>
-        ensures { WritesHead writer self.old (sequence tag (lines C.components) (name_of name))
+        ensures { WritesHead writer self.old (sequence tag (rows C.components) (name_of name))
             self.new result };
 
     /// Opens a SET, whose components are those of the table of `C`.
     fn open_set<C: FieldTable>(&mut self, tag: Tag, name: Identifier) -> Result<(), EncodeError>
-        ensures { WritesHead writer self.old (set tag (lines C.components) (name_of name))
+        ensures { WritesHead writer self.old (set tag (rows C.components) (name_of name))
             self.new result };
 
     /// Opens a SEQUENCE OF this many elements.
@@ -204,7 +204,7 @@ pub trait Encoder: Sized {
     /// Opens a group of additions, whose components are those of the table of `C`. It is no scope, and takes nothing from the
     /// depth left.
     fn open_group<C: FieldTable>(&mut self) -> Result<(), EncodeError>
-        ensures { OpensGroup writer self.old (lines C.components) self.new result };
+        ensures { OpensGroup writer self.old (rows C.components) self.new result };
 
     /// Closes the innermost group, which is absent where it holds marks alone.
     fn close_group(&mut self) -> Result<(), EncodeError>

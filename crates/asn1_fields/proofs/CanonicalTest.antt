@@ -10,7 +10,7 @@ use Rattle.std.proofs.lemmas.Simd.{map-map}
 use Rattle.asn1_tags.specs.Tags.{IsAtMost, class_number, tag_cmp}
 use Rattle.asn1_tags.specs.declared.tags.Tag.{Tag}
 use Rattle.asn1_fields.specs.CanonicalOrder.{IsCanonical, canonical, in_order, smallest_tag}
-use Rattle.asn1_fields.specs.Entries.{Component, component_of, components, entry_of}
+use Rattle.asn1_fields.specs.FieldViews.{Component, component_of, components, view_of}
 use Rattle.asn1_fields.specs.declared.field.Field.{Field}
 
 -- the order of tags, and what is at most what
@@ -76,8 +76,8 @@ module _ {X : Type 0} (seen : X → Component) where
 
 -- whether two fields are in order
 abbrev pub fields_in_order : Field → Field → Bool
-fields_in_order f g = in_order (component_of (entry_of f)) (component_of (entry_of g))
+fields_in_order f g = in_order (component_of (view_of f)) (component_of (view_of g))
 
 -- the same for fields
 pub canonical-is : (fs : List Field) (answer : Bool) → IsAllAdjacentAnswer (λ f g b. b ≡ fields_in_order f g) fs answer → answer ≡ canonical (components fs)
-canonical-is fs answer h = canonical-seen (λ f. component_of (entry_of f)) fs answer h ∙ ap canonical (sym (map-map component_of entry_of fs))
+canonical-is fs answer h = canonical-seen (λ f. component_of (view_of f)) fs answer h ∙ ap canonical (sym (map-map component_of view_of fs))

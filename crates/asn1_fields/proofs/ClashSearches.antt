@@ -8,7 +8,7 @@ use Rattle.std.proofs.lemmas.Grind.{common_steps}
 use Rattle.asn1_tags.specs.Trees.{shape}
 use Rattle.asn1_tags.proofs.ListPositions.{position-map}
 use Rattle.asn1_fields.specs.DistinctTags.{first_clash, rivals, share_tag, up_to_required}
-use Rattle.asn1_fields.specs.Entries.{Component, component_of, components, entries, entry_of, may_be_absent}
+use Rattle.asn1_fields.specs.FieldViews.{Component, component_of, components, views, view_of, may_be_absent}
 use Rattle.asn1_fields.specs.declared.field.Field.{Field}
 
 -- the search for the first field that is always there
@@ -20,7 +20,7 @@ up_to_required-take [] = sym (ap components (take_all (position_or_len is_requir
 up_to_required-take (f ∷ fs) = by_test (up_to_required-take fs) (may_be_absent f.presence)
   where
     c : Component
-    c = component_of (entry_of f)
+    c = component_of (view_of f)
 
     n : ℕ
     n = position_or_len is_required fs
@@ -34,14 +34,14 @@ up_to_required-take (f ∷ fs) = by_test (up_to_required-take fs) (may_be_absent
 
 -- the rivals of a field that may be absent
 pub rivals-some : (f : Field) (fs : List Field) (k : ℕ) → may_be_absent f.presence ≡ true → position is_required fs ≡ Some k →
-    components (take (k + 1) fs) ≡ rivals (component_of (entry_of f)) (components fs)
+    components (take (k + 1) fs) ≡ rivals (component_of (view_of f)) (components fs)
 rivals-some f fs k absent e =
     let same : position_or_len is_required fs ≡ k = grind (arith, nat_tests, common_steps) in
     ap (λ m. components (take (m + 1) fs)) (sym same)
     ∙ (sym (up_to_required-take fs) ∙ ap (λ b. cond b (up_to_required (components fs)) []) (sym absent))
 
 pub rivals-none : (f : Field) (fs : List Field) → may_be_absent f.presence ≡ true → position is_required fs ≡ None →
-    components fs ≡ rivals (component_of (entry_of f)) (components fs)
+    components fs ≡ rivals (component_of (view_of f)) (components fs)
 rivals-none f fs absent e =
     let past : length fs ≤ position_or_len is_required fs = grind (arith, nat_tests, common_steps) in
     ap components (sym (take_all (position_or_len is_required fs + 1) fs (omega arith)))
@@ -79,21 +79,21 @@ module _ (others : Component → List Component → List Component) (fs : List F
 
   -- the step at the field f, whose rivals are rs
   step : (i : ℕ) (d : Field) (rs : List Field) (o : Option ℕ) → i < length fs →
-      components rs ≡ others (component_of (entry_of (get_or fs i d))) (components (take (length fs - (i + 1)) (drop (i + 1) fs))) →
+      components rs ≡ others (component_of (view_of (get_or fs i d))) (components (take (length fs - (i + 1)) (drop (i + 1) fs))) →
       position (λ r. share_tag (shape (get_or fs i d).tag_tree) (shape r.tag_tree)) rs ≡ o →
       first_clash others (components (drop i fs)) ≡ at_index i o
   unfolding at_index
   step i d rs o lt rest e =
-      let c = component_of (entry_of (get_or fs i d)) in
+      let c = component_of (view_of (get_or fs i d)) in
       let test : Component → Bool = λ r. share_tag c.tree r.tree in
       ap (λ gs. first_clash others (components gs)) (drop_more fs i d lt)
       ∙ ap (at_index i)
       (ap (λ gs. position test (others c (components gs))) (sym (take_rest fs (i + 1)))
       ∙ (ap (position test) (sym rest)
-      ∙ (position-map test component_of (entries rs) ∙ (position-map (λ r. test (component_of r)) entry_of rs ∙ e))))
+      ∙ (position-map test component_of (views rs) ∙ (position-map (λ r. test (component_of r)) view_of rs ∙ e))))
 
   pub search_stops : (i b : ℕ) (d : Field) (rs : List Field) → i < length fs → IsLeft others fs i →
-      components rs ≡ others (component_of (entry_of (get_or fs i d))) (components (take (length fs - (i + 1)) (drop (i + 1) fs))) →
+      components rs ≡ others (component_of (view_of (get_or fs i d))) (components (take (length fs - (i + 1)) (drop (i + 1) fs))) →
       position (λ r. share_tag (shape (get_or fs i d).tag_tree) (shape r.tag_tree)) rs ≡ Some b →
       first_clash others (components fs) ≡ Some (i, i + 1 + b)
   unfolding at_index
@@ -103,7 +103,7 @@ module _ (others : Component → List Component → List Component) (fs : List F
       left ∙ (ap (shifted i) (step i d rs (Some b) lt rest e) ∙ λ k. Some (first k, second k))
 
   pub search_goes_on : (i : ℕ) (d : Field) (rs : List Field) → i < length fs → IsLeft others fs i →
-      components rs ≡ others (component_of (entry_of (get_or fs i d))) (components (take (length fs - (i + 1)) (drop (i + 1) fs))) →
+      components rs ≡ others (component_of (view_of (get_or fs i d))) (components (take (length fs - (i + 1)) (drop (i + 1) fs))) →
       position (λ r. share_tag (shape (get_or fs i d).tag_tree) (shape r.tag_tree)) rs ≡ None →
       IsLeft others fs (i + 1)
   unfolding at_index

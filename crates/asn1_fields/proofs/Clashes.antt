@@ -5,7 +5,7 @@ use Rattle.std.specs.Option.{option_map, option_or}
 use Rattle.std.proofs.lemmas.Bool.{cases_lt, false≢true}
 use Rattle.std.proofs.lemmas.Option.{none-some, same_Some}
 use Rattle.asn1_fields.specs.DistinctTags.{IsLeast, IsSequenceClash, IsSetClash, IsUpTo, ShareTag, first_clash, rivals, sequence_clash, set_clash, share_tag, up_to_required}
-use Rattle.asn1_fields.specs.Entries.{Component, may_be_absent}
+use Rattle.asn1_fields.specs.FieldViews.{Component, may_be_absent}
 use Rattle.asn1_tags.proofs.ListPositions.{position-found, position-missing}
 use Rattle.asn1_fields.proofs.SharedTags.{ShareTag-from_test, test-from_ShareTag}
 

@@ -11,8 +11,8 @@ use Rattle.asn1_tags.proofs.Structures.{same-from_tie, tie-from_same}
 use Rattle.asn1_tags.specs.contracts.tags.TagOrd.TheImpl.{ghosts as tag_ord}
 use Rattle.asn1_tags.specs.contracts.tags.TagPartialEq.TheImpl.{ghosts as tag_eq}
 use Rattle.asn1_tags.specs.declared.tags.Tag.{Tag}
-use Rattle.asn1_fields.specs.Entries.{entry_of}
-use Rattle.asn1_fields.specs.EntryOrder.{entry_cmp, presence_cmp}
+use Rattle.asn1_fields.specs.FieldViews.{view_of}
+use Rattle.asn1_fields.specs.FieldOrder.{view_cmp, presence_cmp}
 use Rattle.asn1_fields.specs.contracts.field.FieldOrd.TheImpl.{ghosts as field_ord}
 use Rattle.asn1_fields.specs.contracts.field.FieldPartialEq.TheImpl.{ghosts as field_eq}
 use Rattle.asn1_fields.specs.contracts.presence.FieldPresenceOrd.TheImpl.{ghosts as presence_ord}
@@ -32,7 +32,7 @@ presence_same p q = search rules
 presence_order : (p q : FieldPresence) → presence_ord.cmp p q ≡ presence_cmp p q
 presence_order p q = search rules
 
-pub field_order : (f g : Field) → field_ord.cmp f g ≡ entry_cmp (entry_of f) (entry_of g)
+pub field_order : (f g : Field) → field_ord.cmp f g ≡ view_cmp (view_of f) (view_of g)
 field_order f g =
     ap (λ o. ordering_then (nat_cmp f.index g.index) (ordering_then o (ordering_then (tree_cmp (shape f.tag_tree) (shape g.tag_tree))
     (ordering_then (presence_ord.cmp f.presence g.presence) (slice_cmp nat_cmp f.name.now g.name.now))))) (tag_order f.tag g.tag)
@@ -40,10 +40,10 @@ field_order f g =
     (ordering_then o (slice_cmp nat_cmp f.name.now g.name.now))))) (presence_order f.presence g.presence)
 
 all_same : (f g : Field) → f.index ≡ g.index → f.tag ≡ g.tag → shape f.tag_tree ≡ shape g.tag_tree → f.presence ≡ g.presence →
-    f.name.now ≡ g.name.now → entry_of f ≡ entry_of g
+    f.name.now ≡ g.name.now → view_of f ≡ view_of g
 all_same f g index tag tree presence name = cc
 
-pub field_same : (f g : Field) → IsTrue (field_eq.eq f g) ↔ (entry_of f ≡ entry_of g)
+pub field_same : (f g : Field) → IsTrue (field_eq.eq f g) ↔ (view_of f ≡ view_of g)
 field_same f g =
     Decides-like _
     (λ same. all_same f g same.0 same.1.0 same.1.1.0 same.1.1.1.0 same.1.1.1.1)

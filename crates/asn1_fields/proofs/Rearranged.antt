@@ -11,30 +11,30 @@ use Rattle.asn1_tags.specs.declared.tags.Tag.{Tag}
 use Rattle.asn1_tags.proofs.TagListTests.{tag_eq-refl, tag_eq-true}
 use Rattle.asn1_tags.proofs.Smallest.{IsAtMost-antisym, IsAtMost-refl, IsAtMost-trans}
 use Rattle.asn1_fields.specs.CanonicalOrder.{IsCanonical, AtMostOneIsCanonical, smallest_tag}
-use Rattle.asn1_fields.specs.Entries.{Entry, component_of}
+use Rattle.asn1_fields.specs.FieldViews.{FieldView, component_of}
 
-abbrev key : Entry → Tag
+abbrev key : FieldView → Tag
 key e = smallest_tag (component_of e)
 
 -- the tag is at most the smallest tag of each entry
-abbrev IsAtMostAll : Tag → List Entry → Type 0
+abbrev IsAtMostAll : Tag → List FieldView → Type 0
 IsAtMostAll t [] = Unit {0}
 IsAtMostAll t (e ∷ es) = IsAtMost t (key e) × IsAtMostAll t es
 
 -- each entry's smallest tag is at most those of all after it
-abbrev IsAscending : List Entry → Type 0
+abbrev IsAscending : List FieldView → Type 0
 IsAscending [] = Unit {0}
 IsAscending (e ∷ es) = IsAtMostAll (key e) es × IsAscending es
 
-at_most_all : (s t : Tag) (es : List Entry) → IsAtMost s t → IsAtMostAll t es → IsAtMostAll s es
+at_most_all : (s t : Tag) (es : List FieldView) → IsAtMost s t → IsAtMostAll t es → IsAtMostAll s es
 at_most_all s t [] le all = tt
 at_most_all s t (e ∷ es) le all = (IsAtMost-trans s t (key e) le all.0, at_most_all s t es le all.1)
 
-canonical_tail : (e : Entry) (es : List Entry) → IsCanonical (map component_of (e ∷ es)) → IsCanonical (map component_of es)
+canonical_tail : (e : FieldView) (es : List FieldView) → IsCanonical (map component_of (e ∷ es)) → IsCanonical (map component_of es)
 canonical_tail e es h k c d first second =
     h (suc k) c d first (ap (slice_get (map component_of (e ∷ es))) (add-one (suc k)) ∙ (sym (ap (slice_get (map component_of es)) (add-one k)) ∙ second))
 
-ascending : (es : List Entry) → IsCanonical (map component_of es) → IsAscending es
+ascending : (es : List FieldView) → IsCanonical (map component_of es) → IsAscending es
 ascending [] h = tt
 ascending (e ∷ []) h = (tt, tt)
 ascending (e ∷ (f ∷ es)) h = with_rest (ascending (f ∷ es) (canonical_tail e (f ∷ es) h))
@@ -45,11 +45,11 @@ ascending (e ∷ (f ∷ es)) h = with_rest (ascending (f ∷ es) (canonical_tail
         ((le, at_most_all (key e) (key f) es le rest.0), rest)
 
 -- how many entries have that smallest tag
-abbrev count_of : Tag → List Entry → ℕ
+abbrev count_of : Tag → List FieldView → ℕ
 count_of t es = sum_by (λ e. cond (tag_eq (key e) t) 1 0) es
 
 -- a smallest tag that is there is at least what is at most all
-at_most_found : (s t : Tag) (es : List Entry) → IsAtMostAll s es → 0 < count_of t es → IsAtMost s t
+at_most_found : (s t : Tag) (es : List FieldView) → IsAtMostAll s es → 0 < count_of t es → IsAtMost s t
 at_most_found s t [] all there = absurd (omega arith)
 at_most_found s t (e ∷ es) all there =
     by_test (at_most_found s t es all.1) (tag_eq (key e) t) refl (subst (λ n. 0 < n) (sum_by-cons (λ x. cond (tag_eq (key x) t) 1 0) e es) there)
@@ -58,20 +58,20 @@ at_most_found s t (e ∷ es) all there =
     by_test rest true same there = subst (IsAtMost s) (tag_eq-true (key e) t same) all.0
     by_test rest false other there = rest (omega arith)
 
-counts_itself : (e : Entry) (es : List Entry) → 0 < count_of (key e) (e ∷ es)
+counts_itself : (e : FieldView) (es : List FieldView) → 0 < count_of (key e) (e ∷ es)
 counts_itself e es =
-    let f : Entry → ℕ = λ x. cond (tag_eq (key x) (key e)) 1 0 in
+    let f : FieldView → ℕ = λ x. cond (tag_eq (key x) (key e)) 1 0 in
     let is : f e ≡ 1 = let step : Bool → ℕ = λ b. cond b 1 0 in ap step (tag_eq-refl (key e)) in
     subst (λ n. 0 < n) (sym (sum_by-cons f e es)) (omega (arith, is))
 
 -- the first entry's smallest tag is at most each that is there
-head_at_most : (e : Entry) (es : List Entry) (t : Tag) → IsAscending (e ∷ es) → 0 < count_of t (e ∷ es) → IsAtMost (key e) t
+head_at_most : (e : FieldView) (es : List FieldView) (t : Tag) → IsAscending (e ∷ es) → 0 < count_of t (e ∷ es) → IsAtMost (key e) t
 head_at_most e es t up there = at_most_found (key e) t (e ∷ es) (IsAtMost-refl (key e), up.0) there
 
-module _ (all : List Entry) (apart : AllPairs (λ d e. key d ≢ key e) all) where
+module _ (all : List FieldView) (apart : AllPairs (λ d e. key d ≢ key e) all) where
   -- entries of the table with one smallest tag are one entry
-  same_entry : (d e : Entry) → Contains all d → Contains all e → key d ≡ key e → d ≡ e
-  same_entry d e (i, i_in, i_is) (j, j_in, j_is) same = by_order (cases_lt i j) (cases_lt j i)
+  same_view : (d e : FieldView) → Contains all d → Contains all e → key d ≡ key e → d ≡ e
+  same_view d e (i, i_in, i_is) (j, j_in, j_is) same = by_order (cases_lt i j) (cases_lt j i)
     where
       level : key (get_or all i d) ≡ key (get_or all j e)
       level = ap key i_is ∙ (same ∙ sym (ap key j_is))
@@ -84,14 +84,14 @@ module _ (all : List Entry) (apart : AllPairs (λ d e. key d ≢ key e) all) whe
           sym i_is ∙ (ap (λ k. get_or all k d) at ∙ (get_or_default all j d e j_in ∙ j_is))
 
   -- lists of these entries that have each as often, both ascending, are one list
-  same_list : (ds es : List Entry) → All (Contains all) ds → All (Contains all) es → ((f : Entry → ℕ) → sum_by f ds ≡ sum_by f es) →
+  same_list : (ds es : List FieldView) → All (Contains all) ds → All (Contains all) es → ((f : FieldView → ℕ) → sum_by f ds ≡ sum_by f es) →
       IsAscending ds → IsAscending es → ds ≡ es
   same_list [] [] in_ds in_es as_often up_ds up_es = refl
   same_list [] (e ∷ es) in_ds in_es as_often up_ds up_es = let f = as_often (λ _. 1) ∙ sum_by-cons (λ _. 1) e es in absurd (omega (arith, f))
   same_list (d ∷ ds) [] in_ds in_es as_often up_ds up_es = let f = sym (as_often (λ _. 1)) ∙ sum_by-cons (λ _. 1) d ds in absurd (omega (arith, f))
   same_list (d ∷ ds) (e ∷ es) in_ds in_es as_often up_ds up_es = both (same_list ds es (tail d ds in_ds) (tail e es in_es))
     where
-      tail : (x : Entry) (xs : List Entry) → All (Contains all) (x ∷ xs) → All (Contains all) xs
+      tail : (x : FieldView) (xs : List FieldView) → All (Contains all) (x ∷ xs) → All (Contains all) xs
       tail x xs inside k c lt = inside (suc k) c (omega arith)
 
       counts : (t : Tag) → count_of t (d ∷ ds) ≡ count_of t (e ∷ es)
@@ -104,9 +104,9 @@ module _ (all : List Entry) (apart : AllPairs (λ d e. key d ≢ key e) all) whe
           (head_at_most e es (key d) up_es (subst (λ n. 0 < n) (counts (key d)) (counts_itself d ds)))
 
       first : d ≡ e
-      first = same_entry d e (in_ds 0 d (omega arith)) (in_es 0 e (omega arith)) level
+      first = same_view d e (in_ds 0 d (omega arith)) (in_es 0 e (omega arith)) level
 
-      both : (((f : Entry → ℕ) → sum_by f ds ≡ sum_by f es) → IsAscending ds → IsAscending es → ds ≡ es) → d ∷ ds ≡ e ∷ es
+      both : (((f : FieldView → ℕ) → sum_by f ds ≡ sum_by f es) → IsAscending ds → IsAscending es → ds ≡ es) → d ∷ ds ≡ e ∷ es
       both rest =
           let others = rest (λ f. let h = sym (sum_by-cons f d ds) ∙ (as_often f ∙ sum_by-cons f e es) in let g = ap f first in omega (arith, h, g)) up_ds.1 up_es.1 in
           λ i. first i ∷ others i

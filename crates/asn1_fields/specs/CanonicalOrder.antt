@@ -4,7 +4,7 @@ use Rattle.std.specs.Ordering.{is_le}
 use Rattle.asn1_tags.specs.Tags.{IsAtMost, smallest, tag_cmp}
 use Rattle.asn1_tags.specs.Trees.{leaves}
 use Rattle.asn1_tags.specs.declared.tags.Tag.{Tag}
-use Rattle.asn1_fields.specs.Entries.{Component, Entry, component_of}
+use Rattle.asn1_fields.specs.FieldViews.{Component, FieldView, component_of}
 
 -- the smallest leaf of a component's tree
 abbrev pub smallest_tag : Component → Tag
@@ -28,6 +28,6 @@ canonical (c ∷ (d ∷ cs)) = in_order c d && canonical (d ∷ cs)
 -- Of all rearrangements of a table whose components' smallest tags differ, at most one is canonical.
 abbrev pub AtMostOneIsCanonical : Type 0
 AtMostOneIsCanonical =
-    (first second : List Entry) → IsPermutation first second →
+    (first second : List FieldView) → IsPermutation first second →
     AllPairs (λ d e. smallest_tag (component_of d) ≢ smallest_tag (component_of e)) first →
     IsCanonical (map component_of first) → IsCanonical (map component_of second) → first ≡ second

@@ -5,7 +5,7 @@ use Rattle.asn1_tags.specs.Trees.{Tree, is_open, leaves}
 use Rattle.asn1_tags.specs.Walks.{have_common_tag}
 use Rattle.asn1_tags.specs.declared.tags.Tag.{Tag}
 use Rattle.asn1_model.specs.Tags.{Has, tree_tags}
-use Rattle.asn1_fields.specs.Entries.{Component, may_be_absent}
+use Rattle.asn1_fields.specs.FieldViews.{Component, may_be_absent}
 
 -- Two types do not have distinct tags: some tag is a tag of both. A type's tags are the leaves of its tree, or every tag
 -- where a choice of nothing is anywhere in the tree.

@@ -1,7 +1,7 @@
 -- The fields of a table as a list, and the fields that its iterators have left.
 use Rattle.std.specs.Prelude.{ℕ, List, filter, map}
 use Rattle.std.specs.Slice.Iter.{iter_rest}
-use Rattle.asn1_fields.specs.Entries.{may_be_absent}
+use Rattle.asn1_fields.specs.FieldViews.{may_be_absent}
 use Rattle.asn1_fields.specs.declared.field.Field.{Field}
 use Rattle.asn1_fields.specs.declared.iterators.FieldIter.{FieldIter}
 use Rattle.asn1_fields.specs.declared.iterators.IdentifierIter.{IdentifierIter}

@@ -1,5 +1,5 @@
 pub mod CanonicalOrder
 pub mod DistinctTags
-pub mod Entries
-pub mod EntryOrder
+pub mod FieldViews
+pub mod FieldOrder
 pub mod FieldLists

@@ -1,7 +1,7 @@
 //! The canonical order of components.
 ghost use Rattle.std.specs.Prelude.{◌≡◌, ◌↔◌, IsTrue};
 ghost use Rattle.asn1_fields.specs.CanonicalOrder.{IsCanonical, AtMostOneIsCanonical, canonical, in_order};
-ghost use Rattle.asn1_fields.specs.Entries.{component_of, components, entry_of};
+ghost use Rattle.asn1_fields.specs.FieldViews.{component_of, components, view_of};
 
 use crate::field::Field;
 
@@ -24,7 +24,7 @@ pub fn at_most_one_rearrangement_is_canonical()
 #[tactic(auto, using(asn1_tags::proofs::Smallest::smallest_cmp))]
 fn are_in_order(field: &Field<'_>, next: &Field<'_>) -> bool
     ensures { result ≡
-        in_order (component_of (entry_of field.now)) (component_of (entry_of next.now)) }
+        in_order (component_of (view_of field.now)) (component_of (view_of next.now)) }
 {
     let smallest = field.tag_tree.smallest_tag();
     smallest.const_cmp(&next.tag_tree.smallest_tag()).is_le()

@@ -2,7 +2,7 @@
 ghost use Rattle.std.specs.Prelude.{◌≡◌, not, position};
 ghost use Rattle.asn1_tags.specs.Trees.{shape};
 ghost use Rattle.asn1_fields.specs.DistinctTags.{IsLeast, IsSequenceClash, IsSetClash, rivals, sequence_clash, set_clash, share_tag};
-ghost use Rattle.asn1_fields.specs.Entries.{component_of, components, entry_of, may_be_absent};
+ghost use Rattle.asn1_fields.specs.FieldViews.{component_of, components, view_of, may_be_absent};
 
 use crate::field::Field;
 
@@ -41,7 +41,7 @@ pub fn first_set_clash(fields: &[Field<'_>]) -> Option<(usize, usize)>
 // The fields after this one that must have other tags in a SEQUENCE.
 fn sequence_rivals<'a>(field: &Field<'_>, following: &'a [Field<'a>]) -> &'a [Field<'a>]
     ensures { components result.now ≡
-        rivals (component_of (entry_of field.now)) (components following.now) }
+        rivals (component_of (view_of field.now)) (components following.now) }
 {
     if field.is_not_optional_or_default() {
         return &[];

@@ -1,7 +1,7 @@
 //! Tables of a known number of fields.
 ghost use Rattle.std.specs.Prelude.{◌≡◌, length, not};
 ghost use Rattle.std.specs.List.{list_any};
-ghost use Rattle.asn1_fields.specs.Entries.{may_be_absent};
+ghost use Rattle.asn1_fields.specs.FieldViews.{may_be_absent};
 
 use crate::field::Field;
 use crate::iterators::{FieldIter, IdentifierIter, OptionalFieldIter};
@@ -22,7 +22,7 @@ impl<'a, const N: usize> Fields<'a, N> {
     ghost use Rattle.std.specs.Prelude.{◌≡◌, ◌↔◌, ◌<◌, Any, IfSome, IsSome, IsTrue, length};
     ghost use Rattle.asn1_fields.specs.CanonicalOrder.{IsCanonical, canonical};
     ghost use Rattle.asn1_fields.specs.DistinctTags.{IsLeast, IsSequenceClash, IsSetClash, sequence_clash, set_clash};
-    ghost use Rattle.asn1_fields.specs.Entries.{components};
+    ghost use Rattle.asn1_fields.specs.FieldViews.{components};
     ghost use Rattle.asn1_fields.specs.FieldLists.{fields_left, fields_of, names_left, names_of, optional_fields, optional_left};
 
     /// The table of the fields in an array.

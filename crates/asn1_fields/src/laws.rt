@@ -2,8 +2,8 @@
 ghost use Rattle.std.specs.Iterator.{YieldsFirst, YieldsFirstBy};
 ghost use Rattle.std.specs.Prelude.{◌≡◌, ◌↔◌, IsTrue, List};
 ghost use Rattle.asn1_tags.specs.Derives.{ClonesAll};
-ghost use Rattle.asn1_fields.specs.Entries.{entry_of};
-ghost use Rattle.asn1_fields.specs.EntryOrder.{entry_cmp, presence_cmp};
+ghost use Rattle.asn1_fields.specs.FieldViews.{view_of};
+ghost use Rattle.asn1_fields.specs.FieldOrder.{view_cmp, presence_cmp};
 ghost use Rattle.asn1_fields.specs.FieldLists.{fields_left, fields_of, names_left, optional_left};
 ghost use Rattle.asn1_fields.specs.declared.field.Field.{Field};
 ghost use Rattle.asn1_fields.specs.declared.iterators.FieldIter.{FieldIter};
@@ -31,9 +31,9 @@ pub fn derives_take_every_part()
     ensures presence_clone { ClonesAll ⟦<FieldPresence as Clone>⟧.is_clone
         ⟦<FieldPresence as Clone>⟧.is_infallible }
     ensures field_equal { (f g : Field) → IsTrue (⟦<Field<'static> as PartialEq>⟧.eq f g) ↔
-        (entry_of f ≡ entry_of g) }
+        (view_of f ≡ view_of g) }
     ensures field_order { (f g : Field) → ⟦<Field<'static> as Ord>⟧.cmp f g ≡
-        entry_cmp (entry_of f) (entry_of g) }
+        view_cmp (view_of f) (view_of g) }
     ensures field_clone { ClonesAll ⟦<Field<'static> as Clone>⟧.is_clone
         ⟦<Field<'static> as Clone>⟧.is_infallible }
     ensures iter_clone { (i j : FieldIter) → ⟦<FieldIter<'static> as Clone>⟧.is_clone i j →

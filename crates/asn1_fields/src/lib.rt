@@ -6,18 +6,18 @@
 //!
 //! | Item | What it is | In `src/` | In `specs/` |
 //! |---|---|---|---|
-//! | [`Field`] | a line of a table: index, tag, tree of tags, presence and name | `field.rt` | `Entries` |
-//! | [`FieldPresence`] | whether a component is always there, OPTIONAL or has a DEFAULT | `presence.rt` | `Entries` |
+//! | [`Field`] | a row of a table: index, tag, tree of tags, presence and name | `field.rt` | `FieldViews` |
+//! | [`FieldPresence`] | whether a component is always there, OPTIONAL or has a DEFAULT | `presence.rt` | `FieldViews` |
 //! | [`Fields`] | a table of a known number of fields | `fields.rt` | `FieldLists` |
 //! | [`TableField`] | an element of an array of which a table is made: a `Field` | `table_field.rt` | |
 //! | [`FieldIter`] and the like | its fields, those that may be absent, and its names | `iterators.rt` | `FieldLists` |
-//! | [`laws`] | laws of equality, order, default and clones | `laws.rt` | `EntryOrder` |
+//! | [`laws`] | laws of equality, order, default and clones | `laws.rt` | `FieldOrder` |
 //! | [`first_sequence_clash`], [`first_set_clash`] | the rules on distinct tags | `distinct_tags.rt` | `DistinctTags` |
 //! | [`is_canonical`] | the canonical order | `canonical_order.rt` | `CanonicalOrder` |
 //!
 //! The contracts promise, in the words that `specs/` defines:
 //!
-//! - A field is seen as its `Entry`, the same apart from where its tree and its name lie in memory, and the rules on
+//! - A field is seen as its `FieldView`, the same apart from where its tree and its name lie in memory, and the rules on
 //!   tags look at its `Component`, a presence and a tree.
 //! - `first_sequence_clash` and `first_set_clash` answer the least pair of indices that breaks X.680's rule, and `None`
 //!   if and only if there is none (`least`). `specs/DistinctTags.antt` defines the rules: whether two trees share a
@@ -32,8 +32,8 @@
 //!   many (`counted`).
 //! - Fields are equal if and only if they say the same (`field_equal`), and go by what they say, part after part
 //!   (`field_order`). Presences go as they are listed, and the default one is `Default`.
-//! - `Field::new_required_type` and the like take the tree of tags from the type's meaning (`typed_entry`,
-//!   `tagged_entry`).
+//! - `Field::new_required_type` and the like take the tree of tags from the type's meaning (`typed_view`,
+//!   `tagged_view`).
 //!
 //! No call takes memory.
 //!

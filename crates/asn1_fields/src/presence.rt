@@ -13,7 +13,7 @@ pub enum FieldPresence {
 }
 
 impl FieldPresence {
-    ghost use Rattle.asn1_fields.specs.Entries.{may_be_absent};
+    ghost use Rattle.asn1_fields.specs.FieldViews.{may_be_absent};
 
     /// Whether the component may be absent.
     pub fn is_optional_or_default(&self) -> bool

@@ -3,7 +3,7 @@ use Rattle.std.proofs.Common.{◌≡◌, ℕ, zero, suc, ◌+◌, ◌<◌, Bool,
 use Rattle.std.specs.Prelude.{◌⊎◌, Some}
 use Rattle.std.specs.List.{slice_get}
 use Rattle.std.proofs.lemmas.List.Elements.{Contains-append_cases}
-use Rattle.asn1_components.specs.ComponentLists.{entries_from, trees_of}
+use Rattle.asn1_components.specs.ComponentLists.{views_from, trees_of}
 use Rattle.asn1_components.proofs.TableOrder.{table_rearranges}
 use Rattle.std.proofs.lemmas.Bool.{eqb-true}
 use Rattle.std.proofs.lemmas.List.Sorted.{length_permutation}
@@ -11,7 +11,7 @@ use Rattle.asn1_components.specs.Components.{Components, all_components, table}
 use Rattle.asn1_components.specs.ComponentTypes.{ComponentType}
 use Rattle.asn1_laws.proofs.ComponentTags.{found, not_found}
 use Rattle.asn1_laws.specs.SetParts.{CanBeginWith}
-use Rattle.asn1_fields.specs.Entries.{Entry}
+use Rattle.asn1_fields.specs.FieldViews.{FieldView}
 use Rattle.asn1_model.specs.Tags.{Tags, every, among, Has, tree_tags}
 use Rattle.asn1_model.proofs.TagSets.{has_first, has_later}
 use Rattle.asn1_tags.specs.Trees.{Trees, choice, leaves, leaves_of, is_open, is_any_open}
@@ -51,13 +51,13 @@ pub of_nothing : {V : Type 0} (cs : List (ComponentType V)) (t : Tag) → length
 of_nothing [] t empty = tt
 of_nothing (c ∷ cs) t empty = absurd (omega (arith, empty))
 
-entries_long : {V : Type 0} (k : ℕ) (cs : List (ComponentType V)) → length (entries_from k cs) ≡ length cs
+entries_long : {V : Type 0} (k : ℕ) (cs : List (ComponentType V)) → length (views_from k cs) ≡ length cs
 entries_long k [] = refl
 entries_long k (c ∷ cs) = ap suc (entries_long (k + 1) cs)
 
 -- the table has a line for each component
 table_long : {V : Type 0} (components : Components V) → length (table components) ≡ length (all_components components)
-table_long components = length_permutation (entries_from 0 (all_components components)) (table components) (table_rearranges components) ∙ entries_long 0 (all_components components)
+table_long components = length_permutation (views_from 0 (all_components components)) (table components) (table_rearranges components) ∙ entries_long 0 (all_components components)
 
 is_zero : (n : ℕ) → (¬ (n ≡ 0) → ⊥) → eqb n 0 ≡ true
 is_zero zero f = refl
@@ -68,14 +68,14 @@ module _ {V : Type 0} (components : Components V) (t : Tag) where
   group_tags = tree_tags (choice (trees_of (all_components components)))
 
   -- a line of the table has the tag
-  pub by_line : (index : ℕ) (e : Entry) → slice_get (table components) index ≡ Some e → Has (tree_tags e.tree) t → Has group_tags t
-  by_line index e at has = of_one (all_components components) e.index t (found components t index e at has)
+  pub by_component : (index : ℕ) (e : FieldView) → slice_get (table components) index ≡ Some e → Has (tree_tags e.tree) t → Has group_tags t
+  by_component index e at has = of_one (all_components components) e.index t (found components t index e at has)
 
   -- no line has it: the group can begin with it if and only if it has no components
   pub by_none : (count : ℕ) → count ≡ length (table components) →
-      ((index : ℕ) (e : Entry) → index < length (table components) → slice_get (table components) index ≡ Some e → Has (tree_tags e.tree) t → ⊥) →
+      ((index : ℕ) (e : FieldView) → index < length (table components) → slice_get (table components) index ≡ Some e → Has (tree_tags e.tree) t → ⊥) →
       (eqb count 0 ≡ true → Has group_tags t) × (Has group_tags t → eqb count 0 ≡ true)
-  by_none count is lines = (
+  by_none count is rows = (
     λ empty. of_nothing (all_components components) t (sym (table_long components) ∙ sym is ∙ eqb-true count 0 empty),
-    λ has. is_zero count (λ some. of_none (all_components components) t (λ e. some (is ∙ table_long components ∙ e)) (not_found components t lines) has),
+    λ has. is_zero count (λ some. of_none (all_components components) t (λ e. some (is ∙ table_long components ∙ e)) (not_found components t rows) has),
   )

@@ -15,7 +15,7 @@ use Rattle.asn1_model.specs.Composites.{group_records}
 use Rattle.asn1_model.specs.ConstraintSets.{ConstraintSet}
 use Rattle.asn1_model.specs.Records as model
 use Rattle.asn1_model.specs.Records.{Name, held, holding, is_presence_mark, presence_marks_alone, scalar}
-use Rattle.asn1_model.specs.RecordTables.{Line, Table}
+use Rattle.asn1_model.specs.RecordTables.{Row, Table}
 use Rattle.asn1_model.specs.Tags.{head_tag}
 use Rattle.asn1_tags.specs.declared.tags.Tag.{Tag}
 
@@ -53,7 +53,7 @@ PatchedAs old new start link =
 pub not_so : (b : Bool) → b ≡ false → {A : Type 0} → (A → b ≡ true) → ¬ A
 not_so b f so a = let x : false ≡ true = sym f ∙ so a in cc
 
-group_alone : (table : Table Line) (rs : List model.Record) (b : Bool) → presence_marks_alone rs ≡ b → group_records table (Some rs) ≡ (if b then model.presence_mark model.group_absent ∷ [] else model.presence_mark (model.group_start table) ∷ rs ++ model.presence_mark model.group_end ∷ [])
+group_alone : (table : Table Row) (rs : List model.Record) (b : Bool) → presence_marks_alone rs ≡ b → group_records table (Some rs) ≡ (if b then model.presence_mark model.group_absent ∷ [] else model.presence_mark (model.group_start table) ∷ rs ++ model.presence_mark model.group_end ∷ [])
 group_alone table rs b is = ap (λ a. if a then model.presence_mark model.group_absent ∷ [] else model.presence_mark (model.group_start table) ∷ rs ++ model.presence_mark model.group_end ∷ []) is
 
 not_alone : (b : Bool) → true ≡ not b → b ≡ false
@@ -150,7 +150,7 @@ module _ (marks : MarkBytes) where
       (omega (arith, size, outside), omega (arith, size, outside, length-append (four_bytes s.link) s.inside, s.starts))
 
   -- and how much was written before an open group
-  group_within : (table : Table Line) (rs : List model.Record) (w : Written) (start : ℕ) (far : List ℕ) (g : Group) (groups : List Group) (bytes : List ℕ) → IsWritten marks (in_group table rs w) start far (g ∷ groups) bytes → g.start ≤ length bytes
+  group_within : (table : Table Row) (rs : List model.Record) (w : Written) (start : ℕ) (far : List ℕ) (g : Group) (groups : List Group) (bytes : List ℕ) → IsWritten marks (in_group table rs w) start far (g ∷ groups) bytes → g.start ≤ length bytes
   group_within table rs w start far g groups bytes wrote =
       let s = wrote.1 in
       omega (arith, s.starts, ap length s.are ∙ length-append s.before (marks (model.group_start table) ++ s.inside))
@@ -214,7 +214,7 @@ module _ (marks : MarkBytes) where
   pub scope_is_innermost : (h : model.Head) (rs : List model.Record) (w : Written) (start : ℕ) (far : List ℕ) (groups : List Group) (bytes : List ℕ) → IsWritten marks (in_scope h rs w) start far groups bytes → ¬ GroupIsInnermost groups start
   scope_is_innermost h rs w start far groups bytes s = group_is_outside w s.outer s.outer_far groups s.before start (omega (arith, s.starts)) s.outside
 
-  pub group_is_innermost : (table : Table Line) (rs : List model.Record) (w : Written) (start : ℕ) (far : List ℕ) (groups : List Group) (bytes : List ℕ) → IsWritten marks (in_group table rs w) start far groups bytes → GroupIsInnermost groups start
+  pub group_is_innermost : (table : Table Row) (rs : List model.Record) (w : Written) (start : ℕ) (far : List ℕ) (groups : List Group) (bytes : List ℕ) → IsWritten marks (in_group table rs w) start far groups bytes → GroupIsInnermost groups start
   group_is_innermost table rs w start far [] bytes wrote = absurd wrote
   group_is_innermost table rs w start far (g ∷ groups) bytes wrote =
       let s = wrote.1 in
@@ -235,7 +235,7 @@ module _ (marks : MarkBytes) where
   not_in_group (in_group table rs w) start far groups bytes wrote outside innermost = cc
 
   -- a group was opened
-  pub group_opened : (table : Table Line) (w : Written) (start : ℕ) (far : List ℕ) (groups : List Group) (g : Group) (bytes new : List ℕ) → g.start ≡ length bytes → TellsOfGroup w g.outer_has_records → new ≡ bytes ++ marks (model.group_start table) →
+  pub group_opened : (table : Table Row) (w : Written) (start : ℕ) (far : List ℕ) (groups : List Group) (g : Group) (bytes new : List ℕ) → g.start ≡ length bytes → TellsOfGroup w g.outer_has_records → new ≡ bytes ++ marks (model.group_start table) →
       IsWritten marks w start far groups bytes → IsWritten marks (in_group table [] w) start far (g ∷ groups) new
   group_opened table w start far groups g bytes new begins flag is wrote = (
     flag,
@@ -250,7 +250,7 @@ module _ (marks : MarkBytes) where
   )
 
   -- a group that is there was closed
-  pub group_closed : (table : Table Line) (rs : List model.Record) (w : Written) (outer : ℕ) (far : List ℕ) (groups : List Group) (g : Group) (bytes new end : List ℕ) (some : Bool) → some ≡ true → new ≡ bytes ++ end → marks model.group_end ≡ end →
+  pub group_closed : (table : Table Row) (rs : List model.Record) (w : Written) (outer : ℕ) (far : List ℕ) (groups : List Group) (g : Group) (bytes new end : List ℕ) (some : Bool) → some ≡ true → new ≡ bytes ++ end → marks model.group_end ≡ end →
       IsWritten marks (in_group table rs w) outer far (g ∷ groups) bytes → some ≡ not (presence_marks_alone rs) →
       IsWritten marks (followed_by w (group_records table (Some rs))) outer far groups new × TellsOfGroup (followed_by w (group_records table (Some rs))) some
   group_closed table rs w outer far groups g bytes new end some there is ends wrote flag =
@@ -268,7 +268,7 @@ module _ (marks : MarkBytes) where
       )
 
   -- a group that is absent was closed
-  pub absent_group_closed : (table : Table Line) (rs : List model.Record) (w : Written) (outer : ℕ) (far : List ℕ) (groups : List Group) (g : Group) (bytes cut new away : List ℕ) (some : Bool) → some ≡ false → cut ≡ take g.start bytes → new ≡ cut ++ away → marks model.group_absent ≡ away →
+  pub absent_group_closed : (table : Table Row) (rs : List model.Record) (w : Written) (outer : ℕ) (far : List ℕ) (groups : List Group) (g : Group) (bytes cut new away : List ℕ) (some : Bool) → some ≡ false → cut ≡ take g.start bytes → new ≡ cut ++ away → marks model.group_absent ≡ away →
       IsWritten marks (in_group table rs w) outer far (g ∷ groups) bytes → some ≡ not (presence_marks_alone rs) →
       IsWritten marks (followed_by w (group_records table (Some rs))) outer far groups new × TellsOfGroup (followed_by w (group_records table (Some rs))) g.outer_has_records
   absent_group_closed table rs w outer far groups g bytes cut new away some none cut_is is absent wrote flag =

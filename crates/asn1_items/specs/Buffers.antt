@@ -11,7 +11,7 @@ use Rattle.asn1_items.specs.declared.error.BufferError.TheVariants.{Memory, TooL
 use Rattle.asn1_items.specs.declared.group.Group.{Group}
 use Rattle.asn1_model.specs.Composites.{group_records}
 use Rattle.asn1_model.specs.Records.{Record, Head, group_absent, group_end, group_start, held, holding, presence_marks_alone}
-use Rattle.asn1_model.specs.RecordTables.{Line, Table}
+use Rattle.asn1_model.specs.RecordTables.{Row, Table}
 use Rattle.asn1_model.specs.Tags.{head_tag}
 
 -- If the innermost list is that of a group, the flag says whether there is a record in it that is no presence mark.
@@ -43,7 +43,7 @@ module _ (marks : MarkBytes) where
     pub have_bytes : HaveBytes (written_with marks) (held rs) inside
 
   -- A group that is open: what is outside, the mark, and what is inside.
-  pub record IsOpenGroup (IsOutside : List ℕ → Type 0) (table : Table Line) (rs : List Record) (start : ℕ) (bytes : List ℕ) : Type 0 where
+  pub record IsOpenGroup (IsOutside : List ℕ → Type 0) (table : Table Row) (rs : List Record) (start : ℕ) (bytes : List ℕ) : Type 0 where
     pub before : List ℕ
     pub inside : List ℕ
     pub outside : IsOutside before
@@ -100,7 +100,7 @@ module _ (marks : MarkBytes) where
   -- A call that closes the innermost group, and is given the bytes of the presence mark of its end, and of that of an absent group.
   -- It fails only where memory runs out.
   abbrev pub EndsGroup : {A : Type 0} → List ℕ → List ℕ → Buffer → Buffer → Result A BufferError → Type 0
-  EndsGroup end absent old new result = (table : Table Line) (rs : List Record) (w : Written) → marks group_end ≡ end → marks group_absent ≡ absent → HasWritten marks (in_group table rs w) old →
+  EndsGroup end absent old new result = (table : Table Row) (rs : List Record) (w : Written) → marks group_end ≡ end → marks group_absent ≡ absent → HasWritten marks (in_group table rs w) old →
       MatchResult result (λ _. HasWritten marks (followed_by w (group_records table (Some rs))) new) (λ e. e ≡ Memory)
 
 -- A call that writes the length of the bytes from an index on over the four bytes before it, and answers the number that they held. It

@@ -8,7 +8,7 @@ ghost use Rattle.asn1_items.specs.declared.error.BufferError.TheVariants.{Memory
 ghost use Rattle.asn1_model.specs.ConstraintSets.{ConstraintSet};
 ghost use Rattle.asn1_model.specs.Records as model;
 ghost use Rattle.asn1_model.specs.Records.{Name, group_start, held, presence_mark, open_type, scalar};
-ghost use Rattle.asn1_model.specs.RecordTables.{Line, Table};
+ghost use Rattle.asn1_model.specs.RecordTables.{Row, Table};
 ghost use Rattle.asn1_model.specs.Tags.{head_tag};
 ghost use Rattle.std.specs.Prelude.{◌≡◌, ◌≢◌, ◌↔◌, ◌<◌, ◌+◌, ◌^◌, ◌∷◌, [], Err, IfErr, IfOk, IsTrue, List, false, ℕ};
 
@@ -209,7 +209,7 @@ impl Buffer {
     /// # Errors
     /// [`BufferError::Memory`].
     pub fn open_group(&mut self, start_mark: &[u8]) -> Result<(), BufferError>
-        ensures opened { (marks : MarkBytes) (table : Table Line) (w : Written) →
+        ensures opened { (marks : MarkBytes) (table : Table Row) (w : Written) →
             marks (group_start table) ≡ start_mark.now → HasWritten marks w self.old →
             IfOk result (λ _. HasWritten marks (in_group table [] w) self.new) }
         ensures memory { IfErr result (λ e. e ≡ Memory) }

@@ -5,7 +5,7 @@ use Rattle.asn1_components.proofs.DistinctFollowers.{all_then, sequence_apart}
 use Rattle.asn1_components.specs.ComponentLists.{CanBeInSequence, EachIsWellTagged, EachIsOfType, EachIsValid, all_records}
 use Rattle.asn1_components.specs.ComponentTypes.{ComponentType}
 use Rattle.asn1_components.specs.Following.{BeginsApart, EachApart, EndsApart, When, records_then}
-use Rattle.asn1_fields.specs.Entries.{may_be_absent}
+use Rattle.asn1_fields.specs.FieldViews.{may_be_absent}
 use Rattle.asn1_model.specs.Records.{Record, highest}
 use Rattle.asn1_laws.specs.declared.decode_error.DecodeError.{DecodeError}
 use Rattle.asn1_laws.specs.Reading.{MayFail, HasAdvanced, Reader, Outside}

@@ -8,19 +8,19 @@ use Rattle.asn1_fields.specs.declared.presence.FieldPresence.TheVariants.{Option
 use Rattle.asn1_model.specs.Composites.{group_records}
 use Rattle.asn1_model.specs.Records.{Record, presence_mark, group_start, group_absent, group_end, presence_marks_alone, highest}
 use Rattle.asn1_model.specs.Tags.{Tags, BeginsWithin, LiesIn, ShareNone, tree_tags, first_tags}
-use Rattle.asn1_model.specs.RecordTables.{Line, Table}
+use Rattle.asn1_model.specs.RecordTables.{Row, Table}
 use Rattle.asn1_model.proofs.FirstTags.{alone_append, begins_before, first_stays}
 use Rattle.asn1_laws.specs.declared.decode_error.DecodeError.{DecodeError}
 use Rattle.asn1_laws.specs.Reading.{Reader, MayFail, TellsPresence, Outside}
 use Rattle.asn1_laws.proofs.ReadingSteps.{highest-append, flat_failure}
 
-abbrev around : Table Line → List Record → Bool → List Record
+abbrev around : Table Row → List Record → Bool → List Record
 around table rs alone = if alone then presence_mark group_absent ∷ [] else presence_mark (group_start table) ∷ rs ++ presence_mark group_end ∷ []
 
-around_is : (table : Table Line) (rs rest : List Record) → presence_marks_alone rs ≡ false → around table rs (presence_marks_alone rs) ++ rest ≡ presence_mark (group_start table) ∷ (rs ++ (presence_mark group_end ∷ rest))
+around_is : (table : Table Row) (rs rest : List Record) → presence_marks_alone rs ≡ false → around table rs (presence_marks_alone rs) ++ rest ≡ presence_mark (group_start table) ∷ (rs ++ (presence_mark group_end ∷ rest))
 around_is table rs rest h = ap (λ b. around table rs b ++ rest) h ∙ ap (λ l. presence_mark (group_start table) ∷ l) (append_assoc rs (presence_mark group_end ∷ []) rest)
 
-around_height : (table : Table Line) (rs : List Record) → presence_marks_alone rs ≡ false → highest (around table rs (presence_marks_alone rs)) ≡ highest rs
+around_height : (table : Table Row) (rs : List Record) → presence_marks_alone rs ≡ false → highest (around table rs (presence_marks_alone rs)) ≡ highest rs
 around_height table rs h =
     let e : highest (around table rs (presence_marks_alone rs)) ≡ highest (presence_mark (group_start table) ∷ rs ++ presence_mark group_end ∷ []) = ap {B = ℕ} (λ b. highest (around table rs b)) h in
     omega (arith, e, highest-append rs (presence_mark group_end ∷ []))
@@ -29,13 +29,13 @@ module _ {V : Type 0} (cs : List (ComponentType V)) where
   abbrev pub own_tags : Tags
   own_tags = tree_tags (choice (trees_of cs))
 
-  lies : (table : Table Line) (rs : List Record) → presence_marks_alone rs ≡ false → Fits Optional (choice (trees_of cs)) (presence_mark (group_start table) ∷ rs ++ presence_mark group_end ∷ []) → LiesIn (first_tags rs) own_tags
+  lies : (table : Table Row) (rs : List Record) → presence_marks_alone rs ≡ false → Fits Optional (choice (trees_of cs)) (presence_mark (group_start table) ∷ rs ++ presence_mark group_end ∷ []) → LiesIn (first_tags rs) own_tags
   lies table rs some (inl begins) = subst (λ a. LiesIn a own_tags) (first_stays rs (presence_mark group_end ∷ []) some) begins.within
   lies table rs some (inr absent) =
       let alone : false ≡ true = sym (ap (λ b. b && true) some) ∙ sym (alone_append rs (presence_mark group_end ∷ [])) ∙ absent.1 in cc
 
   -- what follows the start of a group that is there
-  begins : (table : Table Line) → EachIsWellTagged cs → (x : V) (rest : List Record) → presence_marks_alone (all_records cs x) ≡ false → BeginsWithin own_tags (all_records cs x ++ (presence_mark group_end ∷ rest))
+  begins : (table : Table Row) → EachIsWellTagged cs → (x : V) (rest : List Record) → presence_marks_alone (all_records cs x) ≡ false → BeginsWithin own_tags (all_records cs x ++ (presence_mark group_end ∷ rest))
   begins table can x rest some =
       begins_before own_tags (all_records cs x) (presence_mark group_end ∷ rest) (record {
         some = some;
@@ -43,7 +43,7 @@ module _ {V : Type 0} (cs : List (ComponentType V)) where
       })
 
   -- The group is there, and what follows its start remains to be read.
-  pub record Entered {D : Type 0} (table : Table Line) (R : Reader D) (e : D) (v : Option V) (rest : List Record) (outer : Outside) : Type 0 where
+  pub record Entered {D : Type 0} (table : Table Row) (R : Reader D) (e : D) (v : Option V) (rest : List Record) (outer : Outside) : Type 0 where
     pub held : V
     pub is : v ≡ Some held
     pub of_type : EachIsOfType cs held
@@ -51,7 +51,7 @@ module _ {V : Type 0} (cs : List (ComponentType V)) where
     pub high : highest (group_records table (option_map (all_records cs) v)) ≡ highest (all_records cs held)
     pub at : R.remains e (all_records cs held ++ (presence_mark group_end ∷ rest), outer)
 
-  module _ {D : Type 0} (table : Table Line) (R : Reader D) (d e : D) (rest : List Record) (outer : Outside) (can : EachIsWellTagged cs) (apart : ShareNone own_tags (first_tags rest)) where
+  module _ {D : Type 0} (table : Table Row) (R : Reader D) (d e : D) (rest : List Record) (outer : Outside) (can : EachIsWellTagged cs) (apart : ShareNone own_tags (first_tags rest)) where
     after_start : (x : V) → presence_marks_alone (all_records cs x) ≡ false → R.remains d (group_records table (Some (all_records cs x)) ++ rest, outer) →
         R.remains d (presence_mark (group_start table) ∷ (all_records cs x ++ (presence_mark group_end ∷ rest)), outer)
     after_start x some at = subst (λ l. R.remains d (l, outer)) (around_is table (all_records cs x) rest some) at

@@ -1,7 +1,7 @@
 -- A SET: it is opened, what is in it is read in any order, a value is made of that, and it is closed.
 use Rattle.std.proofs.Common.{◌≡◌, ◌≤◌, ℕ, suc, Bool, true, Ok, Err, inl, arith}
 use Rattle.std.specs.Prelude.{⊤}
-use Rattle.asn1_components.specs.Components.{Components, component_records, is_set, lines}
+use Rattle.asn1_components.specs.Components.{Components, component_records, is_set, rows}
 use Rattle.asn1_model.specs.Records.{set}
 use Rattle.asn1_model.proofs.SameRecords.{highest-permutation}
 use Rattle.asn1_tags.specs.declared.tags.Tag.{Tag}
@@ -13,7 +13,7 @@ use Rattle.asn1_laws.proofs.ReadingSteps.{fails_inside, flat_failure, within_sco
 use Rattle.asn1_laws.proofs.RecordsIn.{records_in-permutation}
 
 module _ {D V : Type 0} (R : Reader D) (t : Tag) (components : Components V) (eq : V → V → Bool) (old mid end new : D) (bound : ℕ)
-    (opens : ReadsHeadOfSet R old mid (set t (lines components)) (λ items most. records_in items ≤ most) (Ok bound)) where
+    (opens : ReadsHeadOfSet R old mid (set t (rows components)) (λ items most. records_in items ≤ most) (Ok bound)) where
   -- what is in it was not read
   pub inside_not_read : {e : DecodeError} → R.depth_left old ≡ suc (R.depth_left mid) → ReadsSetLeft R {W = ⊤} bound components (λ _ _. ⊤) mid end (Err e) →
       ReadsComponents R is_set t components eq old new (Err e)
@@ -21,7 +21,7 @@ module _ {D V : Type 0} (R : Reader D) (t : Tag) (components : Components V) (eq
       let rs = component_records components v in
       let s = opens n rs rest outer at in
       let r = reads v t n s.order rest outer can of_type valid s.rearranged (omega (arith, s.moved.answer, records_in-permutation s.order rs s.rearranged)) s.moved.at in
-      fails_inside (set t (lines components) n) rs _ _ less (rw (highest-permutation s.order rs s.rearranged) at r)
+      fails_inside (set t (rows components) n) rs _ _ less (rw (highest-permutation s.order rs s.rearranged) at r)
 
   module _ {W : Type 0} (w : W) (Is : V → W → Type 0) (reads : ReadsSetLeft R bound components Is mid end (Ok w)) where
     -- no value was made
@@ -51,5 +51,5 @@ module _ {D V : Type 0} (R : Reader D) (t : Tag) (components : Components V) (eq
         record {
           answer = makes v r.answer;
           at = k.at;
-          within_depth_left = within_scope (set t (lines components) n) rs _ _ less (rw (highest-permutation s.order rs s.rearranged) at r.within_depth_left);
+          within_depth_left = within_scope (set t (rows components) n) rs _ _ less (rw (highest-permutation s.order rs s.rearranged) at r.within_depth_left);
         }

@@ -4,7 +4,7 @@ use Rattle.std.proofs.Common.{◌≡◌, Bool, true, false, ◌&&◌, List, [], 
 use Rattle.std.specs.Result.{IsErrAnd}
 use Rattle.asn1_model.specs.Composites.{group_records}
 use Rattle.asn1_model.specs.Records.{Record, Head, scalar, scope, open_type, presence_mark, group_start, group_absent, group_end, holding, height, highest, is_presence_mark, presence_marks_alone}
-use Rattle.asn1_model.specs.RecordTables.{Line, Table}
+use Rattle.asn1_model.specs.RecordTables.{Row, Table}
 use Rattle.asn1_laws.specs.declared.encode_error.EncodeError.{EncodeError}
 use Rattle.asn1_laws.specs.declared.encode_error.EncodeError.TheVariants.{Memory, Depth, Failed}
 use Rattle.asn1_laws.specs.Writing.{Writer, Written, outermost, in_scope, in_group, followed_by, IsRejection, IsLawful, Appends, IsError, Fails, Writes, ScopeIsOpen, ScopeIsNotOpen, WritesEnd, GroupIsOpen, GroupIsNotOpen, ClosesGroup, IsOutOfMemory}
@@ -36,15 +36,15 @@ marks-height (r ∷ rs) alone =
     omega (arith, mark-height r both.0, marks-height rs both.1)
 
 -- a group is nested as deep as its components
-group-height : (table : Table Line) (b : Bool) (rs : List Record) → (b ≡ true → highest rs ≡ 0) → highest (if b then presence_mark group_absent ∷ [] else presence_mark (group_start table) ∷ rs ++ presence_mark group_end ∷ []) ≡ highest rs
+group-height : (table : Table Row) (b : Bool) (rs : List Record) → (b ≡ true → highest rs ≡ 0) → highest (if b then presence_mark group_absent ∷ [] else presence_mark (group_start table) ∷ rs ++ presence_mark group_end ∷ []) ≡ highest rs
 group-height table true rs flat = sym (flat refl)
 group-height table false rs flat = omega (arith, highest-append rs (presence_mark group_end ∷ []))
 
-highest-group : (table : Table Line) (rs : List Record) → highest (group_records table (Some rs)) ≡ highest rs
+highest-group : (table : Table Row) (rs : List Record) → highest (group_records table (Some rs)) ≡ highest rs
 highest-group table rs = group-height table (presence_marks_alone rs) rs (marks-height rs)
 
 -- a group is rejected where its components are
-group_rejected : (table : Table Line) (rejects : List Record → Type 0) (b : Bool) (rs : List Record) → ((before rs after : List Record) → rejects rs → rejects (before ++ (rs ++ after))) →
+group_rejected : (table : Table Row) (rejects : List Record → Type 0) (b : Bool) (rs : List Record) → ((before rs after : List Record) → rejects rs → rejects (before ++ (rs ++ after))) →
     (b ≡ true → rejects rs → rejects (presence_mark group_absent ∷ [])) → rejects rs →
     rejects (if b then presence_mark group_absent ∷ [] else presence_mark (group_start table) ∷ rs ++ presence_mark group_end ∷ [])
 group_rejected table rejects true rs part marks is = marks refl is
@@ -154,21 +154,21 @@ module _ {E : Type 0} (W : Writer E) where
     rejected = λ is w wrote. r.rejected is h rs w (q.written (in_scope h [] w) (p.opened w wrote));
   }
 
-  pub open_group_fails : {a b : E} {table : Table Line} {e : EncodeError} (rs : List Record) → GroupIsNotOpen W a table b e → Fails W a (group_records table (Some rs)) b e
+  pub open_group_fails : {a b : E} {table : Table Row} {e : EncodeError} (rs : List Record) → GroupIsNotOpen W a table b e → Fails W a (group_records table (Some rs)) b e
   open_group_fails rs q = record {
     error = q.error;
     too_deep = λ is. absurd (q.not_too_deep is);
     rejected = λ is w wrote. q.rejected is rs;
   }
 
-  pub group_fails : {a b c : E} {table : Table Line} {rs : List Record} {e : EncodeError} → IsLawful W → GroupIsOpen W a table b → Fails W b rs c e → Fails W a (group_records table (Some rs)) c e
+  pub group_fails : {a b c : E} {table : Table Row} {rs : List Record} {e : EncodeError} → IsLawful W → GroupIsOpen W a table b → Fails W b rs c e → Fails W a (group_records table (Some rs)) c e
   group_fails {table = table} {rs} law p q = record {
     error = later_error (p.no_failure ∙ sym p.no_failure_before) q.error;
     too_deep = λ is. let high = q.too_deep is in omega (arith, highest-group table rs, high, p.same_depth);
     rejected = λ is w wrote. group_rejected table W.rejects (presence_marks_alone rs) rs law.part (law.marks rs) (q.rejected is _ (p.opened w wrote));
   }
 
-  pub writes_group : {a b c : E} {table : Table Line} {rs : List Record} {T : Type 0} (d : E) {A : Type 0} (result : Result A EncodeError) →
+  pub writes_group : {a b c : E} {table : Table Row} {rs : List Record} {T : Type 0} (d : E) {A : Type 0} (result : Result A EncodeError) →
       GroupIsOpen W a table b → Appends W b rs T c → ClosesGroup W c d result → Writes W a (group_records table (Some rs)) T d result
   writes_group {table = table} {rs} d (Ok x) p q r = record {
     written = λ w wrote. r.closed table rs w (q.written (in_group table [] w) (p.opened w wrote));

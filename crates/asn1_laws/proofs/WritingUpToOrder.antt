@@ -4,7 +4,7 @@ use Rattle.std.proofs.Common.{subst, ◌∙◌}
 use Rattle.asn1_model.specs.Composites.{group_records}
 use Rattle.asn1_model.specs.Orders.{SameRecords}
 use Rattle.asn1_model.specs.Records.{Record, Head, group_absent, holding, presence_mark}
-use Rattle.asn1_model.specs.RecordTables.{Line, Table}
+use Rattle.asn1_model.specs.RecordTables.{Row, Table}
 use Rattle.asn1_model.proofs.SameUpToOrder.{SameRecords-refl, SameAll-sym, SameAll-trans, SameAll-append, same-marks_alone, same_holding, same_group_records}
 use Rattle.asn1_laws.specs.declared.encode_error.EncodeError.{EncodeError}
 use Rattle.asn1_laws.specs.WritingUpToOrder.{RejectsByParts, WroteUpToOrder, RejectsUpToOrder, up_to_order}
@@ -51,14 +51,14 @@ pub record ScopeIsTheSame (x : Written) (h : Head) (rs : List Record) (w : Writt
 pub same_as_scope : {x : Written} {h : Head} {rs : List Record} {w : Written} → SameWritten x (in_scope h rs w) → ScopeIsTheSame x h rs w
 same_as_scope (same_scope h {rs = ss} {w = y} same outer) = record { records = ss; outer = y; is = refl; same = same; same_outer = outer }
 
-pub record GroupIsTheSame (x : Written) (table : Table Line) (rs : List Record) (w : Written) : Type 0 where
+pub record GroupIsTheSame (x : Written) (table : Table Row) (rs : List Record) (w : Written) : Type 0 where
   pub records : List Record
   pub outer : Written
   pub is : x ≡ in_group table records outer
   pub same : SameRecords records rs
   pub same_outer : SameWritten outer w
 
-pub same_as_group : {x : Written} {table : Table Line} {rs : List Record} {w : Written} → SameWritten x (in_group table rs w) → GroupIsTheSame x table rs w
+pub same_as_group : {x : Written} {table : Table Row} {rs : List Record} {w : Written} → SameWritten x (in_group table rs w) → GroupIsTheSame x table rs w
 same_as_group (same_group table {rs = ss} {w = y} same outer) = record { records = ss; outer = y; is = refl; same = same; same_outer = outer }
 
 module _ {E : Type 0} (W : Writer E) where
@@ -157,7 +157,7 @@ module _ {E : Type 0} (W : Writer E) where
         };
   }
 
-  pub group_is_open : {old new : E} {table : Table Line} → GroupIsOpen W old table new → GroupIsOpen (up_to_order W) old table new
+  pub group_is_open : {old new : E} {table : Table Row} → GroupIsOpen W old table new → GroupIsOpen (up_to_order W) old table new
   group_is_open {table = table} p = record {
     opened = λ w q. record { exactly = in_group table [] q.exactly; wrote = p.opened q.exactly q.wrote; same = same_group table (SameRecords-refl []) q.same };
     no_failure_before = p.no_failure_before;
@@ -165,7 +165,7 @@ module _ {E : Type 0} (W : Writer E) where
     same_depth = p.same_depth;
   }
 
-  pub group_is_not_open : {old new : E} {table : Table Line} {e : EncodeError} → GroupIsNotOpen W old table new e → GroupIsNotOpen (up_to_order W) old table new e
+  pub group_is_not_open : {old new : E} {table : Table Row} {e : EncodeError} → GroupIsNotOpen W old table new e → GroupIsNotOpen (up_to_order W) old table new e
   group_is_not_open {table = table} p = record {
     error = is_error p.error;
     not_too_deep = p.not_too_deep;
@@ -215,7 +215,7 @@ module _ {E : Type 0} (W : Writer E) where
   closes old new (Ok x) p = scope_is_closed p
   closes old new (Err e) p = scope_is_not_closed p
 
-  pub opens_group : (old new : E) (table : Table Line) {A : Type 0} (result : Result A EncodeError) → OpensGroup W old table new result → OpensGroup (up_to_order W) old table new result
+  pub opens_group : (old new : E) (table : Table Row) {A : Type 0} (result : Result A EncodeError) → OpensGroup W old table new result → OpensGroup (up_to_order W) old table new result
   opens_group old new table (Ok x) p = group_is_open p
   opens_group old new table (Err e) p = group_is_not_open p
 

@@ -7,7 +7,7 @@ use Rattle.asn1_tags.specs.declared.tags.Tag.{Tag}
 use Rattle.asn1_components.specs.Alternatives.{Alternatives, CanBeChosen, Each, HaveDistinctTags, OneOf, all_of, chosen, chosen_meaning, table_of}
 use Rattle.asn1_components.specs.ChosenTags.{SelectsSameAlternative, chosen_tag}
 use Rattle.asn1_components.specs.ComponentLists.{CanBeInSequence, EachIsWellTagged, EachIsOfType, EachIsValid, trees_of}
-use Rattle.asn1_components.specs.Components.{AreDistinctIn, Components, Kind, all_components, component_records, head_of_kind, lines}
+use Rattle.asn1_components.specs.Components.{AreDistinctIn, Components, Kind, all_components, component_records, head_of_kind, rows}
 use Rattle.asn1_components.specs.Following.{EndsApart}
 use Rattle.asn1_model.specs.Composites.{alternative_records, default_records, group_records, option_records}
 use Rattle.asn1_model.specs.ConstraintSets.{ConstraintSet}
@@ -85,7 +85,7 @@ module _ {D : Type 0} (R : Reader D) {V : Type 0} where
       (v : V) (n : Name) (rest : List Record) (outer : Outside) →
       EachIsWellTagged (all_components components) × AreDistinctIn kind (all_components components) →
       EachIsOfType (all_components components) v → EachIsValid (all_components components) R.accepts v →
-      ReadsBack R old new (holding (head_of_kind kind t (lines components) n) (component_records components v) ∷ []) rest outer (λ w. eq w v ≡ true) result
+      ReadsBack R old new (holding (head_of_kind kind t (rows components) n) (component_records components v) ∷ []) rest outer (λ w. eq w v ≡ true) result
 
   -- A call that reads what a SEQUENCE or a group holds: its components, in the order of their
   -- definition. The rest of the list begins with no tag of those after the last required one.
@@ -104,7 +104,7 @@ module _ {D : Type 0} (R : Reader D) {V : Type 0} where
       CanBeInSequence (all_components components) → IfSome v (EachIsOfType (all_components components)) →
       IfSome v (λ w. EachIsValid (all_components components) R.accepts w × (presence_marks_alone (component_records components w) ≡ false)) →
       ShareNone (tree_tags (choice (trees_of (all_components components)))) (first_tags rest) →
-      ReadsBack R old new (group_records (lines components) (option_map (component_records components) v)) rest outer
+      ReadsBack R old new (group_records (rows components) (option_map (component_records components) v)) rest outer
       (λ w. option_eq eq w v ≡ true) result
 
   -- A call that reads a CHOICE by its chosen alternative (29), where its alternatives can be told
@@ -155,7 +155,7 @@ module _ {D : Type 0} (R : Reader D) {V : Type 0} where
       CanBeInSet (all_components components) → EachIsOfType (all_components components) v →
       EachIsValid (all_components components) R.accepts v →
       IsPermutation items (component_records components v) → records_in items ≤ bound →
-      Advances R old new (highest items) (items, (set t (lines components) n, rest) ∷ outer) ([], (set t (lines components) n, rest) ∷ outer)
+      Advances R old new (highest items) (items, (set t (rows components) n, rest) ∷ outer) ([], (set t (rows components) n, rest) ∷ outer)
       (Is v) result
 
   -- the same of a call that reads them as parts

@@ -3,7 +3,7 @@ use Rattle.std.specs.Prelude.{◌≡◌, ◌≢◌, ◌↔◌, ℕ, suc, ◌≤�
 use Rattle.asn1_model.specs.Composites.{group_records}
 use Rattle.asn1_model.specs.Orders.{SameRecords}
 use Rattle.asn1_model.specs.Records.{Record, Head, group_absent, holding, highest, presence_mark, presence_marks_alone}
-use Rattle.asn1_model.specs.RecordTables.{Line, Table}
+use Rattle.asn1_model.specs.RecordTables.{Row, Table}
 use Rattle.asn1_laws.specs.declared.encode_error.EncodeError.{EncodeError}
 use Rattle.asn1_laws.specs.declared.encode_error.EncodeError.TheVariants.{Memory, Depth, Failed, Custom}
 
@@ -12,7 +12,7 @@ use Rattle.asn1_laws.specs.declared.encode_error.EncodeError.TheVariants.{Memory
 pub data Written : Type 0 where
   outermost : List Record → Written
   in_scope : Head → List Record → Written → Written
-  in_group : Table Line → List Record → Written → Written
+  in_group : Table Row → List Record → Written → Written
 
 -- with more records in the innermost list
 abbrev pub followed_by : Written → List Record → Written
@@ -24,7 +24,7 @@ followed_by (in_group table done outer) rs = in_group table (done ++ rs) outer
 pub data SameWritten : Written → Written → Type 0 where
   same_outermost : {rs ss : List Record} → SameRecords rs ss → SameWritten (outermost rs) (outermost ss)
   same_scope : (h : Head) {rs ss : List Record} {w x : Written} → SameRecords rs ss → SameWritten w x → SameWritten (in_scope h rs w) (in_scope h ss x)
-  same_group : (table : Table Line) {rs ss : List Record} {w x : Written} → SameRecords rs ss →
+  same_group : (table : Table Row) {rs ss : List Record} {w x : Written} → SameRecords rs ss →
       SameWritten w x → SameWritten (in_group table rs w) (in_group table ss x)
 
 -- The error says that the codec rejects the records, by a message of its own.
@@ -124,7 +124,7 @@ module _ {E : Type 0} (W : Writer E) where
   WritesEnd old new result = MatchResult result (λ _. ScopeIsClosed old new) (ScopeIsNotClosed old new)
 
   -- A group of additions of this table has been opened, which is no scope.
-  pub record GroupIsOpen (old : E) (table : Table Line) (new : E) : Type 0 where
+  pub record GroupIsOpen (old : E) (table : Table Row) (new : E) : Type 0 where
     pub opened : (w : Written) → W.wrote old w → W.wrote new (in_group table [] w)
     pub no_failure_before : W.failed old ≡ false
     pub no_failure : W.failed new ≡ false
@@ -132,19 +132,19 @@ module _ {E : Type 0} (W : Writer E) where
 
   -- It has not: whatever the group will hold is rejected, or memory ran out, or the encoder had
   -- failed before.
-  pub record GroupIsNotOpen (old : E) (table : Table Line) (new : E) (e : EncodeError) : Type 0 where
+  pub record GroupIsNotOpen (old : E) (table : Table Row) (new : E) (e : EncodeError) : Type 0 where
     pub error : IsError old new e
     pub not_too_deep : e ≢ Depth
     pub rejected : IsRejection e → (rs : List Record) → W.rejects (group_records table (Some rs))
 
   -- a call that opens a group
-  abbrev pub OpensGroup : {A : Type 0} → E → Table Line → E → Result A EncodeError → Type 0
+  abbrev pub OpensGroup : {A : Type 0} → E → Table Row → E → Result A EncodeError → Type 0
   OpensGroup old table new result = MatchResult result (λ _. GroupIsOpen old table new)
       (GroupIsNotOpen old table new)
 
   -- The innermost group has been closed. It is absent where its components are marks alone.
   pub record GroupIsClosed (old new : E) : Type 0 where
-    pub closed : (table : Table Line) (rs : List Record) (w : Written) →
+    pub closed : (table : Table Row) (rs : List Record) (w : Written) →
         W.wrote old (in_group table rs w) →
         W.wrote new (followed_by w (group_records table (Some rs)))
     pub no_failure_before : W.failed old ≡ false
@@ -155,7 +155,7 @@ module _ {E : Type 0} (W : Writer E) where
   pub record GroupIsNotClosed (old new : E) (e : EncodeError) : Type 0 where
     pub error : IsError old new e
     pub not_too_deep : e ≢ Depth
-    pub rejected : IsRejection e → (table : Table Line) (rs : List Record) (w : Written) →
+    pub rejected : IsRejection e → (table : Table Row) (rs : List Record) (w : Written) →
         W.wrote old (in_group table rs w) → W.rejects (group_records table (Some rs))
 
   -- a call that closes the innermost group

@@ -6,7 +6,7 @@ use Rattle.asn1_tags.specs.declared.tags.Tag.{Tag}
 use Rattle.asn1_components.specs.Alternatives.{Alternatives, OneOf, all_of, chosen_meaning, table_of}
 use Rattle.asn1_components.specs.ChosenTags.{chosen_tag}
 use Rattle.asn1_components.specs.ComponentLists.{EachIsOfType}
-use Rattle.asn1_components.specs.Components.{Components, Kind, all_components, component_records, head_of_kind, lines}
+use Rattle.asn1_components.specs.Components.{Components, Kind, all_components, component_records, head_of_kind, rows}
 use Rattle.asn1_model.specs.Composites.{alternative_records, default_records, group_records, option_records}
 use Rattle.asn1_model.specs.ConstraintSets.{ConstraintSet}
 use Rattle.asn1_model.specs.Meaning.{Meaning, own_records}
@@ -42,7 +42,7 @@ module _ {E : Type 0} (W : Writer E) {V : Type 0} where
   -- name.
   abbrev pub WritesComponents : {A : Type 0} → Kind → Tag → Name → Components V → V → E → E → Result A EncodeError → Type 0
   WritesComponents kind t n components v old new result =
-      Writes W old (holding (head_of_kind kind t (lines components) n) (component_records components v) ∷ [])
+      Writes W old (holding (head_of_kind kind t (rows components) n) (component_records components v) ∷ [])
       (EachIsOfType (all_components components) v) new result
 
   -- A call that writes what a SEQUENCE, a SET or a group holds: its components, in the order of
@@ -59,7 +59,7 @@ module _ {E : Type 0} (W : Writer E) {V : Type 0} where
   -- A call that writes a group of additions (25.1), which may be absent.
   abbrev pub WritesGroup : {A : Type 0} → Components V → Option V → E → E → Result A EncodeError → Type 0
   WritesGroup components o old new result =
-      Writes W old (group_records (lines components) (option_map (component_records components) o))
+      Writes W old (group_records (rows components) (option_map (component_records components) o))
       (IfSome o (EachIsOfType (all_components components))) new result
 
   -- a call that writes a value

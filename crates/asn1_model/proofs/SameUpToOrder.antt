@@ -9,7 +9,7 @@ use Rattle.asn1_model.specs.Composites.{group_records}
 use Rattle.asn1_model.specs.ConstraintSets.{ConstraintSet}
 use Rattle.asn1_model.specs.Orders.{is_unordered, SameRecord, SameAll, SameRecords, equal, one_by_one, in_any_order, at_end, next}
 use Rattle.asn1_model.specs.Records.{Name, Content, PresenceMark, Head, Record, Records, scalar, scope, open_type, presence_mark, none, more, held, listed, holding, highest, presence_marks_alone, is_presence_mark, group_start, group_absent, group_end, listed-held}
-use Rattle.asn1_model.specs.RecordTables.{Line, Table}
+use Rattle.asn1_model.specs.RecordTables.{Row, Table}
 use Rattle.asn1_model.specs.Tags.{first_tags, record_tags}
 use Rattle.asn1_model.proofs.RecordLists.{held-listed, inner_height-held}
 use Rattle.asn1_model.proofs.SameRecords.{same-mark, same-tags, same-inner_height}
@@ -169,7 +169,7 @@ same_rearranged h rs qs ss unordered all moved =
     in_any_order h unordered all (subst (λ l. IsPermutation l (listed (held ss))) (sym (listed-held qs)) (subst (λ l. IsPermutation qs l) (sym (listed-held ss)) moved))
 
 -- a group, which is absent where the other is
-pub same_group_records : (table : Table Line) (rs ss : List Record) → SameAll (held rs) (held ss) → SameAll (held (group_records table (Some rs))) (held (group_records table (Some ss)))
+pub same_group_records : (table : Table Row) (rs ss : List Record) → SameAll (held rs) (held ss) → SameAll (held (group_records table (Some rs))) (held (group_records table (Some ss)))
 same_group_records table rs ss all = by_marks (presence_marks_alone rs) (presence_marks_alone ss) (same-marks_alone rs ss all)
   where
     by_marks : (a b : Bool) → a ≡ b →

@@ -5,14 +5,14 @@ use Rattle.asn1_tags.specs.declared.tags.Tag.{Tag}
 use Rattle.asn1_tags.specs.Tags.{tag_eq}
 use Rattle.asn1_model.specs.ConstraintSets.{ConstraintSet}
 use Rattle.asn1_model.specs.Records.{Name, name_or, Record, scalar, units, utf8, PresenceMark, Side, open_type, presence_mark, holding, presence_marks_alone, sequence, set, sequence_of, set_of, explicit_tag, alternative, present, absent, group_start, group_absent, group_end}
-use Rattle.asn1_model.specs.RecordTables.{Line, Table}
+use Rattle.asn1_model.specs.RecordTables.{Row, Table}
 use Rattle.asn1_model.specs.Tags.{CHOICE}
 
 -- A SEQUENCE or a SET of components, in the order of their definition (X.680, 25 and 27), by the table of the type.
-abbrev pub sequence_records : Tag → Table Line → Name → List Record → List Record
+abbrev pub sequence_records : Tag → Table Row → Name → List Record → List Record
 sequence_records t table n components = holding (sequence t table n) components ∷ []
 
-abbrev pub set_records : Tag → Table Line → Name → List Record → List Record
+abbrev pub set_records : Tag → Table Row → Name → List Record → List Record
 set_records t table n components = holding (set t table n) components ∷ []
 
 -- A SEQUENCE OF or a SET OF elements (X.680, 26 and 28).
@@ -36,12 +36,12 @@ abbrev pub explicit_tag_records : Tag → Name → List Record → List Record
 explicit_tag_records t n rs = holding (explicit_tag t n) rs ∷ []
 
 -- The alternative of a CHOICE that was chosen, whose tag is the first of its record (X.680, 29), by the table of all.
-abbrev pub alternative_records : Tag → ConstraintSet → Table Line → Name → List Record → List Record
+abbrev pub alternative_records : Tag → ConstraintSet → Table Row → Name → List Record → List Record
 alternative_records chosen c table n rs = holding (alternative chosen c table n) rs ∷ []
 
 -- A CHOICE has no tag. Under the CHOICE marker tag it is its alternative. Under any other it is that under an
 -- explicit tag, with its own constraints and name inside (X.680, 31.2.7 c).
-abbrev pub choice_records : Tag → Table Line → List Record → ConstraintSet → Name → Tag →
+abbrev pub choice_records : Tag → Table Row → List Record → ConstraintSet → Name → Tag →
     ConstraintSet → Name → List Record
 choice_records chosen table rs own_constraints own_name t c n =
     if tag_eq t CHOICE
@@ -68,7 +68,7 @@ default_records side is_default t rs = option_records side t (if is_default then
 
 -- An extension addition group is between two presence marks. It is absent if there is none, and where its components are
 -- marks alone, as PER has it (X.691, 19.9).
-abbrev pub group_records : Table Line → Option (List Record) → List Record
+abbrev pub group_records : Table Row → Option (List Record) → List Record
 group_records table None = presence_mark group_absent ∷ []
 group_records table (Some components) =
     if presence_marks_alone components then presence_mark group_absent ∷ [] else presence_mark (group_start table) ∷ components ++ presence_mark group_end ∷ []

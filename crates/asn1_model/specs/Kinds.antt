@@ -10,7 +10,7 @@ use Rattle.asn1_ranges.specs.Members.{IsMember}
 use Rattle.asn1_ranges.specs.declared.bounded.Bounded.{Bounded}
 use Rattle.asn1_model.specs.ConstraintSets.{ConstraintSet, unconstrained, values_of, size_of}
 use Rattle.asn1_model.specs.Records.{Name, Record, name_or, Content, Head, arcs, in_root, number, null, units, utf8, scalar, discriminant, holding, sequence_of}
-use Rattle.asn1_model.specs.RecordTables.{Label, Line, Table}
+use Rattle.asn1_model.specs.RecordTables.{Label, Row, Table}
 use Rattle.asn1_model.specs.Tags.{universal, CHOICE, Has, HasOwnTag, IsATag, first_tag, tree_tags}
 use Rattle.asn1_model.specs.Composites.{option_records, choice_records}
 use Rattle.asn1_model.specs.Meaning.{Meaning, own_records, IsWellTagged, IsWellTaggedUnder}
@@ -213,7 +213,7 @@ choice_tree alternatives t = if tag_eq t CHOICE then alternatives else leaf t
 -- The alternatives of a CHOICE: their table and their trees. The chosen tag is the first tag of the contents of a value,
 -- and one of theirs.
 pub record Chosen {V : Type 0} (inside : Inside V) : Type 0 where
-  pub table : Table Line
+  pub table : Table Row
   pub alternatives : Trees
   pub among : inside.IsWellTagged → (v : V) →
       Has (tree_tags (choice alternatives)) (first_tag (inside.records v))

@@ -7,7 +7,7 @@ use Rattle.asn1_tags.specs.Trees.{Tree, leaf}
 use Rattle.asn1_model.specs.ConstraintSets.{ConstraintSet}
 use Rattle.asn1_model.specs.Records.{Name, name_or, Content, Head, Record, scalar, holding, explicit_tag, alternative, sequence, set, sequence_of, set_of}
 use Rattle.asn1_model.specs.Composites.{alternative_records, explicit_tag_records, choice_records}
-use Rattle.asn1_model.specs.RecordTables.{Line, Table}
+use Rattle.asn1_model.specs.RecordTables.{Row, Table}
 use Rattle.asn1_model.specs.Tags.{CHOICE, Tags, Has, HasOwnTag, LiesIn, IsOneRecord, only, head_tag, tree_tags}
 
 -- a content
@@ -42,7 +42,7 @@ pub only_in : (tags : Tags) (t : Tag) → Has tags t → LiesIn (only t) tags
 only_in tags t h u e = subst (Has tags) (alone_in t u e) h
 
 -- a CHOICE, which begins with the chosen tag, or with the explicit tag before it
-pub choice_is_one : (tree : Tree) (chosen : Tag) (table : Table Line) (rs : List Record)
+pub choice_is_one : (tree : Tree) (chosen : Tag) (table : Table Row) (rs : List Record)
     (own_constraints : ConstraintSet)
     (own_name : Name) →
     Has (tree_tags tree) chosen → (t : Tag) (c : ConstraintSet) (n : Name) →

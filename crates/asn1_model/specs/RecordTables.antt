@@ -5,7 +5,7 @@ use Rattle.asn1_tags.specs.Trees.{Tree}
 
 -- A component of a SEQUENCE, a SET or a group (X.680, 25.1), or an alternative of a CHOICE (29.1): its
 -- name, the tags with which it can begin, and whether it may be absent, as no alternative may.
-pub record Line : Type 0 where
+pub record Row : Type 0 where
   pub name : List ℕ
   pub tree : Tree
   pub may_be_absent : Bool

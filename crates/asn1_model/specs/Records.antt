@@ -3,7 +3,7 @@ use Rattle.std.specs.Prelude.{◌≡◌, ℕ, suc, max, ℤ, Bool, true, false, 
 use Rattle.std.proofs.Common.{ap}
 use Rattle.asn1_tags.specs.declared.tags.Tag.{Tag}
 use Rattle.asn1_model.specs.ConstraintSets.{ConstraintSet}
-use Rattle.asn1_model.specs.RecordTables.{Label, Line, Table}
+use Rattle.asn1_model.specs.RecordTables.{Label, Row, Table}
 
 -- the name of a type, as the list of its characters, or no name
 abbrev pub Name : Type 0
@@ -44,12 +44,12 @@ pub data Content : Type 0 where
 -- chosen alternative of a CHOICE, whose tag is that of the alternative. Components and alternatives are beside the table of
 -- their type.
 pub data Head : Type 0 where
-  sequence : Tag → Table Line → Name → Head
-  set : Tag → Table Line → Name → Head
+  sequence : Tag → Table Row → Name → Head
+  set : Tag → Table Row → Name → Head
   sequence_of : Tag → ConstraintSet → Name → Head
   set_of : Tag → ConstraintSet → Name → Head
   explicit_tag : Tag → Name → Head
-  alternative : Tag → ConstraintSet → Table Line → Name → Head
+  alternative : Tag → ConstraintSet → Table Row → Name → Head
 
 -- The side of a component in its definition: the root, or the additions (X.680, 25.1).
 pub data Side : Type 0 where
@@ -61,7 +61,7 @@ pub data Side : Type 0 where
 pub data PresenceMark : Type 0 where
   present : Side → Tag → PresenceMark
   absent : Side → Tag → PresenceMark
-  group_start : Table Line → PresenceMark
+  group_start : Table Row → PresenceMark
   group_absent : PresenceMark
   group_end : PresenceMark
 

@@ -9,7 +9,7 @@ use Rattle.asn1_tags.specs.Tags.{tag_eq}
 use Rattle.asn1_model.specs.Composites.{alternative_records, choice_records, option_records, explicit_tag_records}
 use Rattle.asn1_model.specs.ConstraintSets.{ConstraintSet}
 use Rattle.asn1_model.specs.Records.{Head, Name, name_or, Record, Records, Side, alternative, none, more, explicit_tag, scalar, scope, sequence, sequence_of, set, set_of, open_type, presence_mark, held, holding, listed, listed-held}
-use Rattle.asn1_model.specs.RecordTables.{Line, Table}
+use Rattle.asn1_model.specs.RecordTables.{Row, Table}
 use Rattle.asn1_model.specs.Tags.{CHOICE, HasOwnTag, HoldsItsTag, first_tag}
 
 -- Records are well formed where each open type among them holds bytes that the codec accepts as one value (X.681, 14), and each
@@ -69,7 +69,7 @@ well_formed_option accepts side t P f each None p = (tt, tt)
 well_formed_option accepts side t P f each (Some v) p = (tt, each v p)
 
 -- So are those of a CHOICE, whose tag is the first of what is inside.
-pub well_formed_choice : (accepts : List ℕ → Bool) (table : Table Line) (rs : List Record)
+pub well_formed_choice : (accepts : List ℕ → Bool) (table : Table Row) (rs : List Record)
     (own_constraints : ConstraintSet) (own_name : Name) (t : Tag) (c : ConstraintSet) (n : Name) →
     AreWellFormed accepts rs →
     AreWellFormed accepts (choice_records (first_tag rs) table rs own_constraints own_name t c n)

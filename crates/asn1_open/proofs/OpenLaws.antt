@@ -3,7 +3,7 @@ use Rattle.std.proofs.Common.{◌≡◌, ◌+◌, ◌++◌, ℕ, Bool, true, fal
 use Rattle.std.specs.Prelude.{Some, codes}
 use Rattle.asn1_components.specs.Alternatives.{all_of, chosen}
 use Rattle.asn1_components.specs.ChoiceTypes.{AgreesWithChoice, itself_agrees}
-use Rattle.asn1_components.specs.Components.{lines}
+use Rattle.asn1_components.specs.Components.{rows}
 use Rattle.asn1_laws.proofs.ReadingSteps.{highest-append, highest-holding}
 use Rattle.asn1_laws.proofs.TellingTags.{its_tag}
 use Rattle.asn1_model.specs.Kinds.{object_identifier}
@@ -68,7 +68,7 @@ instance_inside v = own_records object_identifier v.type_id ++ value_record v �
 pub two_higher : (v : Instance Open) → highest (own_records (instance_type open_meaning) v) ≡ highest (own_records open_meaning v.value) + 2
 two_higher v = omega (
   arith,
-  highest-holding (sequence (universal 8) (lines {V = Instance Open} (instance_of_components (λ i. i.type_id) (λ i. i.value) open_meaning)) (Some (codes "SEQUENCE"))) (instance_inside v),
+  highest-holding (sequence (universal 8) (rows {V = Instance Open} (instance_of_components (λ i. i.type_id) (λ i. i.value) open_meaning)) (Some (codes "SEQUENCE"))) (instance_inside v),
   highest-append (own_records object_identifier v.type_id) (value_record v ∷ []),
   highest-holding (explicit_tag (context 0) (Some (codes "SEQUENCE"))) (own_records open_meaning v.value),
 )

@@ -10,7 +10,7 @@ use Rattle.asn1_components.specs.Components.{constructed_type_under}
 use Rattle.asn1_model.specs.Kinds.{object_identifier, string_type, utf8_string}
 use Rattle.asn1_model.specs.Meaning.{Meaning, own_records}
 use Rattle.asn1_model.specs.Records.{Record, bits, units, octet, visible}
-use Rattle.asn1_model.specs.RecordTables.{Line, Table}
+use Rattle.asn1_model.specs.RecordTables.{Row, Table}
 use Rattle.asn1_model.specs.TaggedTypes.{untagged}
 use Rattle.asn1_model.specs.Tags.{universal}
 use Rattle.asn1_model.specs.contracts.impls.boolean.BoolAsnType.TheImpl.{ghosts as boolean}
@@ -65,7 +65,7 @@ open_alternatives_with itself = closed (
     alternative (codes "VisibleString") (untagged visible_string) ∷
     alternative (codes "InstanceOf") (untagged (instance_type itself)) ∷ [])
 
-abbrev pub open_table : Table Line
+abbrev pub open_table : Table Row
 open_table = table_with_itself (codes "Open") open_alternatives_with
 
 -- what an INSTANCE OF around a value says, by what the value says

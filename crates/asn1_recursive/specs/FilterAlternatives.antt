@@ -10,7 +10,7 @@ use Rattle.asn1_model.specs.Kinds.{string_type}
 use Rattle.asn1_model.specs.Meaning.{Meaning, own_records}
 use Rattle.asn1_model.specs.contracts.strings.OctetsStringTypeU8.TheImpl.{ghosts as octets}
 use Rattle.asn1_values.specs.string_contracts.strings.string_unit.U8StringUnit.TheImpl.{ghosts as octet}
-use Rattle.asn1_model.specs.RecordTables.{Line, Table}
+use Rattle.asn1_model.specs.RecordTables.{Row, Table}
 use Rattle.asn1_model.specs.WellFormed.{well_formed_append, well_formed_elements}
 use Rattle.asn1_model.specs.TaggedTypes.{tagged}
 use Rattle.asn1_model.specs.Tags.{CHOICE, context}
@@ -45,7 +45,7 @@ filter_alternatives_with itself = extensible (
     alternative (codes "approxMatch") (tagged (context 8) assertion.meaning) ∷
     alternative (codes "extensibleMatch") (tagged (context 9) matching_rule.meaning) ∷ []) []
 
-abbrev pub filter_table : Table Line
+abbrev pub filter_table : Table Row
 filter_table = table_with_itself (codes "Filter") filter_alternatives_with
 
 -- what an element and those after it say together

@@ -5,7 +5,7 @@ use Rattle.asn1_model.specs.Tags.{context}
 use Rattle.asn1_model.specs.contracts.impls.null.UnitAsnType.TheImpl.{ghosts as null}
 use Rattle.asn1_model.specs.contracts.impls.boolean.BoolAsnType.TheImpl.{ghosts as boolean}
 use Rattle.asn1_model.specs.Meaning.{Meaning}
-use Rattle.asn1_model.specs.RecordTables.{Line, Table}
+use Rattle.asn1_model.specs.RecordTables.{Row, Table}
 use Rattle.asn1_model.specs.TaggedTypes.{tagged, untagged}
 use Rattle.asn1_components.specs.Alternatives.{Alternatives, OneOf, MeansTheSame, ValueMeaning, all_of, alternative, closed, chosen_meaning, means_itself, value_meaning}
 use Rattle.asn1_components.specs.ChoiceTypes.{alternatives_with_itself, choice_holding_itself, itself_under, table_with_itself}
@@ -18,7 +18,7 @@ nested_alternatives_with itself = closed (
     alternative (codes "flag") (untagged boolean.meaning) ∷
     alternative (codes "inner") (tagged (context 0) itself) ∷ [])
 
-abbrev pub nested_table : Table Line
+abbrev pub nested_table : Table Row
 nested_table = table_with_itself (codes "Nested") nested_alternatives_with
 
 -- what the chosen alternative says of each value

@@ -3,7 +3,7 @@ use Rattle.std.proofs.Common.{◌≡◌, ℕ, Bool, true, false, cond, nat_lt, L
 use Rattle.std.specs.Prelude.{codes, is_some}
 use Rattle.std.specs.Option.{option_map_or}
 use Rattle.std.proofs.lemmas.List.{length-map, map-append}
-use Rattle.asn1_fields.specs.Entries.{Component}
+use Rattle.asn1_fields.specs.FieldViews.{Component}
 use Rattle.asn1_clash.specs.Flat.{flat_component}
 use Rattle.asn1_clash.proofs.Flat.{canonical-flat, leaves-flat, sequence_clash-flat, set_clash-flat}
 use Rattle.asn1_report.specs.declared.table_kind.TableKind.{TableKind}

@@ -2,7 +2,7 @@
 use Rattle.std.specs.Prelude.{ℕ, ◌+◌, ◌-◌, ◌^◌, Bool, true, false, ◌++◌, min, if◌then◌else◌, codes, List, [], Option, None, Some, is_some, option_map}
 use Rattle.std.specs.List.{fold}
 use Rattle.std.specs.Option.{option_map_or}
-use Rattle.asn1_fields.specs.Entries.{Component}
+use Rattle.asn1_fields.specs.FieldViews.{Component}
 use Rattle.asn1_ranges.specs.Intersection.{intersection}
 use Rattle.asn1_tags.specs.Trees.{leaves}
 use Rattle.asn1_report.specs.Lines.{lines_of, within_limit}

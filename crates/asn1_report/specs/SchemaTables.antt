@@ -3,7 +3,7 @@ use Rattle.std.specs.Prelude.{ℕ, Bool, true, false, ◌++◌, nat_lt, if◌the
 use Rattle.std.specs.Fmt.{decimal}
 use Rattle.asn1_fields.specs.CanonicalOrder.{canonical}
 use Rattle.asn1_fields.specs.DistinctTags.{sequence_clash, set_clash}
-use Rattle.asn1_fields.specs.Entries.{Component}
+use Rattle.asn1_fields.specs.FieldViews.{Component}
 use Rattle.asn1_report.specs.declared.table_kind.TableKind.{TableKind}
 use Rattle.asn1_report.specs.declared.table_kind.TableKind.TheVariants.{Sequence, Set}
 use Rattle.asn1_report.specs.Texts.{named_line}

@@ -3,7 +3,7 @@ use Rattle.std.specs.Prelude.{ℕ, ℤ, Bool, ◌==◌, if◌then◌else◌, cod
 use Rattle.std.specs.Str.{bytes_eq}
 use Rattle.asn1_tags.specs.Trees.{Tree}
 use Rattle.asn1_ranges.specs.declared.bounded.Bounded.{Bounded}
-use Rattle.asn1_fields.specs.Entries.{Component}
+use Rattle.asn1_fields.specs.FieldViews.{Component}
 use Rattle.asn1_fields.specs.declared.presence.FieldPresence.{FieldPresence}
 use Rattle.asn1_report.specs.declared.table_kind.TableKind.{TableKind}
 use Rattle.asn1_report.specs.Grammar.{deepest, tree_of, bounds_of, kind_of, presence_of}

@@ -4,7 +4,7 @@ ghost use Rattle.asn1_tags.specs.Tags.{IsSmallest, smallest, distinct};
 ghost use Rattle.asn1_tags.specs.declared.tags.Tag.{Tag};
 ghost use Rattle.asn1_fields.specs.CanonicalOrder.{IsCanonical, canonical};
 ghost use Rattle.asn1_fields.specs.DistinctTags.{IsLeast, IsSequenceClash, IsSetClash};
-ghost use Rattle.asn1_fields.specs.Entries.{Component};
+ghost use Rattle.asn1_fields.specs.FieldViews.{Component};
 ghost use Rattle.asn1_report.specs.SchemaTables.{clash_of};
 
 use crate::table_kind::TableKind;

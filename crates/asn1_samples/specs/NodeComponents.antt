@@ -18,7 +18,7 @@ use Rattle.asn1_model.specs.ConstraintSets.{unconstrained}
 use Rattle.asn1_model.specs.Kinds.{Inside, list_type, utf8_string}
 use Rattle.asn1_model.specs.Meaning.{Meaning, own_records}
 use Rattle.asn1_model.specs.Records.{Record, holding, in_root}
-use Rattle.asn1_model.specs.RecordTables.{Line, Table}
+use Rattle.asn1_model.specs.RecordTables.{Row, Table}
 use Rattle.asn1_model.specs.TaggedTypes.{untagged}
 use Rattle.asn1_model.specs.Tags.{universal}
 use Rattle.asn1_model.specs.WellFormed.{AreWellFormed}
@@ -40,7 +40,7 @@ pub record WrittenNode : Type 0 where
   pub well_formed : (accepts : List ℕ → Bool) → AreWellFormed accepts records
 
 -- the table, which is that of any node
-abbrev pub node_table : Table Line
+abbrev pub node_table : Table Row
 node_table = table_with_itself {W = WrittenNode} (codes "Node") is_sequence
     (components_with (λ n. n))
 

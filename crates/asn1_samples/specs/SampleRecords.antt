@@ -8,11 +8,11 @@ use Rattle.std.specs.declared.string.String.{String}
 use Rattle.asn1_components.specs.Enumerations.{number_of}
 use Rattle.asn1_model.specs.Composites.{alternative_records, default_records, explicit_tag_records, group_records, option_records, sequence_records, set_records}
 use Rattle.asn1_model.specs.Meaning.{Meaning, own_records}
-use Rattle.asn1_model.specs.RecordTables.{Line, Table}
+use Rattle.asn1_model.specs.RecordTables.{Row, Table}
 use Rattle.asn1_model.specs.Records.{Content, Record, octet}
 use Rattle.asn1_model.specs.TaggedTypes.{tagged}
 use Rattle.asn1_tags.specs.declared.tags.Tag.{Tag}
-use Rattle.asn1_types.specs.Words.{Range, boolean, characters_of, context, discriminant, ia5, in_additions, in_root, labels_of, lines, null, number, numeric, open_type, scalar, table_of, unconstrained, units, universal, utf8, values_of, visible}
+use Rattle.asn1_types.specs.Words.{Range, boolean, characters_of, context, discriminant, ia5, in_additions, in_root, labels_of, rows, null, number, numeric, open_type, scalar, table_of, unconstrained, units, universal, utf8, values_of, visible}
 use Rattle.asn1_samples.specs.contracts.badge.BadgeFieldTable.TheImpl.{ghosts as badge}
 use Rattle.asn1_samples.specs.contracts.color.ColorEnumeratedItems.TheImpl.{ghosts as color}
 use Rattle.asn1_samples.specs.contracts.color.ColorPartialEq.TheImpl.{ghosts as colors}
@@ -86,19 +86,19 @@ optional t records_of value = option_records in_root t (option_map (records_of t
 
 -- Person ::= SEQUENCE { age INTEGER, name UTF8String }
 abbrev pub person_records : Person → List Record
-person_records p = sequence_records (universal 16) (lines person.components) (Some (codes "Person")) (
+person_records p = sequence_records (universal 16) (rows person.components) (Some (codes "Person")) (
     integer (universal 2) p.age ++
     utf8_string (universal 12) p.name ++ [])
 
 -- Notice ::= SEQUENCE { id [0] INTEGER (0..255), urgent [1] EXPLICIT BOOLEAN OPTIONAL, text [2] UTF8String }
 abbrev pub notice_records : Notice → List Record
-notice_records n = sequence_records (universal 16) (lines notice.components) (Some (codes "Notice")) (
+notice_records n = sequence_records (universal 16) (rows notice.components) (Some (codes "Notice")) (
     up_to 255 (context 0) n.id ++
     optional (context 1) (λ t b. explicit_tag_records t (Some (codes "BOOLEAN")) (boolean_value (universal 1) b)) n.urgent ++
     utf8_string (context 2) n.text ++ [])
 
 -- Pair{T, U} ::= SEQUENCE { first T, second [0] U OPTIONAL }
-abbrev pub pair_records : {T U : Type 0} → Table Line → Meaning T → Meaning U → T → Option U → List Record
+abbrev pub pair_records : {T U : Type 0} → Table Row → Meaning T → Meaning U → T → Option U → List Record
 pair_records table t u first second = sequence_records (universal 16) table (Some (codes "Pair")) (
     own_records t first ++
     optional (context 0) (λ tag. (tagged tag u).records) second ++ [])
@@ -126,17 +126,17 @@ contact_records c =
 --     nick [0] UTF8String OPTIONAL, level [1] INTEGER (0..255), color [2] Color DEFAULT red, ..., [[ the contact ]]
 -- }
 abbrev pub profile_records : Profile → List Record
-profile_records p = sequence_records (universal 16) (lines profile.components) (Some (codes "Profile")) (
+profile_records p = sequence_records (universal 16) (rows profile.components) (Some (codes "Profile")) (
     optional (context 0) utf8_string p.nick ++
     up_to 255 (context 1) p.level ++
     default_records in_root (colors.eq p.color Red) (context 2) (color_value (context 2) p.color) ++
-    group_records (lines contact.components) (option_map contact_records p.contact) ++ [])
+    group_records (rows contact.components) (option_map contact_records p.contact) ++ [])
 
 -- Visit ::= SEQUENCE { day [0] INTEGER (0..65535), ..., [[ the contact ]], note [5] UTF8String OPTIONAL }
 abbrev pub visit_records : Visit → List Record
-visit_records v = sequence_records (universal 16) (lines visit.components) (Some (codes "Visit")) (
+visit_records v = sequence_records (universal 16) (rows visit.components) (Some (codes "Visit")) (
     up_to 65535 (context 0) v.day ++
-    group_records (lines contact.components) (option_map contact_records v.contact) ++
+    group_records (rows contact.components) (option_map contact_records v.contact) ++
     option_records in_additions (context 5) (option_map (utf8_string (context 5)) v.note) ++ [])
 
 -- Corner ::= CHOICE { left BOOLEAN, right OCTET STRING }
@@ -159,34 +159,34 @@ shape_records (Inner (Right octets)) = shape_alternative (universal 4) (corner_r
 
 -- Badge ::= SET { id INTEGER (0..4294967295), label VisibleString OPTIONAL, shape Shape }
 abbrev pub badge_records : Badge → List Record
-badge_records b = set_records (universal 17) (lines badge.components) (Some (codes "Badge")) (
+badge_records b = set_records (universal 17) (rows badge.components) (Some (codes "Badge")) (
     up_to 4294967295 (universal 2) b.id ++
     optional (universal 26) visible_string b.label ++
     own_records shapes.meaning b.shape ++ [])
 
 -- Ticket ::= SET { seat [0] INTEGER (0..65535), name [1] UTF8String OPTIONAL, paid [2] BOOLEAN DEFAULT FALSE }
 abbrev pub ticket_records : Ticket → List Record
-ticket_records t = set_records (universal 17) (lines ticket.components) (Some (codes "Ticket")) (
+ticket_records t = set_records (universal 17) (rows ticket.components) (Some (codes "Ticket")) (
     up_to 65535 (context 0) t.seat ++
     optional (context 1) utf8_string t.name ++
     default_records in_root (beq t.paid false) (context 2) (boolean_value (context 2) t.paid) ++ [])
 
 -- Gauge ::= SET { level INTEGER, limit [0] INTEGER OPTIONAL, unit [1] UTF8String }
 abbrev pub gauge_records : Gauge → List Record
-gauge_records g = set_records (universal 17) (lines gauge.components) (Some (codes "Gauge")) (
+gauge_records g = set_records (universal 17) (rows gauge.components) (Some (codes "Gauge")) (
     integer (universal 2) (pos g.level) ++
     optional (context 0) (λ t n. integer t (pos n)) g.limit ++
     utf8_string (context 1) g.unit ++ [])
 
 -- Envelope ::= SEQUENCE { kind INTEGER (0..255), body ANY }, where ANY is an open type
 abbrev pub envelope_records : Envelope → List Record
-envelope_records e = sequence_records (universal 16) (lines envelope.components) (Some (codes "Envelope")) (
+envelope_records e = sequence_records (universal 16) (rows envelope.components) (Some (codes "Envelope")) (
     up_to 255 (universal 2) e.kind ++
     open_type None e.body ∷ [])
 
 -- Labelled ::= SEQUENCE { key [0] INTEGER (0..255), note [1] INTEGER (0..255) }
 abbrev labelled_value : Tag → Labelled → List Record
-labelled_value t l = sequence_records t (lines labelled.components) (Some (codes "Labelled")) (
+labelled_value t l = sequence_records t (rows labelled.components) (Some (codes "Labelled")) (
     up_to 255 (context 0) l.key ++
     up_to 255 (context 1) l.note ++ [])
 
@@ -195,7 +195,7 @@ labelled_records = labelled_value (universal 16)
 
 -- Settings ::= SEQUENCE { entry [0] Labelled DEFAULT { key 1, note 0 } }, of which every entry with the key 1 is the default
 abbrev pub settings_records : Settings → List Record
-settings_records s = sequence_records (universal 16) (lines settings.components) (Some (codes "Settings")) (
+settings_records s = sequence_records (universal 16) (rows settings.components) (Some (codes "Settings")) (
     default_records in_root (nat_eq s.entry.key 1) (context 0) (labelled_value (context 0) s.entry) ++ [])
 
 -- Plate ::= VisibleString (FROM ("A" | "B" | "C"))

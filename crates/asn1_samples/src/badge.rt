@@ -4,7 +4,7 @@ ghost use Rattle.asn1_types.specs.Words.{untagged, required, optional, set, cons
 ghost use Rattle.asn1_components.specs.Components.{all_components, root_entries, table};
 ghost use Rattle.asn1_laws.specs.SetParts.{EachFits, MakesValue};
 ghost use Rattle.asn1_fields.specs.CanonicalOrder.{IsCanonical};
-ghost use Rattle.asn1_fields.specs.Entries.{component_of};
+ghost use Rattle.asn1_fields.specs.FieldViews.{component_of};
 
 use crate::shape::Shape;
 use asn1_dec::{Decode, DecodeError, DecodeSet, Decoder, keep_once};

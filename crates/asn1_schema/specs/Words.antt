@@ -4,7 +4,7 @@
 pub use Rattle.asn1_types.specs.Words.{universal, application, context, private, untagged, tagged, explicitly_tagged, explicitly_tagged_as}
 -- the components of a SEQUENCE or a SET (25 and 27)
 pub use Rattle.asn1_types.specs.Words.{required, optional, with_default, addition, addition_with_default}
-pub use Rattle.asn1_types.specs.Words.{lines, group, sequence, extensible_sequence, set, extensible_set}
+pub use Rattle.asn1_types.specs.Words.{rows, group, sequence, extensible_sequence, set, extensible_set}
 -- the same, each with the slot into which it is read
 pub use Rattle.asn1_slots.specs.Slots.{required_slot, optional_slot, default_slot, empty_list_slot, addition_slot, addition_with_default_slot, addition_with_empty_list_slot, group_slot}
 pub use Rattle.asn1_slots.specs.Slots.{sequence_of_slots, extensible_sequence_after, set_of_slots, extensible_set_after, slots_agree}

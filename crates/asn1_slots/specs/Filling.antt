@@ -3,7 +3,7 @@ use Rattle.std.specs.Prelude.{◌≡◌, ℕ, Bool, true, false, List, Option, N
 use Rattle.std.specs.Option.{option_eq, option_map}
 use Rattle.std.specs.Result.{IsErrAnd}
 use Rattle.asn1_components.specs.ComponentLists.{CanBeInSequence, EachIsOfType, EachIsValid, trees_of}
-use Rattle.asn1_components.specs.Components.{Components, all_components, component_records, lines}
+use Rattle.asn1_components.specs.Components.{Components, all_components, component_records, rows}
 use Rattle.asn1_components.specs.Following.{BeginsApart}
 use Rattle.asn1_laws.specs.DecodeErrors.{duplicate_field, reason}
 use Rattle.asn1_laws.specs.Reading.{Outside, Reader, ReadsBack}
@@ -62,5 +62,5 @@ module _ {D W A : Type 0} (R : Reader D) where
         (presence_marks_alone (component_records components w) ≡ false)) →
         BeginsApart (choice (trees_of (all_components components))) rest →
         ReadsBack R old new
-        (group_records (lines components) (option_map (component_records components) v)) rest outer
+        (group_records (rows components) (option_map (component_records components) v)) rest outer
         (λ _. option_eq eq slot v ≡ true) result

@@ -13,7 +13,7 @@ use Rattle.asn1_laws.specs.SetParts.{unmarked}
 use Rattle.asn1_laws.proofs.ReadingSteps.{in_other_words}
 use Rattle.asn1_laws.specs.declared.decode_error.DecodeError.{DecodeError}
 use Rattle.asn1_laws.specs.declared.decode_error.DecodeError.TheVariants.{Memory}
-use Rattle.asn1_fields.specs.Entries.{may_be_absent}
+use Rattle.asn1_fields.specs.FieldViews.{may_be_absent}
 use Rattle.asn1_model.specs.Composites.{default_records}
 use Rattle.asn1_model.specs.Records.{Record, Side, in_additions, in_root}
 use Rattle.asn1_model.specs.TaggedTypes.{TaggedType}

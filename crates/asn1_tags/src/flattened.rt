@@ -132,7 +132,7 @@ impl Variants {
     #[tactic(auto, using(crate::proofs::Searching::searches))]
     pub fn find_counted(&self, tag: &Tag) -> (Option<usize>, usize)
         ensures index { result.0 ≡ position_of tag.now self.now.tags }
-        ensures few { IsSome self.now.table → result.1 ≤ binary_digits (length self.now.tags) }
+        ensures comparisons { IsSome self.now.table → result.1 ≤ binary_digits (length self.now.tags) }
         ensures at_most_all { result.1 ≤ length self.now.tags }
         ensures some { self.now.tags ≢ [] → 1 ≤ result.1 }
     {

@@ -35,7 +35,7 @@
 //!   succeeds, unless memory runs out, if and only if the table fits (`TableFits`), and else says where it fails
 //!   first (`FailsFirstAt`, the clause `mismatch`). `position_of` and `find_counted` give the first
 //!   index of a tag. `find_counted` also counts its comparisons of tags: with a table at most as many
-//!   as the length of the list has binary digits (the clause `few`), at most one for each tag in any
+//!   as the length of the list has binary digits (the clause `comparisons`), at most one for each tag in any
 //!   case, and at least one where the list is not empty. `specs/TagTables.antt` defines these words.
 //! - An `Identifier` is its text, `name_of` in `specs/Names.antt`: `or` keeps a name and takes the
 //!   other in place of none.

@@ -36,7 +36,7 @@ impl Meter {
 /// The first index of the tag in the list, and the number of comparisons that it took to find it.
 pub(crate) fn find_in_list(tags: &[Tag], tag: &Tag) -> (Option<usize>, usize)
     ensures index { result.0 ≡ position_of tag.now tags.now }
-    ensures few { result.1 ≤ length tags.now }
+    ensures comparisons { result.1 ≤ length tags.now }
     ensures some { 0 < length tags.now → 0 < result.1 }
 {
     let mut meter = Meter::new();
@@ -54,7 +54,7 @@ pub(crate) fn find_in_list(tags: &[Tag], tag: &Tag) -> (Option<usize>, usize)
 pub(crate) fn find_in_table(table: &[(Tag, usize)], tag: &Tag) -> (Option<usize>, usize)
     requires { IsStrictlySortedBy entry_cmp table.now }
     ensures index { result.0 ≡ first_position tag.now table.now }
-    ensures few { result.1 ≤ binary_digits (length table.now) }
+    ensures comparisons { result.1 ≤ binary_digits (length table.now) }
     ensures some { 0 < length table.now → 0 < result.1 }
 {
     let mut meter = Meter::new();

@@ -10,7 +10,7 @@ use Rattle.asn1_model.specs.Kinds.{elements_type, object_identifier, scope_type}
 use Rattle.asn1_model.specs.Meaning.{Meaning, tags, own_records, IsWellTagged}
 use Rattle.asn1_model.specs.TaggedTypes.{explicitly_tagged_as, untagged}
 use Rattle.asn1_model.specs.Tags.{universal, context, CHOICE, IsATag, LiesIn, first_tags, only}
-use Rattle.asn1_fields.specs.Entries.{Entry, entry}
+use Rattle.asn1_fields.specs.FieldViews.{FieldView, view}
 use Rattle.asn1_fields.specs.declared.presence.FieldPresence.TheVariants.{Required}
 use Rattle.asn1_components.specs.ComponentTypes.{required}
 use Rattle.asn1_components.specs.Components.{Components, sequence}
@@ -84,7 +84,7 @@ instance_of_components type_id content m =
     required (codes "value") content (explicitly_tagged_as (Some (codes "SEQUENCE")) (context 0) m) ∷ [])
 
 -- Its field table: the name of the type is an OBJECT IDENTIFIER, the value has the tag Context 0, and both are always there.
-abbrev pub instance_of_fields : List Entry
+abbrev pub instance_of_fields : List FieldView
 instance_of_fields =
-    entry 0 (universal 6) (leaf (universal 6)) Required (codes "type_id") ∷
-    entry 1 (context 0) (leaf (context 0)) Required (codes "value") ∷ []
+    view 0 (universal 6) (leaf (universal 6)) Required (codes "type_id") ∷
+    view 1 (context 0) (leaf (context 0)) Required (codes "value") ∷ []

@@ -5,7 +5,7 @@ pub use Rattle.asn1_model.specs.Tags.{universal, application, context, private}
 pub use Rattle.asn1_model.specs.TaggedTypes.{untagged, tagged, explicitly_tagged, explicitly_tagged_as}
 -- the components of a SEQUENCE or a SET (25 and 27)
 pub use Rattle.asn1_components.specs.ComponentTypes.{required, optional, with_default, addition, addition_with_default}
-pub use Rattle.asn1_components.specs.Components.{lines, group, sequence, extensible_sequence, set, extensible_set, constructed_type, constructed_type_under, constructed_agrees}
+pub use Rattle.asn1_components.specs.Components.{rows, group, sequence, extensible_sequence, set, extensible_set, constructed_type, constructed_type_under, constructed_agrees}
 -- the alternatives of a CHOICE (29), and which of them a value is
 pub use Rattle.std.proofs.Common.{inl, inr}
 pub use Rattle.asn1_components.specs.Alternatives.{table_of, alternative, closed as closed_choice, extensible as extensible_choice}

@@ -4,7 +4,7 @@ use Rattle.std.proofs.Common.{inl, inr}
 use Rattle.asn1_schema.specs.model.Tags.{context}
 use Rattle.asn1_schema.specs.model.contracts.impls.null.UnitAsnType.TheImpl.{ghosts as null}
 use Rattle.asn1_schema.specs.model.Meaning.{Meaning}
-use Rattle.asn1_schema.specs.model.RecordTables.{Line, Table}
+use Rattle.asn1_schema.specs.model.RecordTables.{Row, Table}
 use Rattle.asn1_schema.specs.model.TaggedTypes.{tagged, untagged}
 use Rattle.asn1_schema.specs.components.Alternatives.{Alternatives, OneOf, MeansTheSame, ValueMeaning, all_of, alternative, closed, chosen_meaning, means_itself, value_meaning}
 use Rattle.asn1_schema.specs.components.ChoiceTypes.{alternatives_with_itself, choice_holding_itself, itself_under, table_with_itself}
@@ -16,7 +16,7 @@ parcel_alternatives_with itself = closed (
     alternative (codes "letter") (untagged null.meaning) ∷
     alternative (codes "inner") (tagged (context 0) itself) ∷ [])
 
-abbrev pub parcel_table : Table Line
+abbrev pub parcel_table : Table Row
 parcel_table = table_with_itself (codes "Parcel") parcel_alternatives_with
 
 -- what the chosen alternative says of each value

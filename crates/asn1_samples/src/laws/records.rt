@@ -1,6 +1,6 @@
 //! The records of a value of each sample type, the same for every codec. `specs/SampleRecords` writes them out.
 ghost use Rattle.asn1_samples.specs.SampleRecords.{badge_records, color_records, corner_records, envelope_records, gauge_records, labelled_records, notice_records, pair_records, person_records, plate_records, profile_records, settings_records, shape_records, ticket_records, visit_records};
-ghost use Rattle.asn1_types.specs.Words.{lines, own_records};
+ghost use Rattle.asn1_types.specs.Words.{rows, own_records};
 ghost use Rattle.std.specs.Prelude.{◌≡◌};
 
 use crate::badge::Badge;
@@ -70,6 +70,6 @@ pub fn alternatives_and_items_have_their_records(
 /// A law of a `Pair`, whatever its types: what each is to every codec.
 pub fn pairs_have_their_records<T: AsnType, U: AsnType>(pair: &Pair<T, U>)
     ensures { own_records ⟦<Pair<T, U> as AsnType>⟧.meaning pair.now ≡
-        pair_records (lines ⟦<Pair<T, U> as FieldTable>⟧.components) T.meaning U.meaning
+        pair_records (rows ⟦<Pair<T, U> as FieldTable>⟧.components) T.meaning U.meaning
         pair.now.first pair.now.second }
 {}

@@ -2,7 +2,7 @@
 ghost use Rattle.std.specs.Hash as fed;
 ghost use Rattle.std.specs.List.{flat_map};
 ghost use Rattle.std.specs.Prelude.{◌≡◌, ℕ, List, [], ◌∷◌, None, Some, codes, false, length};
-ghost use Rattle.asn1_components.specs.Components.{lines};
+ghost use Rattle.asn1_components.specs.Components.{rows};
 ghost use Rattle.asn1_model.specs.BeginningTags.{HasTagOfItsOwn, IsAlwaysThere};
 ghost use Rattle.asn1_model.specs.Composites.{explicit_tag_records, open_type_records, sequence_records, set_of_records};
 ghost use Rattle.asn1_model.specs.ConstraintSets.{ConstraintSet, unconstrained};
@@ -52,7 +52,7 @@ pub fn types_have_the_records_of_their_contents<T: AsnType, V: AsnType>()
         (Some (codes "SEQUENCE")) }
     ensures of_instance { (v : InstanceOf V) (t : Tag) (c : ConstraintSet) (name : Name) →
         ⟦<InstanceOf<V> as AsnType>⟧.meaning.records v t c name ≡
-        sequence_records t (lines ⟦<InstanceOf<V> as FieldTable>⟧.components) name
+        sequence_records t (rows ⟦<InstanceOf<V> as FieldTable>⟧.components) name
         (scalar (universal 6) unconstrained (Some (codes "OBJECT_IDENTIFIER")) (arcs v.type_id) ∷
         explicit_tag_records (context 0) (Some (codes "SEQUENCE"))
         (own_records V.meaning v.value)) }

@@ -2,7 +2,7 @@ use Rattle.std.proofs.Common.{◌<◌, ◌≤◌, ◌∙◌, Some, arith, max, s
 use Rattle.std.proofs.lemmas.List.{length-map}
 use Rattle.asn1_tags.specs.Trees.{choice, is_open, none}
 use Rattle.asn1_fields.specs.DistinctTags.{IsLeast}
-use Rattle.asn1_fields.specs.Entries.{Component}
+use Rattle.asn1_fields.specs.FieldViews.{Component}
 use Rattle.asn1_fields.specs.declared.presence.FieldPresence.TheVariants.{Required}
 use Rattle.asn1_clash.specs.Views.{component_view, components_view}
 use Rattle.asn1_clash.specs.Occurrences.{HasOpen}

@@ -1,4 +1,4 @@
-use Rattle.asn1_components.proofs.TableLengths.{lines_of_table}
+use Rattle.asn1_components.proofs.TableLengths.{rows_of_table}
 use Rattle.asn1_components.proofs.TableOrder.{numbered, sequence_numbered, root_is_canonical, table_indices_differ, table_length, table_rearranges}
 use Rattle.asn1_components.proofs.table_order.tables_are_in_order.Goals as goal
 
@@ -21,4 +21,4 @@ pub returns-clause-canonical : goal.returns-clause-canonical
 returns-clause-canonical g c = root_is_canonical g.T.FieldTable.components
 
 pub returns-clause-as_in_records : goal.returns-clause-as_in_records
-returns-clause-as_in_records g c = lines_of_table g.T.FieldTable.components
+returns-clause-as_in_records g c = rows_of_table g.T.FieldTable.components

@@ -2,9 +2,9 @@ use Rattle.std.proofs.Common.{◌≡◌, ℕ, ◌<◌}
 use Rattle.std.specs.Prelude.{Some}
 use Rattle.std.specs.List.{slice_get}
 use Rattle.asn1_components.specs.Components.{table}
-use Rattle.asn1_fields.specs.Entries.{Entry}
+use Rattle.asn1_fields.specs.FieldViews.{FieldView}
 use Rattle.asn1_model.specs.Tags.{Has, tree_tags}
 use Rattle.asn1_dec.proofs.fields.component_with_tag.Given as goal
 
 abbrev pub invariant-loop-index : goal.invariant-loop-index
-invariant-loop-index g l = (k : ℕ) (e : Entry) → k < l.index → slice_get (table g.C.FieldTable.components) k ≡ Some e → Has (tree_tags e.tree) l.tag → ⊥
+invariant-loop-index g l = (k : ℕ) (e : FieldView) → k < l.index → slice_get (table g.C.FieldTable.components) k ≡ Some e → Has (tree_tags e.tree) l.tag → ⊥

@@ -1,6 +1,6 @@
 use Rattle.std.proofs.Common.{◌∷◌, refl, arith}
 use Rattle.std.proofs.lemmas.Result.{err_from_is_err_and}
-use Rattle.asn1_components.specs.Components.{all_components, lines}
+use Rattle.asn1_components.specs.Components.{all_components, rows}
 use Rattle.asn1_components.proofs.DistinctFollowers.{set_apart}
 use Rattle.asn1_model.specs.Records.{set}
 use Rattle.asn1_laws.proofs.ReadingSteps.{fails_below}
@@ -13,7 +13,7 @@ loop-count-init g c = record {
   kept = refl;
   so_far = λ v tag n items rest outer can of_type valid moved few at.
       rw c.new-parts.ensures.items
-      (start g.D.Decoder.reader (all_components g.S.FieldTable.components) v g.S.DecodeSet.index_of (g.S.DecodeSet.is_part_of v) c.args.decoder.now items ((set tag (lines g.S.FieldTable.components) n, rest) ∷ outer) c.args.bound (g.met.S.DecodeSet.one_record_each v can.0) moved few at);
+      (start g.D.Decoder.reader (all_components g.S.FieldTable.components) v g.S.DecodeSet.index_of (g.S.DecodeSet.is_part_of v) c.args.decoder.now items ((set tag (rows g.S.FieldTable.components) n, rest) ∷ outer) c.args.bound (g.met.S.DecodeSet.one_record_each v can.0) moved few at);
 }
 
 pub loop-count-preserved : goal.loop-count-preserved

@@ -1,7 +1,7 @@
 use Rattle.std.proofs.Common.{◌≡◌, ◌≤◌, List, ◌∷◌}
 use Rattle.std.specs.Prelude.{IsPermutation}
 use Rattle.asn1_components.specs.ComponentLists.{EachIsOfType, EachIsValid}
-use Rattle.asn1_components.specs.Components.{all_components, component_records, lines}
+use Rattle.asn1_components.specs.Components.{all_components, component_records, rows}
 use Rattle.asn1_tags.specs.declared.tags.Tag.{Tag}
 use Rattle.asn1_laws.specs.Reading.{Outside, records_in}
 use Rattle.asn1_model.specs.Records.{Name, Record, highest, set}
@@ -15,7 +15,7 @@ invariant-loop-count g l =
     record {
       kept : g.D.Decoder.reader.depth_left l.decoder ≡ g.D.Decoder.reader.depth_left l.fn.decoder;
       so_far : (v : _) (tag : Tag) (n : Name) (items rest : List Record) (outer : Outside) → CanBeInSet cs → EachIsOfType cs v → EachIsValid cs g.D.Decoder.reader.accepts v →
-          IsPermutation items (component_records g.S.FieldTable.components v) → records_in items ≤ l.bound → g.D.Decoder.reader.remains l.fn.decoder (items, (set tag (lines g.S.FieldTable.components) n, rest) ∷ outer) →
+          IsPermutation items (component_records g.S.FieldTable.components v) → records_in items ≤ l.bound → g.D.Decoder.reader.remains l.fn.decoder (items, (set tag (rows g.S.FieldTable.components) n, rest) ∷ outer) →
           PartsRead g.D.Decoder.reader cs v g.S.DecodeSet.index_of (g.S.DecodeSet.is_part_of v) l.decoder l.parts.items (highest items)
-          ((set tag (lines g.S.FieldTable.components) n, rest) ∷ outer) l.count l.bound;
+          ((set tag (rows g.S.FieldTable.components) n, rest) ∷ outer) l.count l.bound;
     }

@@ -1,7 +1,7 @@
 use Rattle.std.proofs.Common.{rules, ◌≡◌, ◌∙◌, sym}
 use Rattle.std.proofs.lemmas.List.Sorted.{answers_always}
 use Rattle.asn1_fields.specs.CanonicalOrder.{canonical}
-use Rattle.asn1_fields.specs.Entries.{components}
+use Rattle.asn1_fields.specs.FieldViews.{components}
 use Rattle.asn1_fields.proofs.CanonicalTest.{IsCanonical-from_test, canonical-is, fields_in_order, test-from_IsCanonical}
 use Rattle.asn1_fields.proofs.canonical_order.is_canonical.Goals as goal
 

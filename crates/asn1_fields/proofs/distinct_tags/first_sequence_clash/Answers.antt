@@ -1,6 +1,6 @@
 use Rattle.std.proofs.Common.{◌∙◌, subst, sym}
 use Rattle.asn1_fields.specs.DistinctTags.{IsLeast, IsSequenceClash, rivals}
-use Rattle.asn1_fields.specs.Entries.{components}
+use Rattle.asn1_fields.specs.FieldViews.{components}
 use Rattle.asn1_fields.proofs.Clashes.{sequence_clash-is}
 use Rattle.asn1_fields.proofs.ClashSearches.{search_ends, search_goes_on, search_stops}
 use Rattle.asn1_fields.proofs.distinct_tags.first_sequence_clash.Goals as goal

@@ -1,6 +1,6 @@
 use Rattle.std.proofs.Common.{◌-◌, ◌+◌, drop, length, refl, take, ◌∙◌, subst, sym}
 use Rattle.asn1_fields.specs.DistinctTags.{IsLeast, IsSetClash}
-use Rattle.asn1_fields.specs.Entries.{components}
+use Rattle.asn1_fields.specs.FieldViews.{components}
 use Rattle.asn1_fields.proofs.Clashes.{set_clash-is}
 use Rattle.asn1_fields.proofs.ClashSearches.{search_ends, search_goes_on, search_stops}
 use Rattle.asn1_fields.proofs.distinct_tags.first_set_clash.Goals as goal

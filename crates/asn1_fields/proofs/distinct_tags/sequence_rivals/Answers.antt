@@ -1,7 +1,7 @@
 use Rattle.std.proofs.Common.{◌≡◌, ◌∙◌, true, sym}
 use Rattle.std.proofs.lemmas.Grind.{common_steps}
 use Rattle.std.proofs.Common.{arith}
-use Rattle.asn1_fields.specs.Entries.{may_be_absent}
+use Rattle.asn1_fields.specs.FieldViews.{may_be_absent}
 use Rattle.asn1_fields.proofs.ClashSearches.{rivals-none, rivals-some}
 use Rattle.asn1_fields.proofs.distinct_tags.sequence_rivals.Goals as goal
 

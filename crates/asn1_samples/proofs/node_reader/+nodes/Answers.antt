@@ -5,7 +5,7 @@ use Rattle.std.proofs.lemmas.Result.{err_from_is_err_and}
 use Rattle.asn1_laws.proofs.ReadingElements.{another, as_many, filled, further, no_deeper, not_told, start, through}
 use Rattle.asn1_laws.proofs.ReadingSteps.{fails_below, fails_deeper, fails_inside, flat_failure, to_end, within_scope}
 use Rattle.asn1_components.proofs.DistinctFollowers.{nothing_follows}
-use Rattle.asn1_components.specs.Components.{all_components, component_records, lines}
+use Rattle.asn1_components.specs.Components.{all_components, component_records, rows}
 use Rattle.asn1_model.specs.Meaning.{own_records}
 use Rattle.asn1_model.specs.Records.{highest, sequence}
 use Rattle.asn1_samples.proofs.NodeHeights.{children_records, inside_height, label_height}
@@ -105,7 +105,7 @@ read_child-returns-in_err-child-clause-read g t c = λ v n rest outer can of_typ
     let rs = component_records node_components v in
     let s = c.in_ok-open_sequence.ensures.read n rs rest outer at in
     let r = c.in_err-child.ensures.read v [] ((_, rest) ∷ outer) can of_type valid (nothing_follows (all_components node_components)) (to_end g.D.Decoder.reader _ rs ((_, rest) ∷ outer) s.at) in
-    rw (p.1, p.2) (fails_inside (sequence c.args.tag (lines node_components) n) rs _ _ c.in_ok-open_sequence.ensures.takes_depth.one_less r)
+    rw (p.1, p.2) (fails_inside (sequence c.args.tag (rows node_components) n) rs _ _ c.in_ok-open_sequence.ensures.takes_depth.one_less r)
 
 pub read_child-returns-in_err-close-clause-read : goal.read_child-returns-in_err-close-clause-read
 read_child-returns-in_err-close-clause-read g t c = λ v n rest outer can of_type valid at.
@@ -121,4 +121,4 @@ read_child-returns-clause-read g t c = λ v n rest outer can of_type valid at.
     let s = c.in_ok-open_sequence.ensures.read n rs rest outer at in
     let r = c.in_ok-child.ensures.read v [] ((_, rest) ∷ outer) can of_type valid (nothing_follows (all_components node_components)) (to_end g.D.Decoder.reader _ rs ((_, rest) ∷ outer) s.at) in
     let k = c.in_ok-close.ensures.read _ rest outer r.at in
-    record { answer = r.answer; at = k.at; within_depth_left = within_scope (sequence c.args.tag (lines node_components) n) rs _ _ c.in_ok-open_sequence.ensures.takes_depth.one_less r.within_depth_left }
+    record { answer = r.answer; at = k.at; within_depth_left = within_scope (sequence c.args.tag (rows node_components) n) rs _ _ c.in_ok-open_sequence.ensures.takes_depth.one_less r.within_depth_left }

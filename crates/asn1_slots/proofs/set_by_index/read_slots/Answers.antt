@@ -1,7 +1,7 @@
 use Rattle.std.proofs.Common.{◌∷◌, refl, arith}
 use Rattle.std.specs.Prelude.{⊤}
 use Rattle.std.proofs.lemmas.Result.{err_from_is_err_and}
-use Rattle.asn1_components.specs.Components.{all_components, lines}
+use Rattle.asn1_components.specs.Components.{all_components, rows}
 use Rattle.asn1_components.proofs.DistinctFollowers.{set_apart}
 use Rattle.asn1_model.specs.Records.{set}
 use Rattle.asn1_laws.proofs.ReadingSteps.{fails_below}
@@ -15,7 +15,7 @@ loop-count-init g c = record {
   kept = refl;
   so_far = λ all v tag n items rest outer can of_type valid moved few at.
       begin g.D.Decoder.reader (all_components g.S.FieldTable.components) g.S.DecodeSetByIndex.layout v all g.met.S.DecodeSetByIndex.no_group can.0
-      c.args.decoder.now _ items ((set tag (lines g.S.FieldTable.components) n, rest) ∷ outer) c.args.bound (g.met.S.DecodeSetByIndex.empty_at_first _ c.default-slots.ensures) moved few at;
+      c.args.decoder.now _ items ((set tag (rows g.S.FieldTable.components) n, rest) ∷ outer) c.args.bound (g.met.S.DecodeSetByIndex.empty_at_first _ c.default-slots.ensures) moved few at;
 }
 
 pub loop-count-preserved : goal.loop-count-preserved

@@ -1,7 +1,7 @@
 use Rattle.std.proofs.Common.{Ok, Err}
 use Rattle.asn1_laws.proofs.ReadingUpToOrder.{tells_presence}
 use Rattle.asn1_components.specs.ComponentLists.{trees_of}
-use Rattle.asn1_components.specs.Components.{all_components, lines}
+use Rattle.asn1_components.specs.Components.{all_components, rows}
 use Rattle.asn1_model.specs.Records.{group_start, group_absent}
 use Rattle.asn1_model.specs.Tags.{tree_tags}
 use Rattle.asn1_bench.proofs.RemainingItems.{found, not_found}
@@ -12,7 +12,7 @@ use Rattle.asn1_bench.proofs.decoder.ItemDecoderDecoder.open_group.Goals as goal
 pub returns-in-Ok-clause-read : goal.returns-in-Ok-clause-read
 returns-in-Ok-clause-read g c =
     let marks = g.P.Presence.mark_bytes in
-    let there = group_start (lines g.C.FieldTable.components) in
+    let there = group_start (rows g.C.FieldTable.components) in
     let own = tree_tags (choice (trees_of (all_components g.C.FieldTable.components))) in
     tells_presence (in_one_order marks) c.args.self.now _ there group_absent own (Ok c.in-Ok.is_there)
     (found marks c.args.self.now _ there group_absent own c.in-Ok.is_there c.if-state.false c.in-Ok.ensures.keeps_outside c.in-Ok.ensures.found)
@@ -20,7 +20,7 @@ returns-in-Ok-clause-read g c =
 pub returns-in-Err-clause-read : goal.returns-in-Err-clause-read
 returns-in-Err-clause-read g c =
     let marks = g.P.Presence.mark_bytes in
-    let there = group_start (lines g.C.FieldTable.components) in
+    let there = group_start (rows g.C.FieldTable.components) in
     let own = tree_tags (choice (trees_of (all_components g.C.FieldTable.components))) in
     tells_presence (in_one_order marks) c.args.self.now _ there group_absent own (Err c.fail_with.result)
     (not_found marks c.args.self.now _ there group_absent own _ c.in-Err.error c.fail_with.result c.in-Err.ensures.found)

@@ -12,7 +12,7 @@ unreachable-requires g c =
     let laws = g.met.Self.Enumerated in
     let v = c.args.self.now in
     let not_root = sym (index_found (λ i. eq i.value v) c.items.result.now e.root None (c.in-None.ensures {u = tt}) c.items.ensures) in
-    let not_added = sym (index_found (λ i. eq i.value v) c.added_lines.result.now (added e) None (c.in-None-index_in.ensures {u = tt}) c.added_lines.ensures) in
+    let not_added = sym (index_found (λ i. eq i.value v) c.additions.result.now (added e) None (c.in-None-index_in.ensures {u = tt}) c.additions.ensures) in
     elim (somewhere eq equal e laws.complete laws.lawful.distinct v) [
       | inl among ↦ value_missing eq equal e laws.complete laws.lawful.distinct e.root v not_root among
       | inr among ↦ value_missing eq equal e laws.complete laws.lawful.distinct (added e) v not_added among
@@ -57,4 +57,4 @@ returns-in-Some-index_in-clause-extended g c = λ among.
     let laws = g.met.Self.Enumerated in
     let v = c.args.self.now in
     value_at eq equal e laws.complete laws.lawful.distinct (added e) v c.in-Some-index_in.index
-    (sym (index_found (λ i. eq i.value v) c.added_lines.result.now (added e) (Some c.in-Some-index_in.index) (c.in-Some-index_in.ensures {u = tt}) c.added_lines.ensures))
+    (sym (index_found (λ i. eq i.value v) c.additions.result.now (added e) (Some c.in-Some-index_in.index) (c.in-Some-index_in.ensures {u = tt}) c.additions.ensures))

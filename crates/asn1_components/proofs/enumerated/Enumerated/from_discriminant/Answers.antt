@@ -13,11 +13,11 @@ pub returns-clause-back : goal.returns-clause-back
 returns-clause-back g c = λ v same.
     let e = g.Self.EnumeratedItems.enumeration in
     let laws = g.met.Self.Enumerated in
-    let lines = c.items.result.now ++ c.added_lines.result.now in
+    let rows = c.items.result.now ++ c.additions.result.now in
     let given = to_z-of_z w64 c.args.discriminant c.ranges.discriminant in
-    let answer = subst (λ n. c.with_number.result ≡ option_map (λ l. l.value) (find (λ l. int_eq l.number n) lines)) given c.with_number.ensures in
+    let answer = subst (λ n. c.with_number.result ≡ option_map (λ l. l.value) (find (λ l. int_eq l.number n) rows)) given c.with_number.ensures in
     answer
-    ∙ (value_found e (λ i. int_eq i.number c.args.discriminant) c.items.result.now c.added_lines.result.now c.items.ensures c.added_lines.ensures
+    ∙ (value_found e (λ i. int_eq i.number c.args.discriminant) c.items.result.now c.additions.result.now c.items.ensures c.additions.ensures
     ∙ back g.Self.PartialEq.eq g.met.Self.Eq.laws e laws.complete laws.lawful.distinct (λ i. i.number) int_eq Decides-int_eq
     (λ i j d lt within. (laws.lawful.distinct i j d lt within).number) (pos 0) c.args.discriminant v same)
 
@@ -25,12 +25,12 @@ pub returns-clause-only : goal.returns-clause-only
 returns-clause-only g c =
     let e = g.Self.EnumeratedItems.enumeration in
     let laws = g.met.Self.Enumerated in
-    let lines = c.items.result.now ++ c.added_lines.result.now in
+    let rows = c.items.result.now ++ c.additions.result.now in
     let given = to_z-of_z w64 c.args.discriminant c.ranges.discriminant in
-    let answer = subst (λ n. c.with_number.result ≡ option_map (λ l. l.value) (find (λ l. int_eq l.number n) lines)) given c.with_number.ensures in
+    let answer = subst (λ n. c.with_number.result ≡ option_map (λ l. l.value) (find (λ l. int_eq l.number n) rows)) given c.with_number.ensures in
     let found =
     answer
-    ∙ value_found e (λ i. int_eq i.number c.args.discriminant) c.items.result.now c.added_lines.result.now c.items.ensures c.added_lines.ensures in
+    ∙ value_found e (λ i. int_eq i.number c.args.discriminant) c.items.result.now c.additions.result.now c.items.ensures c.additions.ensures in
     subst (λ o. IfSome o (λ v. number_of g.Self.PartialEq.eq e v ≡ c.args.discriminant)) (sym found)
     (only g.Self.PartialEq.eq g.met.Self.Eq.laws e laws.complete laws.lawful.distinct (λ i. i.number) int_eq Decides-int_eq
     (λ i j d lt within. (laws.lawful.distinct i j d lt within).number) (pos 0) c.args.discriminant)

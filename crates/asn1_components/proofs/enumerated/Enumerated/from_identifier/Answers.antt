@@ -11,7 +11,7 @@ returns-clause-back g c = λ v same.
     let e = g.Self.EnumeratedItems.enumeration in
     let laws = g.met.Self.Enumerated in
     c.with_name.ensures
-    ∙ (value_found e (λ i. bytes_eq i.name c.args.identifier.now) c.items.result.now c.added_lines.result.now c.items.ensures c.added_lines.ensures
+    ∙ (value_found e (λ i. bytes_eq i.name c.args.identifier.now) c.items.result.now c.additions.result.now c.items.ensures c.additions.ensures
     ∙ back g.Self.PartialEq.eq g.met.Self.Eq.laws e laws.complete laws.lawful.distinct (λ i. i.name) bytes_eq bytes_eq-Decides
     (λ i j d lt within. (laws.lawful.distinct i j d lt within).name) [] c.args.identifier.now v same)
 
@@ -21,7 +21,7 @@ returns-clause-only g c =
     let laws = g.met.Self.Enumerated in
     let found =
     c.with_name.ensures
-    ∙ value_found e (λ i. bytes_eq i.name c.args.identifier.now) c.items.result.now c.added_lines.result.now c.items.ensures c.added_lines.ensures in
+    ∙ value_found e (λ i. bytes_eq i.name c.args.identifier.now) c.items.result.now c.additions.result.now c.items.ensures c.additions.ensures in
     subst (λ o. IfSome o (λ v. name_of g.Self.PartialEq.eq e v ≡ c.args.identifier.now)) (sym found)
     (only g.Self.PartialEq.eq g.met.Self.Eq.laws e laws.complete laws.lawful.distinct (λ i. i.name) bytes_eq bytes_eq-Decides
     (λ i j d lt within. (laws.lawful.distinct i j d lt within).name) [] c.args.identifier.now)

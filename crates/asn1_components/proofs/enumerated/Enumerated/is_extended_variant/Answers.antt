@@ -10,6 +10,6 @@ returns g c =
     let e = g.Self.EnumeratedItems.enumeration in
     let laws = g.met.Self.Enumerated in
     let v = c.args.self.now in
-    let found = index_found (λ i. eq i.value v) c.added_lines.result.now (added e) c.index_in.result c.index_in.ensures c.added_lines.ensures in
+    let found = index_found (λ i. eq i.value v) c.additions.result.now (added e) c.index_in.result c.index_in.ensures c.additions.ensures in
     subst (λ b. IsTrue b ↔ Contains (values (added e)) v) (sym c.is_some.ensures)
     (is_found eq g.met.Self.Eq.laws e laws.complete laws.lawful.distinct (added e) v c.index_in.result found)

@@ -7,4 +7,4 @@ use Rattle.asn1_components.proofs.enumerated_table.AnyEnumeratedTable.added_numb
 pub returns : goal.returns
 returns g c =
     c.number_at.ensures
-    ∙ number_at_index c.added_lines.result.now _ (ap (map label_of) c.added_lines.ensures ∙ sym (added_labels_are g.E.EnumeratedItems.enumeration)) c.args.index
+    ∙ number_at_index c.additions.result.now _ (ap (map label_of) c.additions.ensures ∙ sym (added_labels_are g.E.EnumeratedItems.enumeration)) c.args.index

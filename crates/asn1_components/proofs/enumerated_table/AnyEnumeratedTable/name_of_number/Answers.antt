@@ -9,6 +9,6 @@ use Rattle.asn1_components.proofs.enumerated_table.AnyEnumeratedTable.name_of_nu
 pub returns : goal.returns
 returns g c =
     let given = to_z-of_z w64 c.args.number c.ranges.number in
-    let lines = c.items.result.now ++ c.added_lines.result.now in
-    subst (λ n. option_map (λ name. name.now) c.name_of.result ≡ option_map (λ l. l.name.now) (find (λ l. int_eq l.number n) lines)) given c.name_of.ensures
-    ∙ part_found g.E.EnumeratedItems.enumeration (λ l. int_eq l.number c.args.number) c.items.result.now c.added_lines.result.now c.items.ensures c.added_lines.ensures (λ l. l.name)
+    let rows = c.items.result.now ++ c.additions.result.now in
+    subst (λ n. option_map (λ name. name.now) c.name_of.result ≡ option_map (λ l. l.name.now) (find (λ l. int_eq l.number n) rows)) given c.name_of.ensures
+    ∙ part_found g.E.EnumeratedItems.enumeration (λ l. int_eq l.number c.args.number) c.items.result.now c.additions.result.now c.items.ensures c.additions.ensures (λ l. l.name)

@@ -6,4 +6,4 @@ use Rattle.asn1_components.proofs.enumerated_table.AnyEnumeratedTable.number_of_
 pub returns : goal.returns
 returns g c =
     c.number_of.ensures
-    ∙ part_found g.E.EnumeratedItems.enumeration (λ l. bytes_eq l.name c.args.name.now) c.items.result.now c.added_lines.result.now c.items.ensures c.added_lines.ensures (λ l. l.number)
+    ∙ part_found g.E.EnumeratedItems.enumeration (λ l. bytes_eq l.name c.args.name.now) c.items.result.now c.additions.result.now c.items.ensures c.additions.ensures (λ l. l.number)

@@ -1,6 +1,6 @@
 use Rattle.std.proofs.Common.{◌∷◌}
 use Rattle.asn1_laws.proofs.ReadingUpToOrder.{tells_next_tag}
-use Rattle.asn1_components.specs.Components.{all_components, lines}
+use Rattle.asn1_components.specs.Components.{all_components, rows}
 use Rattle.asn1_der.proofs.PresenceByTag.{next_tag_found}
 use Rattle.asn1_der.specs.Decoder.{in_one_order}
 use Rattle.asn1_model.specs.Records.{set}
@@ -9,7 +9,7 @@ use Rattle.asn1_der.proofs.decoder.DerDecoderDecoder.next_component.Goals as goa
 pub returns-clause-read : goal.returns-clause-read
 returns-clause-read g c = λ tag n can.
     let cs = all_components g.C.FieldTable.components in
-    let h = set tag (lines g.C.FieldTable.components) n in
+    let h = set tag (rows g.C.FieldTable.components) n in
     let found = c.next_tag.ensures in
     tells_next_tag in_one_order c.args.self.now c.next_tag.new.self h cs c.next_tag.result
     (λ items rest outer. next_tag_found cs c.args.self.now c.next_tag.new.self items ((h, rest) ∷ outer) c.next_tag.result found.found found.same_bytes found.opens_nothing.keeps_depth.no_failure)

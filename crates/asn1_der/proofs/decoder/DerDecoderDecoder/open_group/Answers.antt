@@ -2,7 +2,7 @@ use Rattle.std.proofs.Common.{Ok}
 use Rattle.std.proofs.lemmas.Result.{err_from_is_err_and}
 use Rattle.asn1_laws.proofs.ReadingUpToOrder.{tells_presence}
 use Rattle.asn1_components.specs.ComponentLists.{trees_of}
-use Rattle.asn1_components.specs.Components.{all_components, lines}
+use Rattle.asn1_components.specs.Components.{all_components, rows}
 use Rattle.asn1_der.proofs.PresenceByTag.{not_found, found, none_found}
 use Rattle.asn1_der.specs.Decoder.{in_one_order}
 use Rattle.asn1_model.specs.Records.{group_start, group_absent}
@@ -13,7 +13,7 @@ use Rattle.asn1_der.proofs.decoder.DerDecoderDecoder.open_group.Goals as goal
 pub returns-in_err-tag-clause-read : goal.returns-in_err-tag-clause-read
 returns-in_err-tag-clause-read g c =
     let components = g.C.FieldTable.components in
-    let there = group_start (lines components) in
+    let there = group_start (rows components) in
     let own = tree_tags (choice (trees_of (all_components components))) in
     let p = err_from_is_err_and c.from_residual.result c.from_residual.ensures.1 in
     tells_presence in_one_order c.args.self.now c.next_tag.new.self there group_absent own c.from_residual.result
@@ -22,7 +22,7 @@ returns-in_err-tag-clause-read g c =
 pub returns-in-Some-clause-read : goal.returns-in-Some-clause-read
 returns-in-Some-clause-read g c =
     let components = g.C.FieldTable.components in
-    let there = group_start (lines components) in
+    let there = group_start (rows components) in
     let own = tree_tags (choice (trees_of (all_components components))) in
     tells_presence in_one_order c.args.self.now c.next_tag.new.self there group_absent own (Ok c.group_can_begin_with.result)
     (found c.args.self.now c.next_tag.new.self there group_absent own c.in-Some.tag c.group_can_begin_with.result c.in_ok-tag.field-0 c.in-Some.is
@@ -31,7 +31,7 @@ returns-in-Some-clause-read g c =
 pub returns-in-None-clause-read : goal.returns-in-None-clause-read
 returns-in-None-clause-read g c =
     let components = g.C.FieldTable.components in
-    let there = group_start (lines components) in
+    let there = group_start (rows components) in
     let own = tree_tags (choice (trees_of (all_components components))) in
     tells_presence in_one_order c.args.self.now c.next_tag.new.self there group_absent own (Ok _)
     (none_found c.args.self.now c.next_tag.new.self there group_absent own c.in_ok-tag.field-0 c.in-None.is
