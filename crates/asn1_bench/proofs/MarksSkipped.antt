@@ -1,11 +1,11 @@
 -- Presence marks of one byte are skipped.
 use Rattle.std.proofs.Common.{◌≡◌, ℕ, true, false, List, [], ◌∷◌, ◌++◌, refl, sym, ap, subst, ◌∙◌, Option, None, Some}
-use Rattle.std.specs.Prelude.{if◌then◌else◌, ◌&&◌, nat_le}
+use Rattle.std.specs.Prelude.{if◌then◌else◌}
 use Rattle.asn1_laws.specs.Reading.{marks_passed}
 use Rattle.std.specs.Option.{option_and_then}
 use Rattle.asn1_items.proofs.Items.{kind_at-is}
 use Rattle.asn1_items.specs.Headers.{from_class, is_one, is_one_item}
-use Rattle.asn1_items.specs.Kinds.{item_byte, item_kind_at, kind_of}
+use Rattle.asn1_items.specs.Kinds.{is_mark_byte, item_byte, item_kind_at, kind_of}
 use Rattle.asn1_items.specs.Items.{HasBytes, HaveBytes, mark_byte, marks_skipped, packed_marks, read_with}
 use Rattle.asn1_items.specs.declared.kinds.ItemKind.{ItemKind}
 use Rattle.asn1_items.specs.declared.kinds.ItemKind.TheVariants as item_kind
@@ -21,7 +21,7 @@ mark_skipped (group_start table) rest = refl
 mark_skipped group_absent rest = refl
 mark_skipped group_end rest = refl
 
-no_mark_kind : (kind : ItemKind) → (nat_le 16 (item_byte kind) && nat_le (item_byte kind) 20) ≡ false
+no_mark_kind : (kind : ItemKind) → is_mark_byte (item_byte kind) ≡ false
 no_mark_kind item_kind.Content = refl
 no_mark_kind (item_kind.Scope scope_kind.Sequence) = refl
 no_mark_kind (item_kind.Scope scope_kind.Set) = refl
@@ -30,15 +30,15 @@ no_mark_kind (item_kind.Scope scope_kind.SetOf) = refl
 no_mark_kind (item_kind.Scope scope_kind.ExplicitTag) = refl
 no_mark_kind (item_kind.Scope scope_kind.Alternative) = refl
 
-kept : (byte : ℕ) (rest : List ℕ) → (nat_le 16 byte && nat_le byte 20) ≡ false → marks_skipped (byte ∷ rest) ≡ byte ∷ rest
+kept : (byte : ℕ) (rest : List ℕ) → is_mark_byte byte ≡ false → marks_skipped (byte ∷ rest) ≡ byte ∷ rest
 kept byte rest e = ap (λ b. if b then marks_skipped rest else byte ∷ rest) e
 
-item_is_no_mark : (byte : ℕ) (rest : List ℕ) → is_one_item (byte ∷ rest) ≡ true → (nat_le 16 byte && nat_le byte 20) ≡ false
+item_is_no_mark : (byte : ℕ) (rest : List ℕ) → is_one_item (byte ∷ rest) ≡ true → is_mark_byte byte ≡ false
 item_is_no_mark byte rest one = by (item_kind_at byte) refl one
   where
-    by : (o : Option ItemKind) → item_kind_at byte ≡ o → is_one (option_and_then (λ kind. from_class kind rest) o) ≡ true → (nat_le 16 byte && nat_le byte 20) ≡ false
+    by : (o : Option ItemKind) → item_kind_at byte ≡ o → is_one (option_and_then (λ kind. from_class kind rest) o) ≡ true → is_mark_byte byte ≡ false
     by None at one = cc
-    by (Some kind) at one = subst (λ b. (nat_le 16 b && nat_le b 20) ≡ false) (sym (kind_at-is byte kind at)) (no_mark_kind kind)
+    by (Some kind) at one = subst (λ b. is_mark_byte b ≡ false) (sym (kind_at-is byte kind at)) (no_mark_kind kind)
 
 raw_kept : (own more : List ℕ) → is_one_item own ≡ true → marks_skipped (own ++ more) ≡ own ++ more
 raw_kept [] more one = cc

@@ -1,6 +1,6 @@
 -- A content without its labels has the bytes of the content.
 use Rattle.std.proofs.Common.{◌≡◌, refl, subst}
-use Rattle.asn1_buffers.specs.MarksAndContents.{unlabelled}
+use Rattle.asn1_buffers.specs.Unlabelled.{unlabelled}
 use Rattle.asn1_items.specs.Contents.{LooksLike}
 use Rattle.asn1_model.specs.Records.{Content, null, boolean, number, discriminant, arcs, bits, units}
 

@@ -1,15 +1,15 @@
 //! Presence marks.
 ghost use Rattle.asn1_model.specs.Records.{PresenceMark};
 ghost use Rattle.asn1_model.specs.Tags.{Tags};
-ghost use Rattle.asn1_items.specs.Items.{mark_byte, packed_marks};
+ghost use Rattle.asn1_items.specs.Items.{packed_marks};
+ghost use Rattle.asn1_items.specs.Kinds.{kind_of_mark, mark_kind_byte};
 ghost use Rattle.asn1_bench.specs.Presence.{FindsPresence, KeepsOutside};
 ghost use Rattle.std.specs.Prelude.{◌≡◌, ◌≢◌};
 
 use crate::presence::Presence;
 use asn1_bounds::Codec;
-use asn1_buffers::MarkKind;
 use asn1_components::FieldTable;
-use asn1_items::{ItemError, Slices};
+use asn1_items::{ItemError, MarkKind, Slices};
 use asn1_tags::TagTree;
 
 /// Presence marks of one byte each, by which the packed form tells what may be absent.
@@ -29,27 +29,22 @@ impl Presence for PresenceMarks {
 
     #[inline(always)]
     fn bytes_of_mark(kind: MarkKind) -> &'static [u8] {
-        match kind {
-            MarkKind::Present => &[0x10],
-            MarkKind::Absent => &[0x11],
-            MarkKind::GroupStart => &[0x12],
-            MarkKind::GroupAbsent => &[0x13],
-            MarkKind::GroupEnd => &[0x14],
-        }
+        kind.to_bytes()
     }
 
     fn component(slices: &mut Slices<'_>, _tree: TagTree<'static>) -> Result<bool, ItemError> {
-        tell(slices, 0x10, 0x11)
+        tell(slices, MarkKind::Present, MarkKind::Absent)
     }
 
     fn group<C: FieldTable>(slices: &mut Slices<'_>) -> Result<bool, ItemError> {
-        tell(slices, 0x12, 0x13)
+        tell(slices, MarkKind::GroupStart, MarkKind::GroupAbsent)
     }
 
     fn end_of_group(slices: &mut Slices<'_>) -> Result<(), ItemError> {
-        match slices.take_mark()? {
-            0x14 => Ok(()),
-            _ => Err(ItemError::Malformed),
+        if slices.take_mark()? == MarkKind::GroupEnd.to_byte() {
+            Ok(())
+        } else {
+            Err(ItemError::Malformed)
         }
     }
 
@@ -58,16 +53,17 @@ impl Presence for PresenceMarks {
     }
 }
 
-/// Whether something is there, by one of two presence marks.
-fn tell(slices: &mut Slices<'_>, there: u8, away: u8) -> Result<bool, ItemError>
-    ensures found { (p a : PresenceMark) (own : Tags) → mark_byte p ≡ there → mark_byte a ≡ away →
-        there ≢ away → FindsPresence packed_marks p a own slices.old slices.new result }
+/// Whether something is there, by the presence marks of two kinds.
+fn tell(slices: &mut Slices<'_>, there: MarkKind, away: MarkKind) -> Result<bool, ItemError>
+    ensures found { (p a : PresenceMark) (own : Tags) → kind_of_mark p ≡ there →
+        kind_of_mark a ≡ away → mark_kind_byte there ≢ mark_kind_byte away →
+        FindsPresence packed_marks p a own slices.old slices.new result }
     ensures keeps_outside { KeepsOutside slices.old slices.new }
 {
     let byte = slices.take_mark()?;
-    if byte == there {
+    if byte == there.to_byte() {
         Ok(true)
-    } else if byte == away {
+    } else if byte == away.to_byte() {
         Ok(false)
     } else {
         Err(ItemError::Malformed)

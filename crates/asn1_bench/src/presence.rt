@@ -1,6 +1,6 @@
 //! Presence and absence in the bytes of items.
 ghost use Rattle.asn1_bounds.specs.declared.codec.Codec.{Codec};
-ghost use Rattle.asn1_buffers.specs.MarksAndContents.{kind_of_mark};
+ghost use Rattle.asn1_items.specs.Kinds.{kind_of_mark};
 ghost use Rattle.asn1_laws.specs.Reading.{marks_passed};
 ghost use Rattle.asn1_components.specs.ComponentLists.{trees_of};
 ghost use Rattle.asn1_components.specs.Components.{all_components, rows};

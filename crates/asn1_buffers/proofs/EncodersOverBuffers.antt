@@ -5,7 +5,7 @@ use Rattle.std.specs.Prelude.{⊤, Some}
 use Rattle.asn1_buffers.specs.Buffers.{BufferForm, ScopeIsHeld}
 use Rattle.asn1_buffers.specs.Encoder.{CarriesUpToOrder, buffer_writer, in_one_order, scopes_in}
 use Rattle.asn1_buffers.specs.Format.{buffer_format}
-use Rattle.asn1_buffers.specs.MarksAndContents.{unlabelled}
+use Rattle.asn1_buffers.specs.Unlabelled.{unlabelled}
 use Rattle.asn1_buffers.specs.declared.encoder.BufferEncoder.{BufferEncoder}
 use Rattle.asn1_laws.proofs.WritingUpToOrder.{same_as_outermost, same_as_scope, same_followed_by}
 use Rattle.asn1_laws.specs.WritingUpToOrder.{WroteUpToOrder}

@@ -1,5 +1,5 @@
 pub mod Buffers
 pub mod Encoder
 pub mod Format
-pub mod MarksAndContents
+pub mod Unlabelled
 pub mod CompleteInput

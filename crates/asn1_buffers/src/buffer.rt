@@ -2,11 +2,11 @@
 ghost use Rattle.asn1_bounds.specs.declared.codec.Codec.{Codec};
 ghost use Rattle.asn1_buffers.specs.Buffers.{AppendsRecord, BeginsGroup, BeginsScope, BufferForm, EndsGroup, EndsScope};
 ghost use Rattle.asn1_buffers.specs.Encoder.{in_one_order};
-ghost use Rattle.asn1_buffers.specs.MarksAndContents.{kind_of_mark, unlabelled};
+ghost use Rattle.asn1_buffers.specs.Unlabelled.{unlabelled};
 ghost use Rattle.asn1_laws.specs.Writing.{outermost};
 ghost use Rattle.asn1_laws.specs.WritingUpToOrder.{RejectsByParts};
 ghost use Rattle.asn1_items.specs.Contents.{content_of};
-ghost use Rattle.asn1_items.specs.Kinds.{kind_of_scope};
+ghost use Rattle.asn1_items.specs.Kinds.{kind_of_mark, kind_of_scope};
 ghost use Rattle.asn1_model.specs.ConstraintSets.{ConstraintSet};
 ghost use Rattle.asn1_model.specs.Records as model;
 ghost use Rattle.asn1_model.specs.Records.{Head, Name, PresenceMark, Record, open_type, presence_mark, scalar};
@@ -15,9 +15,8 @@ ghost use Rattle.asn1_model.specs.Tags.{head_tag};
 ghost use Rattle.std.specs.Prelude.{◌≡◌, [], List};
 
 use crate::error::WriteError;
-use crate::kinds::MarkKind;
 use asn1_bounds::Codec;
-use asn1_items::{Content, ScopeKind};
+use asn1_items::{Content, MarkKind, ScopeKind};
 use asn1_tags::Tag;
 use std::alloc::Global;
 

@@ -3,11 +3,10 @@ ghost use Rattle.std.specs.Prelude.{◌≤◌};
 
 use crate::buffer::RecordBuffer;
 use crate::error::WriteError;
-use crate::kinds::MarkKind;
 use asn1_bounds::{Codec, Constraints};
 use asn1_components::{Choice, EnumeratedTable, FieldTable};
 use asn1_enc::{EncodeError, Encoder};
-use asn1_items::{Content, ScopeKind};
+use asn1_items::{Content, MarkKind, ScopeKind};
 use asn1_tags::{Identifier, Tag};
 use asn1_types::{Any, CodecString};
 use asn1_values::IntegerType;
@@ -30,7 +29,8 @@ pub struct BufferEncoder<B> {
 
 impl<B: RecordBuffer> BufferEncoder<B> {
     ghost use Rattle.asn1_buffers.specs.Encoder.{CarriesUpToOrder, buffer_writer, scopes_in};
-    ghost use Rattle.asn1_buffers.specs.MarksAndContents.{kind_of_mark, unlabelled};
+    ghost use Rattle.asn1_buffers.specs.Unlabelled.{unlabelled};
+    ghost use Rattle.asn1_items.specs.Kinds.{kind_of_mark};
     ghost use Rattle.asn1_items.specs.Kinds.{kind_of_scope};
     ghost use Rattle.asn1_buffers.specs.declared.error.WriteError.TheVariants as write_error;
     ghost use Rattle.asn1_laws.specs.Writing.{WritesEnd, ClosesGroup, IsRejection, WritesHead, OpensGroup, IsOutOfMemory, Writes, Written, outermost};

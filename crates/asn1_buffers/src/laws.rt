@@ -1,13 +1,11 @@
-//! Laws of what no other contract names: what the encoder is as types see it, and what derives give.
+//! A law of what no other contract names: what the encoder is as types see it.
 ghost use Rattle.asn1_buffers.specs.Encoder.{buffer_writer};
 ghost use Rattle.asn1_laws.specs.Writing.{Written};
 ghost use Rattle.asn1_model.specs.Records.{Record};
-ghost use Rattle.asn1_tags.specs.Derives.{ClonesAll};
 ghost use Rattle.std.specs.Prelude.{◌↔◌, List};
 
 use crate::buffer::RecordBuffer;
 use crate::encoder::BufferEncoder;
-use crate::kinds::MarkKind;
 use asn1_enc::Encoder;
 
 /// A law of the encoder: what types see that it has written (`wrote`) and rejects (`rejects`).
@@ -16,10 +14,4 @@ pub fn the_encoder_writes_in_its_buffer<B: RecordBuffer>(encoder: &BufferEncoder
         (buffer_writer B.form).wrote encoder.now w }
     ensures rejects { (rs : List Record) → ⟦<BufferEncoder<B> as Encoder>⟧.writer.rejects rs ↔
         (buffer_writer B.form).rejects rs }
-{}
-
-/// A law of the derives: clones are their sources.
-pub fn clones_are_their_sources()
-    ensures kinds_of_marks { ClonesAll ⟦<MarkKind as Clone>⟧.is_clone
-        ⟦<MarkKind as Clone>⟧.is_infallible }
 {}

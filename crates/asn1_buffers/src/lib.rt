@@ -31,13 +31,11 @@
 mod buffer;
 mod encoder;
 mod error;
-mod kinds;
 pub mod laws;
 mod whole;
 
-pub use asn1_items::ScopeKind;
+pub use asn1_items::{MarkKind, ScopeKind};
 pub use buffer::RecordBuffer;
 pub use encoder::BufferEncoder;
 pub use error::WriteError;
-pub use kinds::MarkKind;
 pub use whole::{WholeDecoder, read_whole, write_whole};

@@ -3,7 +3,7 @@ use Rattle.std.specs.Prelude.{ℕ, ◌-◌, Bool, List, [], ◌∷◌, Option, N
 use Rattle.std.specs.Option.{unwrap_or}
 use Rattle.asn1_certificate_reader.specs.declared.name_faults.NameFault.{NameFault}
 use Rattle.asn1_der_items.specs.Elements.{Element, element_at}
-use Rattle.asn1_der_items.specs.Paths.{place_of}
+use Rattle.asn1_der_items.specs.Paths.{position_at_path}
 use Rattle.asn1_model.specs.Tags.{context}
 use Rattle.asn1_tags.specs.Tags.{tag_eq}
 
@@ -46,7 +46,7 @@ index_of octets index = if has_version octets then index else index - 1
 
 -- the position to which a path leads in octets, or 0 if it leads to none
 abbrev pub position_at : List ℕ → List ℕ → ℕ
-position_at octets path = unwrap_or (place_of octets path) 0
+position_at octets path = unwrap_or (position_at_path octets path) 0
 
 -- the position of the value of an attribute in the name with this index
 abbrev pub position_of_value : List ℕ → ℕ → NameFault → ℕ

@@ -3,7 +3,7 @@ ghost use Rattle.std.specs.Prelude.{◌≡◌};
 ghost use Rattle.asn1_certificate_input.specs.Positions.{contents_of, has_version, index_of, position_at, position_of_key_parameters, position_of_parameters_beside, position_of_signed_parameters, position_of_value};
 
 use asn1_certificate_reader::NameFault;
-use asn1_der_items::{find_element, place_of};
+use asn1_der_items::{find_element, position_at_path};
 use asn1_tags::Tag;
 
 /// The index of the algorithm of the signature among the components of the signed part, in a certificate with a version.
@@ -54,7 +54,7 @@ pub(crate) fn position_of_parameters_beside(octets: &[u8]) -> usize
 fn position_at(octets: &[u8], path: &[usize]) -> usize
     ensures { result ≡ position_at octets.now path.now }
 {
-    place_of(octets, path).unwrap_or(0)
+    position_at_path(octets, path).unwrap_or(0)
 }
 
 /// The index of a component of the signed part, from its index in a certificate with a version.

@@ -3,7 +3,7 @@ use Rattle.std.proofs.Common.{◌≡◌, ℕ, Bool, true, false, List, [], ◌�
 use Rattle.std.proofs.lemmas.List.{reverse-append}
 use Rattle.std.proofs.lemmas.List.Sorted.{All-permutation}
 use Rattle.std.specs.Prelude.{All, IsTrue, Some, reverse, if◌then◌else◌}
-use Rattle.asn1_buffers.specs.MarksAndContents.{unlabelled}
+use Rattle.asn1_buffers.specs.Unlabelled.{unlabelled}
 use Rattle.asn1_laws.specs.Writing.{Written, outermost, in_scope, in_group, followed_by}
 use Rattle.asn1_der_items.specs.Bytes.{CannotHold, HasDer, HasNoDer, HaveDer, HoldsInOrder, content_order_of}
 use Rattle.asn1_der_items.specs.declared.content_order.ContentOrder.{ContentOrder}

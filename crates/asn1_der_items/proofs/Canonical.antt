@@ -27,7 +27,7 @@ use Rattle.asn1_der_items.proofs.SomeEncoding.{below_both}
 use Rattle.asn1_der_items.proofs.RecordElements.{mark_bytes, no_first, is_element_of_record}
 use Rattle.asn1_der_items.proofs.OneEncoding.{contents_below, one_der, same_contents}
 use Rattle.asn1_der_items.proofs.SetOrders.{encodings_rank, one_encoding, one_tag, tags_rank}
-use Rattle.asn1_der_items.proofs.Sorting.{Rises, count, one_if, one_order, rises_from}
+use Rattle.asn1_der_items.proofs.Sorting.{IsAscending, count, one_if, one_order, ascending_from}
 
 -- A record and its bytes.
 record Part : Type 0 where
@@ -176,10 +176,10 @@ octets_joined [] = tt
 octets_joined (p ∷ ps) = below_both p.bytes (joined ps) p.are_octets (octets_joined ps)
 
 -- the elements of some bytes in order rise
-in_order : (lt : List ℕ → List ℕ → Bool) (ps : List Part) (bytes : List ℕ) → bytes ≡ joined ps → AreElements (IsSortedBy lt) bytes → Rises lt (elements ps)
+in_order : (lt : List ℕ → List ℕ → Bool) (ps : List Part) (bytes : List ℕ) → bytes ≡ joined ps → AreElements (IsSortedBy lt) bytes → IsAscending lt (elements ps)
 in_order lt ps bytes are a =
     let all : a.elements ≡ elements ps = one_list a.elements (elements ps) (ones_from a.elements a.each) (elements_are ps) (sym a.are ∙ are ∙ elements_joined ps) in
-    subst (Rises lt) all (rises_from lt a.elements a.order)
+    subst (IsAscending lt) all (ascending_from lt a.elements a.order)
 
 -- The contents of a SET or a SET OF have one encoding in any order, if elements of which neither is less are one.
 one_in_any_order : (lt : List ℕ → List ℕ → Bool) → IsStrictWeakOrder lt → (rs qs ss : Records) → IsPermutation (listed qs) (listed ss) → (own other : List ℕ) → AllBelowBase 256 own → AllBelowBase 256 other →

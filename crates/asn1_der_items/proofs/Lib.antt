@@ -19,5 +19,5 @@ pub mod SetOrders
 mod SomeDer
 pub mod SomeOrder
 pub mod Sorting
-mod Places
+mod FaultPositions
 mod Reached

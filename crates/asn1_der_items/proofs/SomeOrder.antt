@@ -11,7 +11,7 @@ use Rattle.asn1_der_items.specs.Series.{AreElements, is_one_element}
 use Rattle.asn1_der_items.proofs.OneContents.{below_first, below_later}
 use Rattle.asn1_der_items.proofs.SomeEncoding.{below_both}
 use Rattle.asn1_der_items.proofs.RecordElements.{mark_bytes, no_first, no_later, is_element_of_record}
-use Rattle.asn1_der_items.proofs.Sorting.{rises_map, sorted, sorted_by}
+use Rattle.asn1_der_items.proofs.Sorting.{ascending_map, sorted, sorted_by}
 
 -- A record that is no presence mark, and its element.
 pub record Piece : Type 0 where
@@ -103,6 +103,6 @@ reordered lt asymmetric rs bytes below d =
       bytes = joined s.all;
       permutation = IsPermutation-trans rs (p.marks ++ items p.pieces) (p.marks ++ items s.all) p.permutation (IsPermutation-append_right p.marks (items p.pieces) (items s.all) (IsPermutation-map (λ p. p.item) p.pieces s.all s.permutation));
       der = after_marks p.marks (items s.all) (joined s.all) p.no_bytes (pieces_der s.all);
-      in_order = record { elements = map (λ p. p.bytes) s.all; each = each_one s.all; order = sorted_by lt (map (λ p. p.bytes) s.all) (rises_map lt (λ p. p.bytes) s.all s.rises); are = joined_is s.all };
+      in_order = record { elements = map (λ p. p.bytes) s.all; each = each_one s.all; order = sorted_by lt (map (λ p. p.bytes) s.all) (ascending_map lt (λ p. p.bytes) s.all s.ascends); are = joined_is s.all };
       are_octets = octets_joined s.all;
     }

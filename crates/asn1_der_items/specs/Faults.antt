@@ -16,18 +16,18 @@ HoldsElements (suc depth) e = e.constructed ≡ true → AreEach (HoldsElements 
 abbrev pub AreElementsDownTo : ℕ → List ℕ → Type 0
 AreElementsDownTo depth bytes = AreEach (HoldsElements depth) bytes
 
--- At this place an element is due, and none begins; and all that is before it, down to this depth, are elements: it is the first byte,
+-- At this position an element is due, and none begins; and all that is before it, down to this depth, are elements: it is the first byte,
 -- or behind the element with which the bytes begin, or inside that.
 pub data IsFirstFault : ℕ → List ℕ → ℕ → Type 0 where
   here : (depth : ℕ) (bytes : List ℕ) → bytes ≢ [] → element_at bytes ≡ None → IsFirstFault depth bytes 0
-  behind : (depth : ℕ) (bytes : List ℕ) (e : Element) (place : ℕ) → element_at bytes ≡ Some e → HoldsElements depth e →
-      IsFirstFault depth e.rest place → IsFirstFault depth bytes (length bytes - length e.rest + place)
-  inside : (depth : ℕ) (bytes : List ℕ) (e : Element) (place : ℕ) → element_at bytes ≡ Some e → e.constructed ≡ true →
-      IsFirstFault depth e.contents place → IsFirstFault (suc depth) bytes (length bytes - length e.rest - length e.contents + place)
+  behind : (depth : ℕ) (bytes : List ℕ) (e : Element) (position : ℕ) → element_at bytes ≡ Some e → HoldsElements depth e →
+      IsFirstFault depth e.rest position → IsFirstFault depth bytes (length bytes - length e.rest + position)
+  inside : (depth : ℕ) (bytes : List ℕ) (e : Element) (position : ℕ) → element_at bytes ≡ Some e → e.constructed ≡ true →
+      IsFirstFault depth e.contents position → IsFirstFault (suc depth) bytes (length bytes - length e.rest - length e.contents + position)
 
--- The element holds others, and this is the first place in its contents octets.
-pub record IsFaultInside (depth : ℕ) (e : Element) (place : ℕ) : Type 0 where
+-- The element holds others, and this is the first position in its contents octets.
+pub record IsFaultInside (depth : ℕ) (e : Element) (position : ℕ) : Type 0 where
   pub below : ℕ
   pub deeper : depth ≡ suc below
   pub constructed : e.constructed ≡ true
-  pub fault : IsFirstFault below e.contents place
+  pub fault : IsFirstFault below e.contents position

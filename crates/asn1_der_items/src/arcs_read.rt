@@ -1,6 +1,6 @@
 //! Reading the arcs of an OBJECT IDENTIFIER.
 ghost use Rattle.asn1_der_items.specs.Arcs.{AreArcs};
-ghost use Rattle.asn1_der_items.specs.Base128.{base128_at, Front as Seen};
+ghost use Rattle.asn1_der_items.specs.Base128.{base128_at, Front as FrontView};
 ghost use Rattle.asn1_items.specs.declared.error.ItemError.TheVariants.{Memory};
 ghost use Rattle.std.specs.Prelude.{◌≡◌, ◌+◌, ◌*◌, ◌<◌, ◌≤◌, ◌^◌, ◌++◌, ◌∷◌, [], IfOk, List, MatchResult, Some, length, ℕ};
 
@@ -50,7 +50,7 @@ fn first_of(number: u64) -> u64
 /// The number to the base 128 with which the octets begin.
 #[inline(always)]
 fn read_number(octets: &[u8]) -> Result<Front<'_>, ItemError>
-    ensures found { (f : Seen) → base128_at octets.now ≡ Some f → f.number < 2 ^ 64 →
+    ensures found { (f : FrontView) → base128_at octets.now ≡ Some f → f.number < 2 ^ 64 →
         MatchResult result (λ x. (x.number ≡ f.number) × (x.rest.now ≡ f.rest)) (λ _. ⊥) }
     ensures shorter { IfOk result (λ x. length x.rest.now < length octets.now) }
 {

@@ -1,5 +1,5 @@
 //! Numbers to the base 128.
-ghost use Rattle.asn1_der_items.specs.Base128.{AreLeading, Front as Seen, IsBase128, base128_at};
+ghost use Rattle.asn1_der_items.specs.Base128.{AreLeading, Front as FrontView, IsBase128, base128_at};
 ghost use Rattle.asn1_items.specs.Numbers.{Appended};
 ghost use Rattle.std.specs.Prelude.{◌≡◌, ◌<◌, ◌^◌, IfOk, IsOk, Some};
 
@@ -47,7 +47,7 @@ fn append_leading(bytes: &mut Vec<u8>, number: u64) -> Result<(), AllocError>
 pub(crate) fn read_base128(bytes: &[u8]) -> Result<Front<'_>, ItemError>
     ensures only { IfOk result (λ f.
         base128_at bytes.now ≡ Some (record { number = f.number; rest = f.rest.now })) }
-    ensures found { (f : Seen) → base128_at bytes.now ≡ Some f → f.number < 2 ^ 64 → IsOk result }
+    ensures found { (f : FrontView) → base128_at bytes.now ≡ Some f → f.number < 2 ^ 64 → IsOk result }
 {
     match bytes {
         [octet, rest @ ..] if *octet < 128 => Ok(Front {
@@ -63,7 +63,7 @@ pub(crate) fn read_base128(bytes: &[u8]) -> Result<Front<'_>, ItemError>
 fn read_long_base128(bytes: &[u8]) -> Result<Front<'_>, ItemError>
     ensures only { IfOk result (λ f.
         base128_at bytes.now ≡ Some (record { number = f.number; rest = f.rest.now })) }
-    ensures found { (f : Seen) → base128_at bytes.now ≡ Some f → f.number < 2 ^ 64 → IsOk result }
+    ensures found { (f : FrontView) → base128_at bytes.now ≡ Some f → f.number < 2 ^ 64 → IsOk result }
 {
     if bytes.first() == Some(&128) {
         return Err(ItemError::Malformed);

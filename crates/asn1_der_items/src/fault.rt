@@ -5,7 +5,7 @@ ghost use Rattle.asn1_der_items.specs.Faults.{AreElementsDownTo, HoldsElements, 
 
 use crate::{Element, find_element};
 
-/// The place of the first byte, from 0, at which an element is due and none begins, if there is one. It looks into elements that hold
+/// The position of the first byte, from 0, at which an element is due and none begins, if there is one. It looks into elements that hold
 /// others down to this depth.
 #[cycle(faults)]
 pub fn first_fault(bytes: &[u8], depth: usize) -> Option<usize>
@@ -17,8 +17,8 @@ pub fn first_fault(bytes: &[u8], depth: usize) -> Option<usize>
         let Ok(element) = find_element(left) else {
             return Some(bytes.len() - left.len());
         };
-        if let Some(place) = fault_inside(element, depth) {
-            let behind = element.contents.len() - place + element.rest.len();
+        if let Some(position) = fault_inside(element, depth) {
+            let behind = element.contents.len() - position + element.rest.len();
             return Some(bytes.len() - behind);
         }
         left = element.rest;
@@ -26,7 +26,7 @@ pub fn first_fault(bytes: &[u8], depth: usize) -> Option<usize>
     None
 }
 
-/// The same inside an element, by the place in its contents octets.
+/// The same inside an element, by the position in its contents octets.
 #[cycle(faults)]
 fn fault_inside(element: Element<'_>, depth: usize) -> Option<usize>
     ensures fault { IfSome result (IsFaultInside depth (element_of element.entry)) }

@@ -1,6 +1,6 @@
 //! The identifier octets of an element.
 ghost use Rattle.asn1_items.specs.Numbers.{Appended};
-ghost use Rattle.asn1_der_items.specs.Identifiers.{Identified as Seen, IsIdentifier, form_bit, high_tag_at, identifier_at};
+ghost use Rattle.asn1_der_items.specs.Identifiers.{Identified as IdentifierView, IsIdentifier, form_bit, high_tag_at, identifier_at};
 ghost use Rattle.asn1_tags.specs.Tags.{class_number};
 ghost use Rattle.std.specs.Prelude.{◌≡◌, ◌+◌, ◌*◌, IfOk, IsOk, Some};
 
@@ -53,7 +53,7 @@ fn first_octet(class: Class, constructed: bool) -> u8
 pub(crate) fn read_identifier(bytes: &[u8]) -> Result<Identified<'_>, ItemError>
     ensures only { IfOk result (λ i. identifier_at bytes.now ≡
         Some (record { tag = i.tag; constructed = i.constructed; rest = i.rest.now })) }
-    ensures found { (i : Seen) → identifier_at bytes.now ≡ Some i → IsOk result }
+    ensures found { (i : IdentifierView) → identifier_at bytes.now ≡ Some i → IsOk result }
 {
     let [first, rest @ ..] = bytes else {
         return Err(ItemError::Missing(1));
@@ -83,7 +83,7 @@ fn read_high_tag(
 ) -> Result<Identified<'_>, ItemError>
     ensures only { IfOk result (λ i. high_tag_at class constructed octets.now ≡
         Some (record { tag = i.tag; constructed = i.constructed; rest = i.rest.now })) }
-    ensures found { (i : Seen) → high_tag_at class constructed octets.now ≡ Some i → IsOk result }
+    ensures found { (i : IdentifierView) → high_tag_at class constructed octets.now ≡ Some i → IsOk result }
 {
     let front = read_base128(octets)?;
     match u32::try_from(front.number) {

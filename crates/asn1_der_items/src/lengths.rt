@@ -1,6 +1,6 @@
 //! The length octets of an element.
 ghost use Rattle.asn1_values.specs.Numbers.{magnitude};
-ghost use Rattle.asn1_der_items.specs.Base128.{Front as Seen};
+ghost use Rattle.asn1_der_items.specs.Base128.{Front as FrontView};
 ghost use Rattle.asn1_der_items.specs.Lengths.{WritesLength, length_at, long_length_at};
 ghost use Rattle.std.specs.Option.{SomeIff};
 ghost use Rattle.std.specs.Prelude.{◌≡◌, ◌<◌, ◌≤◌, ◌^◌, ◌++◌, IfOk, IsOk, List, Some, length, ℕ};
@@ -31,15 +31,15 @@ pub(crate) fn write_length(bytes: &mut Vec<u8>, start: usize) -> Result<(), Elem
 
 /// Puts octets in front of the bytes from an index on.
 #[inline(never)]
-fn insert_octets(bytes: &mut Vec<u8>, place: usize, octets: &[u8]) -> Result<(), AllocError>
-    requires { place ≤ length bytes.old.items }
-    ensures { (before after : List ℕ) → bytes.old.items ≡ before ++ after → place ≡ length before →
+fn insert_octets(bytes: &mut Vec<u8>, position: usize, octets: &[u8]) -> Result<(), AllocError>
+    requires { position ≤ length bytes.old.items }
+    ensures { (before after : List ℕ) → bytes.old.items ≡ before ++ after → position ≡ length before →
         IfOk result (λ _. bytes.new.items ≡ before ++ (octets.now ++ after)) }
 {
     let mut left = octets.len();
     while left > 0 {
         left -= 1;
-        bytes.insert(place, octets[left])?;
+        bytes.insert(position, octets[left])?;
     }
     Ok(())
 }
@@ -49,7 +49,7 @@ fn insert_octets(bytes: &mut Vec<u8>, place: usize, octets: &[u8]) -> Result<(),
 pub(crate) fn read_length(bytes: &[u8]) -> Result<Front<'_>, ItemError>
     ensures only { IfOk result (λ f.
         length_at bytes.now ≡ Some (record { number = f.number; rest = f.rest.now })) }
-    ensures found { (f : Seen) → length_at bytes.now ≡ Some f → IsOk result }
+    ensures found { (f : FrontView) → length_at bytes.now ≡ Some f → IsOk result }
 {
     let [first, rest @ ..] = bytes else {
         return Err(ItemError::Missing(1));
@@ -68,7 +68,7 @@ pub(crate) fn read_length(bytes: &[u8]) -> Result<Front<'_>, ItemError>
 fn read_long_length(count: usize, octets: &[u8]) -> Result<Front<'_>, ItemError>
     ensures only { IfOk result (λ f. long_length_at count octets.now ≡
         Some (record { number = f.number; rest = f.rest.now })) }
-    ensures found { (f : Seen) → long_length_at count octets.now ≡ Some f → IsOk result }
+    ensures found { (f : FrontView) → long_length_at count octets.now ≡ Some f → IsOk result }
 {
     let Some((digits, rest)) = octets.split_at_checked(count) else {
         return Err(ItemError::Missing(count - octets.len()));

@@ -1,4 +1,4 @@
-//! Elements, the bytes of DER (X.690): identifier octets, length octets and contents octets; the DER of records; places in DER.
+//! Elements, the bytes of DER (X.690): identifier octets, length octets and contents octets; the DER of records; positions in DER.
 //!
 //! | Item | What it is |
 //! |---|---|
@@ -10,9 +10,9 @@
 //! | [`append_teletex`] | the contents octets of a TeletexString |
 //! | [`ElementError`] | why an element was not written |
 //! | [`ContentOrder`] | the order of the elements inside a record |
-//! | [`first_fault`] | the first place where an element is due and none begins |
-//! | [`place_of`] | the place to which a path leads through elements that hold others |
-//! | [`laws`], [`record_laws`], [`fault_laws`] | laws of elements, of the DER of records, and of places |
+//! | [`first_fault`] | the first position where an element is due and none begins |
+//! | [`position_at_path`] | the position to which a path leads through elements that hold others |
+//! | [`laws`], [`record_laws`], [`fault_laws`] | laws of elements, of the DER of records, and of positions |
 //!
 //! The errors of reading, the contents that are written, and the octets of bits and of a BMPString are those of `asn1_items`.
 //!
@@ -36,10 +36,10 @@
 //!   ([`record_laws::presence_marks_have_no_bytes`]).
 //! - A record has no DER (`HasNoDer`) where some arcs or units have no octets, a CHOICE is not one element of its tag, or an open
 //!   type is not one element.
-//! - [`first_fault`] answers a place where an element is due and none begins, behind elements alone, down to the depth that is given
+//! - [`first_fault`] answers a position where an element is due and none begins, behind elements alone, down to the depth that is given
 //!   (`IsFirstFault` of `specs/Faults.antt`; X.690, 8.1.1). If it answers none, the bytes are elements down to that depth
 //!   (`AreElementsDownTo`). Both never hold of the same bytes and the same depth
-//!   ([`fault_laws::bytes_with_a_fault_are_no_elements`]). [`place_of`] follows a path (`place_of` of `specs/Paths.antt`).
+//!   ([`fault_laws::bytes_with_a_fault_are_no_elements`]). [`position_at_path`] follows a path (`position_at_path` of `specs/Paths.antt`).
 //!
 //! [`find_element`] copies nothing, and reserves no memory by the length that bytes tell.
 #![tactic(auto)]
@@ -71,5 +71,5 @@ pub use elements::{
 pub use error::ElementError;
 pub use fault::first_fault;
 pub use integers::{append_integer, read_integer};
-pub use path::place_of;
+pub use path::position_at_path;
 pub use teletex::append_teletex;

@@ -1,13 +1,13 @@
 -- The bytes of records: a header and what is inside, item by item.
-use Rattle.std.specs.Prelude.{◌≡◌, ◌⊎◌, ℕ, ◌<◌, ◌≤◌, ◌^◌, ⊤, ◌&&◌, List, [], ◌∷◌, ◌++◌, length, nat_le, IsTrue, if◌then◌else◌}
+use Rattle.std.specs.Prelude.{◌≡◌, ◌⊎◌, ℕ, ◌<◌, ◌≤◌, ◌^◌, ⊤, List, [], ◌∷◌, ◌++◌, length, IsTrue, if◌then◌else◌}
 use Rattle.asn1_items.specs.Contents.{IsContent}
 use Rattle.asn1_items.specs.Headers.{is_one_item, tag_bytes}
-use Rattle.asn1_items.specs.Kinds.{content_byte, content_kind, item_byte, kind_of}
+use Rattle.asn1_items.specs.Kinds.{content_byte, content_kind, is_mark_byte, item_byte, kind_of, kind_of_mark, mark_kind_byte}
 use Rattle.asn1_items.specs.Numbers.{four_bytes}
 use Rattle.asn1_items.specs.declared.kinds.ContentKind.{ContentKind}
 use Rattle.asn1_items.specs.declared.kinds.ItemKind.{ItemKind}
 use Rattle.asn1_items.specs.declared.kinds.ItemKind.TheVariants as item
-use Rattle.asn1_model.specs.Records.{Content, Record, Records, PresenceMark, scalar, scope, open_type, presence_mark, none, more, present, absent, group_start, group_absent, group_end}
+use Rattle.asn1_model.specs.Records.{Content, Record, Records, PresenceMark, scalar, scope, open_type, presence_mark, none, more}
 use Rattle.asn1_model.specs.Tags.{head_tag}
 use Rattle.asn1_tags.specs.declared.tags.Tag.{Tag}
 
@@ -67,16 +67,12 @@ abbrev mutual
 
 -- the byte of a presence mark in the packed form
 abbrev pub mark_byte : PresenceMark → ℕ
-mark_byte (present side t) = 16
-mark_byte (absent side t) = 17
-mark_byte (group_start table) = 18
-mark_byte group_absent = 19
-mark_byte group_end = 20
+mark_byte m = mark_kind_byte (kind_of_mark m)
 
 -- what is left after the presence marks in front, in the packed form
 abbrev pub marks_skipped : List ℕ → List ℕ
 marks_skipped [] = []
-marks_skipped (byte ∷ rest) = if nat_le 16 byte && nat_le byte 20 then marks_skipped rest else byte ∷ rest
+marks_skipped (byte ∷ rest) = if is_mark_byte byte then marks_skipped rest else byte ∷ rest
 
 -- The presence marks of the packed form: one byte each.
 abbrev pub packed_marks : MarkBytes

@@ -1,13 +1,15 @@
--- The kinds of items and of contents, and their bytes.
-use Rattle.std.specs.Prelude.{◌≡◌, ℕ, zero, suc, Option, None, Some, refl}
+-- The kinds of items, of contents and of presence marks, and their bytes.
+use Rattle.std.specs.Prelude.{◌≡◌, ◌&&◌, ℕ, zero, suc, Bool, nat_le, Option, None, Some, refl}
 use Rattle.asn1_items.specs.declared.kinds.ContentKind.{ContentKind}
 use Rattle.asn1_items.specs.declared.kinds.ContentKind.TheVariants as content
 use Rattle.asn1_items.specs.declared.kinds.ItemKind.{ItemKind}
 use Rattle.asn1_items.specs.declared.kinds.ItemKind.TheVariants as item
+use Rattle.asn1_items.specs.declared.kinds.MarkKind.{MarkKind}
+use Rattle.asn1_items.specs.declared.kinds.MarkKind.TheVariants as mark_kind
 use Rattle.asn1_items.specs.declared.kinds.ScopeKind.{ScopeKind}
 use Rattle.asn1_items.specs.declared.kinds.ScopeKind.TheVariants.{Sequence, Set, SequenceOf, SetOf, ExplicitTag, Alternative}
 use Rattle.asn1_model.specs.Records as model
-use Rattle.asn1_model.specs.Records.{Head, sequence, set, sequence_of, set_of, explicit_tag, alternative, null, boolean, number, discriminant, arcs, bits, units, octet, utf8, visible, general, graphic, ia5, printable, numeric, teletex, bmp}
+use Rattle.asn1_model.specs.Records.{Head, PresenceMark, present, absent, group_start, group_absent, group_end, sequence, set, sequence_of, set_of, explicit_tag, alternative, null, boolean, number, discriminant, arcs, bits, units, octet, utf8, visible, general, graphic, ia5, printable, numeric, teletex, bmp}
 use Rattle.asn1_types.specs.AnyStrings.{octet_kind}
 use Rattle.asn1_types.specs.declared.any_string.OctetKind.{OctetKind}
 use Rattle.asn1_types.specs.declared.any_string.OctetKind.TheVariants as octets
@@ -105,3 +107,24 @@ content_kind null = content.Null
 content_kind (arcs list) = content.Arcs
 content_kind (bits list) = content.String kinds.Bits
 content_kind (units kind list) = content.String (string_kind kind)
+
+-- the kind of a presence mark
+abbrev pub kind_of_mark : PresenceMark → MarkKind
+kind_of_mark (present side t) = mark_kind.Present
+kind_of_mark (absent side t) = mark_kind.Absent
+kind_of_mark (group_start table) = mark_kind.GroupStart
+kind_of_mark group_absent = mark_kind.GroupAbsent
+kind_of_mark group_end = mark_kind.GroupEnd
+
+-- the byte of a kind of presence mark in the packed form
+abbrev pub mark_kind_byte : MarkKind → ℕ
+mark_kind_byte mark_kind.Present = 16
+mark_kind_byte mark_kind.Absent = 17
+mark_kind_byte mark_kind.GroupStart = 18
+mark_kind_byte mark_kind.GroupAbsent = 19
+mark_kind_byte mark_kind.GroupEnd = 20
+
+-- The byte is that of a mark: these bytes follow one another.
+abbrev pub is_mark_byte : ℕ → Bool
+is_mark_byte byte =
+    nat_le (mark_kind_byte mark_kind.Present) byte && nat_le byte (mark_kind_byte mark_kind.GroupEnd)

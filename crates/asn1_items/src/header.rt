@@ -1,5 +1,5 @@
 //! The header of an item.
-ghost use Rattle.asn1_items.specs.Headers.{IsHeader, IsHeaderAfter, IsHeaderOf, Meets, from_class, header_at, Header as Seen};
+ghost use Rattle.asn1_items.specs.Headers.{IsHeader, IsHeaderAfter, IsHeaderOf, Meets, from_class, header_at, Header as HeaderView};
 ghost use Rattle.asn1_items.specs.declared.kinds.ItemKind.TheVariants as item;
 ghost use Rattle.std.specs.Bool.{Decides};
 ghost use Rattle.std.specs.Prelude.{◌≡◌, ◌≤◌, IfOk, IsOkAnd, Some, length, true};
@@ -39,7 +39,7 @@ pub enum ExpectedHeader {
 impl ExpectedHeader {
     /// Whether the header is the expected one.
     pub fn is_met_by(self, header: Header<'_>) -> bool
-        ensures met { (h : Seen) → IsHeader header.entry h → Decides result (Meets self h) }
+        ensures met { (h : HeaderView) → IsHeader header.entry h → Decides result (Meets self h) }
     {
         match self {
             ExpectedHeader::Content(tag, content) => {
@@ -63,7 +63,7 @@ impl ExpectedHeader {
 /// where that is there, of the rest of the header; [`ItemError::Malformed`] where the kind is none, or the class of the tag.
 #[inline(always)]
 pub fn find_header(bytes: &[u8]) -> Result<Header<'_>, ItemError>
-    ensures found { (h : Seen) → header_at bytes.now ≡ Some h →
+    ensures found { (h : HeaderView) → header_at bytes.now ≡ Some h →
         IsOkAnd result (λ found. IsHeader found h) }
     ensures only { IfOk result (IsHeaderOf bytes.now) }
     ensures shorter { IfOk result (λ found. length found.body.now ≤ length bytes.now) }
@@ -80,7 +80,7 @@ pub fn find_header(bytes: &[u8]) -> Result<Header<'_>, ItemError>
 
 /// The header of an item of a content, after its kind.
 fn content_header(bytes: &[u8]) -> Result<Header<'_>, ItemError>
-    ensures found { (h : Seen) → from_class item.Content bytes.now ≡ Some h →
+    ensures found { (h : HeaderView) → from_class item.Content bytes.now ≡ Some h →
         IsOkAnd result (λ found. IsHeader found h) }
     ensures only { IfOk result (IsHeaderAfter item.Content bytes.now) }
     ensures shorter { IfOk result (λ found. length found.body.now ≤ length bytes.now) }
@@ -105,7 +105,7 @@ fn content_header(bytes: &[u8]) -> Result<Header<'_>, ItemError>
 
 /// The header of an item that holds others, after its kind.
 fn scope_header(kind: ScopeKind, bytes: &[u8]) -> Result<Header<'_>, ItemError>
-    ensures found { (h : Seen) → from_class (item.Scope kind) bytes.now ≡ Some h →
+    ensures found { (h : HeaderView) → from_class (item.Scope kind) bytes.now ≡ Some h →
         IsOkAnd result (λ found. IsHeader found h) }
     ensures only { IfOk result (IsHeaderAfter (item.Scope kind) bytes.now) }
     ensures shorter { IfOk result (λ found. length found.body.now ≤ length bytes.now) }

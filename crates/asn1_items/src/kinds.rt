@@ -1,6 +1,6 @@
-//! The kinds of items and of contents, and their bytes.
-ghost use Rattle.asn1_items.specs.Kinds.{content_byte, item_byte, item_kind_at, scope_byte};
-ghost use Rattle.std.specs.Prelude.{◌≡◌};
+//! The kinds of items, of contents and of presence marks, and their bytes.
+ghost use Rattle.asn1_items.specs.Kinds.{content_byte, is_mark_byte, item_byte, item_kind_at, mark_kind_byte, scope_byte};
+ghost use Rattle.std.specs.Prelude.{◌≡◌, ◌∷◌, []};
 
 use asn1_types::{OctetKind, StringKind};
 
@@ -118,5 +118,58 @@ impl ContentKind {
             ContentKind::String(StringKind::Teletex) => 15,
             ContentKind::String(StringKind::Bmp) => 16,
         }
+    }
+}
+
+/// A kind of presence mark.
+#[derive(Clone, Copy, Debug)]
+pub enum MarkKind {
+    /// A component is there.
+    Present,
+    /// A component is absent.
+    Absent,
+    /// A group of additions is there, and begins.
+    GroupStart,
+    /// A group of additions is absent.
+    GroupAbsent,
+    /// A group of additions ends.
+    GroupEnd,
+}
+
+impl MarkKind {
+    /// The byte of a mark of the kind in the packed form.
+    #[inline(always)]
+    pub fn to_byte(self) -> u8
+        ensures { result ≡ mark_kind_byte self }
+    {
+        match self {
+            MarkKind::Present => 16,
+            MarkKind::Absent => 17,
+            MarkKind::GroupStart => 18,
+            MarkKind::GroupAbsent => 19,
+            MarkKind::GroupEnd => 20,
+        }
+    }
+
+    /// The same byte alone, as a mark is appended.
+    #[inline(always)]
+    pub fn to_bytes(self) -> &'static [u8]
+        ensures { result.now ≡ mark_kind_byte self ∷ [] }
+    {
+        match self {
+            MarkKind::Present => &[16],
+            MarkKind::Absent => &[17],
+            MarkKind::GroupStart => &[18],
+            MarkKind::GroupAbsent => &[19],
+            MarkKind::GroupEnd => &[20],
+        }
+    }
+
+    /// Whether a byte is that of a mark.
+    #[inline(always)]
+    pub fn is_mark(byte: u8) -> bool
+        ensures { result ≡ is_mark_byte byte }
+    {
+        MarkKind::Present.to_byte() <= byte && byte <= MarkKind::GroupEnd.to_byte()
     }
 }

@@ -4,7 +4,7 @@ ghost use Rattle.asn1_tags.specs.Derives.{ClonesAll, ComparesAll};
 use crate::content::Content;
 use crate::error::{BufferError, ItemError};
 use crate::header::{ExpectedHeader, Header};
-use crate::kinds::{ContentKind, ItemKind, ScopeKind};
+use crate::kinds::{ContentKind, ItemKind, MarkKind, ScopeKind};
 use crate::slices::Item;
 
 /// A law of the derives: two errors or kinds are equal if and only if they are the same, and clones are their sources.
@@ -30,6 +30,8 @@ pub fn derives_keep_what_a_value_is()
         ⟦<ScopeKind as Clone>⟧.is_infallible }
     ensures clones_of_content_kinds { ClonesAll ⟦<ContentKind as Clone>⟧.is_clone
         ⟦<ContentKind as Clone>⟧.is_infallible }
+    ensures clones_of_mark_kinds { ClonesAll ⟦<MarkKind as Clone>⟧.is_clone
+        ⟦<MarkKind as Clone>⟧.is_infallible }
     ensures clones_of_items { ClonesAll ⟦<Item<'static> as Clone>⟧.is_clone
         ⟦<Item<'static> as Clone>⟧.is_infallible }
 {}

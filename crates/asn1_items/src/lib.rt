@@ -5,7 +5,7 @@
 //! | [`Content`], [`FromContent`], [`StringOf`] | the content of an item, as it is written and as it is read |
 //! | [`read_bits`], [`read_twos`], [`significant`] | bits, numbers of two bytes each, and numbers without leading zeros, for other codecs too |
 //! | [`Header`], [`ExpectedHeader`], [`find_header`] | the header of an item, and the header that a call expects |
-//! | [`ItemKind`], [`ScopeKind`], [`ContentKind`] | the kinds of items and of contents, each with its byte |
+//! | [`ItemKind`], [`ScopeKind`], [`ContentKind`], [`MarkKind`] | the kinds of items, of contents and of presence marks, each with its byte |
 //! | [`Buffer`] | the bytes that are written, and which scopes and groups are open |
 //! | [`Slices`], [`Item`] | the bytes that are read, list by list |
 //! | [`group_can_begin_with`] | whether a group is there, by the tag that is next |
@@ -69,7 +69,7 @@ pub use decode_state::{BAD_ITEM, DecodeState, Opened};
 pub use error::{BufferError, ItemError};
 pub use from_content::{FromContent, StringOf};
 pub use header::{ExpectedHeader, Header, find_header};
-pub use kinds::{ContentKind, ItemKind, ScopeKind};
+pub use kinds::{ContentKind, ItemKind, MarkKind, ScopeKind};
 pub use numbers::{read_twos, significant};
 pub use slices::{Item, Slices};
 pub use tags::group_can_begin_with;

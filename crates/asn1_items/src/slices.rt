@@ -1,5 +1,5 @@
 //! The bytes that are read, list by list, in the packed form.
-ghost use Rattle.asn1_items.specs.Headers.{IsHeader, header_at, Header as Seen};
+ghost use Rattle.asn1_items.specs.Headers.{IsHeader, header_at, Header as HeaderView};
 ghost use Rattle.asn1_items.specs.Items.{marks_skipped};
 ghost use Rattle.asn1_items.specs.Slices.{TakesItem, left_inside, left_outside, open_lists};
 ghost use Rattle.std.specs.Bool.{Decides};
@@ -7,6 +7,7 @@ ghost use Rattle.std.specs.Prelude.{◌≡◌, ◌∷◌, [], IfErr, IsOkAnd, Li
 
 use crate::error::ItemError;
 use crate::header::{ExpectedHeader, Header, find_header};
+use crate::kinds::MarkKind;
 use asn1_tags::Tag;
 use std::alloc::{AllocError, Global};
 
@@ -137,7 +138,7 @@ impl<'a> Slices<'a> {
     /// As [`find_header`].
     #[inline(always)]
     pub fn next_header(&self) -> Result<Header<'a>, ItemError>
-        ensures found { (h : Seen) → header_at (left_inside self.now) ≡ Some h →
+        ensures found { (h : HeaderView) → header_at (left_inside self.now) ≡ Some h →
             IsOkAnd result (λ found. IsHeader found h) }
     {
         find_header(self.left)
@@ -185,7 +186,7 @@ fn after_marks(bytes: &[u8]) -> &[u8]
     ensures { result.now ≡ marks_skipped bytes.now }
 {
     match bytes {
-        [byte, rest @ ..] if 16 <= *byte && *byte <= 20 => after_marks(rest),
+        [byte, rest @ ..] if MarkKind::is_mark(*byte) => after_marks(rest),
         _ => bytes,
     }
 }

@@ -3,7 +3,7 @@ use Rattle.std.proofs.Common.{◌≡◌, ◌≢◌, [], ◌∷◌, ◌<◌, ℕ,
 use Rattle.std.proofs.lemmas.Bool.{eqb-true}
 use Rattle.asn1_der_items.specs.Elements.{element_of}
 use Rattle.asn1_der_items.proofs.TrailingBytes.{element_at-shorter, parts_fit}
-use Rattle.asn1_der_items.proofs.Places.{at_place, from_inside, holds_inside, is_within}
+use Rattle.asn1_der_items.proofs.FaultPositions.{at_position, from_inside, holds_inside, is_within}
 use Rattle.asn1_der_items.proofs.Reached.{none_found}
 use Rattle.asn1_der_items.specs.Faults.{AreElementsDownTo, here, behind, none_left, one_more}
 use Rattle.asn1_der_items.proofs.fault.+faults.Goals as goal
@@ -34,7 +34,7 @@ fault_inside-returns-clause-none t c =
 pub first_fault-returns-in_default-clause-fault : goal.first_fault-returns-in_default-clause-fault
 first_fault-returns-in_default-clause-fault t c =
     let none = none_found c.loop-left.left.now c.in_default.ensures.found in
-    at_place c.args.depth c.args.bytes.now _ _ (omega arith)
+    at_position c.args.depth c.args.bytes.now _ _ (omega arith)
     (c.loop-left.invariant.faults 0 (here c.args.depth c.loop-left.left.now (some_left c.loop-left.left.now c.loop-left-test.ensures) none))
 
 pub first_fault-overflow_sub-behind : goal.first_fault-overflow_sub-behind
@@ -49,8 +49,8 @@ first_fault-returns-in-Some-clause-fault t c =
     let e = element_of c.in-Ok.element in
     let fits = parts_fit c.loop-left.left.now e c.in-Ok.ensures.only in
     let within = is_within c.in-Some.ensures.fault.below _ _ c.in-Some.ensures.fault.fault in
-    at_place c.args.depth c.args.bytes.now _ _ (omega (arith, fits, within, c.loop-left.invariant.fits))
-    (c.loop-left.invariant.faults _ (from_inside c.args.depth c.loop-left.left.now e c.in-Some.place c.in-Ok.ensures.only c.in-Some.ensures.fault))
+    at_position c.args.depth c.args.bytes.now _ _ (omega (arith, fits, within, c.loop-left.invariant.fits))
+    (c.loop-left.invariant.faults _ (from_inside c.args.depth c.loop-left.left.now e c.in-Some.position c.in-Ok.ensures.only c.in-Some.ensures.fault))
 
 pub first_fault-loop-left-smaller : goal.first_fault-loop-left-smaller
 first_fault-loop-left-smaller t c = element_at-shorter c.loop-left.left.now (element_of c.in-Ok.element) c.in-Ok.ensures.only
@@ -63,8 +63,8 @@ first_fault-loop-left-preserved t c =
     let shorter : length c.in-Ok.element.rest.now < length c.loop-left.left.now = element_at-shorter c.loop-left.left.now e at in
     record {
       fits = omega (arith, c.loop-left.invariant.fits, shorter);
-      faults = λ place fault. at_place c.args.depth c.args.bytes.now _ _ (omega (arith, c.loop-left.invariant.fits, shorter))
-          (c.loop-left.invariant.faults _ (behind c.args.depth c.loop-left.left.now e place at holds fault));
+      faults = λ position fault. at_position c.args.depth c.args.bytes.now _ _ (omega (arith, c.loop-left.invariant.fits, shorter))
+          (c.loop-left.invariant.faults _ (behind c.args.depth c.loop-left.left.now e position at holds fault));
       elements = λ rest. c.loop-left.invariant.elements (one_more c.loop-left.left.now e at holds rest);
     }
 

@@ -11,7 +11,7 @@ decreases-fault_inside l = 2 * l.depth
 abbrev pub invariant-first_fault-loop-left : goal.invariant-first_fault-loop-left
 invariant-first_fault-loop-left l = record {
   fits : length l.left ≤ length l.bytes;
-  faults : (place : ℕ) → IsFirstFault l.depth l.left place → IsFirstFault l.depth l.bytes (length l.bytes - length l.left + place);
+  faults : (position : ℕ) → IsFirstFault l.depth l.left position → IsFirstFault l.depth l.bytes (length l.bytes - length l.left + position);
   elements : AreElementsDownTo l.depth l.left → AreElementsDownTo l.depth l.bytes;
 }
 

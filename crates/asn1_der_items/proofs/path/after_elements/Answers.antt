@@ -1,7 +1,7 @@
 use Rattle.std.proofs.Common.{arith, sym, ◌∙◌}
 use Rattle.asn1_der_items.specs.Elements.{element_of}
 use Rattle.asn1_der_items.proofs.Reached.{behind_none, none_found, one_less, too_few}
-use Rattle.asn1_der_items.proofs.path.behind_elements.Goals as goal
+use Rattle.asn1_der_items.proofs.path.after_elements.Goals as goal
 
 pub returns-in_default : goal.returns-in_default
 returns-in_default c =
