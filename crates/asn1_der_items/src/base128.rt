@@ -47,7 +47,8 @@ fn append_leading(bytes: &mut Vec<u8>, number: u64) -> Result<(), AllocError>
 pub(crate) fn read_base128(bytes: &[u8]) -> Result<Front<'_>, ItemError>
     ensures only { IfOk result (λ f.
         base128_at bytes.now ≡ Some (record { number = f.number; rest = f.rest.now })) }
-    ensures found { (f : FrontView) → base128_at bytes.now ≡ Some f → f.number < 2 ^ 64 → IsOk result }
+    ensures found { (f : FrontView) → base128_at bytes.now ≡ Some f → f.number < 2 ^ 64 →
+        IsOk result }
 {
     match bytes {
         [octet, rest @ ..] if *octet < 128 => Ok(Front {
@@ -63,7 +64,8 @@ pub(crate) fn read_base128(bytes: &[u8]) -> Result<Front<'_>, ItemError>
 fn read_long_base128(bytes: &[u8]) -> Result<Front<'_>, ItemError>
     ensures only { IfOk result (λ f.
         base128_at bytes.now ≡ Some (record { number = f.number; rest = f.rest.now })) }
-    ensures found { (f : FrontView) → base128_at bytes.now ≡ Some f → f.number < 2 ^ 64 → IsOk result }
+    ensures found { (f : FrontView) → base128_at bytes.now ≡ Some f → f.number < 2 ^ 64 →
+        IsOk result }
 {
     if bytes.first() == Some(&128) {
         return Err(ItemError::Malformed);

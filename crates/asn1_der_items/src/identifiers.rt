@@ -83,7 +83,8 @@ fn read_high_tag(
 ) -> Result<Identified<'_>, ItemError>
     ensures only { IfOk result (λ i. high_tag_at class constructed octets.now ≡
         Some (record { tag = i.tag; constructed = i.constructed; rest = i.rest.now })) }
-    ensures found { (i : IdentifierView) → high_tag_at class constructed octets.now ≡ Some i → IsOk result }
+    ensures found { (i : IdentifierView) → high_tag_at class constructed octets.now ≡ Some i →
+        IsOk result }
 {
     let front = read_base128(octets)?;
     match u32::try_from(front.number) {
