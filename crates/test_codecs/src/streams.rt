@@ -126,35 +126,35 @@ fn assert_read<F: FrontReader<Person> + Drop>(
     alloc: Global,
     reader: F,
     persons: &[Person],
-    (bytes, place): (&[u8], usize),
+    (bytes, cut): (&[u8], usize),
 ) {
-    let (first, second) = bytes.split_at(place.min(bytes.len()));
+    let (first, second) = bytes.split_at(cut.min(bytes.len()));
     let read = read_pieces::<Person, F>(alloc, reader, &[first, second], 3).expect(rt, "memory");
     assert!(rt; read.values.as_slice() == persons && read.last.is_none());
 }
 
 fn assert_read_wherever_cut(rt: &impl Abort, alloc: Global, persons: &[Person]) {
     let bytes = write_list(alloc, &BenchRules::new(alloc), persons, 1).expect(rt, "memory");
-    for place in 0..=bytes.len() {
+    for cut in 0..=bytes.len() {
         assert_read(
             rt,
             alloc,
             BenchReader::new(alloc, 1),
             persons,
-            (&bytes, place),
+            (&bytes, cut),
         );
     }
 }
 
 fn assert_read_of_der_wherever_cut(rt: &impl Abort, alloc: Global, persons: &[Person]) {
     let bytes = write_list(alloc, &DerRules::new(alloc), persons, 1).expect(rt, "memory");
-    for place in 0..=bytes.len() {
+    for cut in 0..=bytes.len() {
         assert_read(
             rt,
             alloc,
             DerReader::new(alloc, 1),
             persons,
-            (&bytes, place),
+            (&bytes, cut),
         );
     }
 }

@@ -64,7 +64,7 @@ fn table_of_replies()
 {}
 
 /// The constraint of an alternative's place counts those of the root, and is extensible where there is a marker.
-fn places()
+fn indices()
     ensures closed { variance_of ⟦<Corner as Choice>⟧.alternatives ≡
         values_of (Range (Some (pos 0)) (Some (pos 1))) }
     ensures extensible { (variance_of ⟦<Reply as Choice>⟧.alternatives).value ≡
@@ -85,9 +85,9 @@ fn replies()
 /// Asserts that a type's constraint of an alternative's place is a range from 0 to here, with a marker or none.
 fn assert_places<T: Choice>(rt: &impl Abort, alloc: Global, last: i128, extensible: bool) {
     let set = T::variance_constraint(alloc).expect(rt, "memory");
-    let places = set.value().expect(rt, "a constraint of values");
-    assert!(rt; places.constraint == Value::new(Bounded::const_new(0, last)));
-    assert!(rt; places.extensible.is_some() == extensible && set.size().is_none());
+    let indices = set.value().expect(rt, "a constraint of values");
+    assert!(rt; indices.constraint == Value::new(Bounded::const_new(0, last)));
+    assert!(rt; indices.extensible.is_some() == extensible && set.size().is_none());
 }
 
 #[test]

@@ -143,3 +143,12 @@ fn a_set_tells_all_its_components_apart(rt: HostRuntime) {
         assert_set(&rt, fields, *clash);
     }
 }
+
+#[test]
+fn a_table_tells_what_may_be_absent(rt: HostRuntime) {
+    let fields = Fields::<3>::from_slice(&[OPTIONAL_C0, DEFAULT_U1, U2]).unwrap();
+    assert!(rt; fields.is_not_empty() && fields.has_required_field());
+    assert!(rt; fields.number_of_optional_and_default_fields() == 2);
+    let fields = Fields::<1>::from_slice(&[OPTIONAL_C0]).unwrap();
+    assert!(rt; !fields.has_required_field());
+}

@@ -70,6 +70,14 @@ fn classes_have_the_numbers_below_4(rt: HostRuntime) {
     assert_that(&rt, Class::from_u8(4).is_none(), "4");
 }
 
+#[test]
+fn a_tag_gets_another_number(rt: HostRuntime) {
+    assert_that(&rt, Class::Universal.is_universal(), "universal");
+    assert_that(&rt, !Class::Private.is_universal(), "private");
+    let tag = Tag::new_private(1).set_value(7);
+    assert_that(&rt, tag == Tag::new_private(7), "the tag");
+}
+
 macro_rules! tag {
     ($class:ident $value:literal) => {
         Tag {
@@ -136,6 +144,17 @@ fn leaves_count_at_any_depth(rt: HostRuntime) {
     assert_leaves(&rt, COUSINS, Tag::EOC, false);
     assert_leaves(&rt, C0_OR_U3, Tag::BIT_STRING, true);
     assert_leaves(&rt, NOTHING, Tag::new_private(4294967295), true);
+}
+
+#[test]
+fn trees_are_searched_at_any_depth(rt: HostRuntime) {
+    assert_that(&rt, TagTree::is_unique_set(DISTINCT), "distinct");
+    assert_that(&rt, !TagTree::is_unique_set(COUSINS), "cousins");
+    let tag = Tag::new_context(2);
+    let position = TagTree::leaf_position(&tag, DISTINCT);
+    assert_that(&rt, position == Some(5), "the sixth leaf");
+    let none = TagTree::leaf_position(&tag, COUSINS);
+    assert_that(&rt, none.is_none(), "no leaf");
 }
 
 const NOTHING_BELOW: &[TagTree<'static>] = &[leaf!(Universal 3), TagTree::Choice(C1_AND_NOTHING)];

@@ -36,8 +36,8 @@ pub(crate) fn values_with_one_other_byte<T: Encode + Decode>(
     bytes: &[u8],
 ) -> Result<Report, Failure> {
     let mut counts = Vec::new(trial.alloc);
-    for place in 0..bytes.len() {
-        let count = values_at::<T>(trial, bytes, place)?;
+    for position in 0..bytes.len() {
+        let count = values_at::<T>(trial, bytes, position)?;
         if counts.push(count).is_err() {
             return Err(Failure::Memory);
         }
@@ -49,12 +49,12 @@ pub(crate) fn values_with_one_other_byte<T: Encode + Decode>(
 fn values_at<T: Encode + Decode>(
     trial: &Trial<'_>,
     bytes: &[u8],
-    place: usize,
+    position: usize,
 ) -> Result<usize, Failure> {
     let mut count = 0usize;
     for byte in 0..=255u8 {
         let mut copy = Vec::from_slice(trial.alloc, bytes)?;
-        if let Some(changed) = copy.get_mut(place) {
+        if let Some(changed) = copy.get_mut(position) {
             *changed = byte;
         }
         if is_value::<T>(trial, &copy)? {

@@ -47,30 +47,30 @@ fn damaged(alloc: Global, bytes: &[u8], source: &mut Source) -> Result<Vec<u8>, 
 
 /// Damages bytes at one place: they are cut off there, or a byte is taken away, put in, changed by one or replaced.
 fn damage_once(bytes: &mut Vec<u8>, source: &mut Source) -> Result<(), Failure> {
-    let place = source.below(bytes.len());
+    let position = source.below(bytes.len());
     let byte = source.byte();
-    let Some(old) = bytes.get(place).copied() else {
+    let Some(old) = bytes.get(position).copied() else {
         return Ok(bytes.extend_from_slice(&[byte])?);
     };
     match source.below(8) {
-        0 => bytes.truncate(place),
+        0 => bytes.truncate(position),
         1 => {
-            bytes.remove(place);
+            bytes.remove(position);
         }
-        2 => insert(bytes, place, byte)?,
-        3 => bytes[place] = old.wrapping_add(1),
-        4 => bytes[place] = old.wrapping_sub(1),
-        _ => bytes[place] = byte,
+        2 => insert(bytes, position, byte)?,
+        3 => bytes[position] = old.wrapping_add(1),
+        4 => bytes[position] = old.wrapping_sub(1),
+        _ => bytes[position] = byte,
     }
     Ok(())
 }
 
 /// Puts a byte in at a place, if this many are before it.
-fn insert(bytes: &mut Vec<u8>, place: usize, byte: u8) -> Result<(), Failure> {
-    if bytes.len() < place {
+fn insert(bytes: &mut Vec<u8>, position: usize, byte: u8) -> Result<(), Failure> {
+    if bytes.len() < position {
         return Ok(());
     }
-    match bytes.insert(place, byte) {
+    match bytes.insert(position, byte) {
         Ok(()) => Ok(()),
         Err(_) => Err(Failure::Memory),
     }

@@ -28,8 +28,8 @@ pub(crate) fn try_pieces<T: Encode + Decode>(
 ) -> Result<Report, Failure> {
     let values = twice(trial, value)?;
     let bytes = list_of(trial, &values)?;
-    for place in 0..=bytes.len() {
-        come_out_of_pieces(trial, &values, &bytes, place)?;
+    for position in 0..=bytes.len() {
+        come_out_of_pieces(trial, &values, &bytes, position)?;
     }
     Ok(Report::ComesBack)
 }
@@ -89,7 +89,7 @@ fn come_out_of_pieces<T: Decode>(
     trial: &Trial<'_>,
     values: &[T],
     bytes: &[u8],
-    place: usize,
+    position: usize,
 ) -> Result<(), Failure> {
     match trial.codec {
         Codec::Packed => are_read(
@@ -97,7 +97,7 @@ fn come_out_of_pieces<T: Decode>(
             BenchReader::new(trial.alloc, trial.depth),
             values,
             bytes,
-            place,
+            position,
         ),
         Codec::TagForm => Ok(()),
         Codec::Der => are_read(
@@ -105,7 +105,7 @@ fn come_out_of_pieces<T: Decode>(
             DerReader::new(trial.alloc, trial.depth),
             values,
             bytes,
-            place,
+            position,
         ),
     }
 }
@@ -115,9 +115,9 @@ fn are_read<T: Decode, F: FrontReader<T> + Drop>(
     reader: F,
     values: &[T],
     bytes: &[u8],
-    place: usize,
+    position: usize,
 ) -> Result<(), Failure> {
-    let (first, second) = bytes.split_at(place.min(bytes.len()));
+    let (first, second) = bytes.split_at(position.min(bytes.len()));
     match read_pieces::<T, F>(trial.alloc, reader, &[first, second], values.len()) {
         Ok(read) => are_all(&read, values),
         Err(error) => Err(Failure::of_reading(error)),

@@ -32,9 +32,9 @@ impl fmt::Display for Answer {
 /// Writes the places of which not one byte alone makes a value, and how many do.
 fn write_counts<W: fmt::Write>(f: &mut fmt::Formatter<W>, counts: &[usize]) -> fmt::Result {
     write!(f, "values at")?;
-    for (place, count) in counts.iter().enumerate() {
+    for (position, count) in counts.iter().enumerate() {
         if *count != 1 {
-            write!(f, " {place}: {count}")?;
+            write!(f, " {position}: {count}")?;
         }
     }
     Ok(())

@@ -47,8 +47,8 @@ impl FieldTable for Person {
     }
 
     #[tactic(auto, using(asn1_tags::proofs::Leaves::tree_shapes))]
-    fn field_at(place: usize) -> Option<Field<'static>> {
-        field_in(ROOT, ADDED, place)
+    fn field_at(index: usize) -> Option<Field<'static>> {
+        field_in(ROOT, ADDED, index)
     }
 
     fn extension_index() -> Option<usize> {

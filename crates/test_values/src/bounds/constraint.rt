@@ -1,7 +1,7 @@
 //! One constraint.
 use super::{LETTERS, permitted};
 use crate::assertions::assert_that;
-use asn1_bounds::{Constraint, Extensible};
+use asn1_bounds::{Bounded, Constraint, Extensible, Size, Value};
 use std::alloc::Global;
 use std::process::Abort;
 
@@ -17,4 +17,40 @@ fn copies_an_extensible_part(rt: HostRuntime) {
     let letters = permitted(&rt, rt.alloc(), LETTERS);
     let part = Extensible::new(letters).set_extensible(true);
     assert_copy(&rt, rt.alloc(), &Constraint::from(part));
+}
+
+/// Asserts the number of the kind, and which of values, lengths and characters the constraint has.
+fn assert_kind(rt: &impl Abort, constraint: &Constraint, kind: isize, parts: (bool, bool, bool)) {
+    assert_that(rt, constraint.variant_as_isize() == kind, "the number");
+    assert_that(rt, constraint.to_value().is_some() == parts.0, "values");
+    assert_that(rt, constraint.to_size().is_some() == parts.1, "lengths");
+    assert_that(
+        rt,
+        constraint.as_permitted_alphabet().is_some() == parts.2,
+        "characters",
+    );
+}
+
+#[test]
+fn has_the_part_of_its_kind(rt: HostRuntime) {
+    let values = Value::new(Bounded::const_new(1, 5));
+    let letters = permitted(&rt, rt.alloc(), LETTERS);
+    assert_kind(
+        &rt,
+        &Constraint::Value(Extensible::new(values)),
+        0,
+        (true, false, false),
+    );
+    assert_kind(
+        &rt,
+        &Constraint::Size(Extensible::new(Size::fixed(3))),
+        1,
+        (false, true, false),
+    );
+    assert_kind(
+        &rt,
+        &Constraint::PermittedAlphabet(Extensible::new(letters)),
+        2,
+        (false, false, true),
+    );
 }

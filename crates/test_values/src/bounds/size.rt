@@ -18,3 +18,11 @@ fn has_no_bound_by_default(rt: HostRuntime) {
     let size = Size::default();
     assert_that(&rt, *size.bounded() == Bounded::None, "no bound");
 }
+
+#[test]
+fn one_length_is_fixed(rt: HostRuntime) {
+    let mut size = Size::fixed(3);
+    assert_that(&rt, size.is_fixed(), "of 3");
+    *size.bounded_mut() = Bounded::const_new(3, 4);
+    assert_that(&rt, !size.is_fixed(), "of 3 or 4");
+}

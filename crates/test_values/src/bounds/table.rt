@@ -36,3 +36,9 @@ fn own_characters(rt: HostRuntime) {
     let extensible = ANYTHING.with_extensible_alphabet(LETTERS, &more);
     assert_letters(&rt, alloc, extensible, Some(&more));
 }
+
+#[test]
+fn the_set_has_the_marker(rt: HostRuntime) {
+    let set = ANYTHING.with_extension_marker().to_constraints(rt.alloc());
+    assert_that(&rt, set.expect(&rt, "memory").extensible(), "the marker");
+}

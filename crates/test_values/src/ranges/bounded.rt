@@ -275,3 +275,13 @@ fn gives_octets_of_the_integer_types(rt: HostRuntime) {
         assert_octets(&rt, range(*least, *greatest), *least < 0, *octets);
     }
 }
+
+fn outside() -> u8 {
+    7
+}
+
+#[test]
+fn a_member_outside_gets_the_error(rt: HostRuntime) {
+    assert_that(&rt, CLOSED.contains_or_else(&10, outside) == Ok(()), "10");
+    assert_that(&rt, CLOSED.contains_or_else(&11, outside) == Err(7), "11");
+}

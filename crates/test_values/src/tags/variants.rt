@@ -11,11 +11,11 @@ fn assert_made(
     rt: &impl Abort,
     made: Result<Variants, AllocError>,
     tags: &[Tag],
-    (tag, place, count): (Tag, usize, usize),
+    (tag, index, count): (Tag, usize, usize),
 ) {
     let variants = made.expect(rt, "memory");
     assert_that(rt, variants.as_slice() == tags, "the tags");
-    assert_found(rt, &variants, tag, Some(place), count);
+    assert_found(rt, &variants, tag, Some(index), count);
 }
 
 const A0: Tag = Tag {
@@ -76,11 +76,11 @@ fn assert_found(
     rt: &impl Abort,
     variants: &Variants,
     tag: Tag,
-    place: Option<usize>,
+    index: Option<usize>,
     count: usize,
 ) {
     let found = variants.find_counted(&tag);
-    assert_that(rt, found == (place, count), "find_counted");
+    assert_that(rt, found == (index, count), "find_counted");
 }
 
 // The table fails first at the index.
