@@ -4,7 +4,7 @@
     python3 bench/vectors.py
 
 goes through crates/test_vectors/stdout. Where a line has a value in packed form or in the tag form and in another form, the other
-one is made here of the items alone, by the rules of docs/RECORDS_TO_BYTES.md and of X.690, and compared. It stops at the first that
+one is made here of the items alone, by the layout that asn1_items defines and by X.690, and compared. It stops at the first that
 differs, and prints how many lines were checked. Left out are refusals, open types by themselves, lines of one form, and the four lines
 that read a component that is its DEFAULT, which is not written again.
 """
