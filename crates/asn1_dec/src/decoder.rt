@@ -3,7 +3,7 @@ ghost use Rattle.asn1_components.specs.ComponentLists.{trees_of};
 ghost use Rattle.asn1_components.specs.Components.{all_components, is_sequence, is_set, rows};
 ghost use Rattle.asn1_laws.specs.Defaults.{MayAnswer};
 ghost use Rattle.asn1_laws.specs.GivenTypes.{as_it_is, given, given_after_tag, with_constraints, with_tag};
-ghost use Rattle.asn1_laws.specs.Reading.{GivesDepthBack, IsLawful, KeepsDepth, NeedsDepth, OpensNothing, TakesDepth, Reader, ReadsEnd, ReadsHead, ReadsHeadOfSet, ReadsMark, ReadsValue, TellsMore, TellsNextTag, TellsPresence, records_in};
+ghost use Rattle.asn1_laws.specs.Reading.{AfterReading, GivesDepthBack, IsLawful, KeepsDepth, NeedsDepth, OpensNothing, TakesDepth, Reader, ReadsEnd, ReadsHead, ReadsHeadOfSet, ReadsMark, ReadsValue, TellsMore, TellsNextTag, TellsPresence, records_in};
 ghost use Rattle.asn1_laws.specs.ReadingTypes.{Reads, ReadsChoice, ReadsComponents, ReadsContent, ReadsDefault, ReadsElements, ReadsGroup, ReadsHeadOfChoice, ReadsOpenType, ReadsOptional};
 ghost use Rattle.asn1_laws.specs.SetParts.{CanBeInSet};
 ghost use Rattle.asn1_components.specs.Enumerations.{number_of};
@@ -24,6 +24,7 @@ use crate::decode::{Decode, DecodeChoice, DecodeFields};
 use crate::decode_set::DecodeSet;
 use crate::defaults::{or_make_default, read_default};
 use crate::elements::read_elements;
+use crate::enumerations::read_enumerated;
 use crate::explicit_tags::read_after_explicit_tag;
 use crate::optionals::{read_optional, read_optional_after_tag};
 use crate::sequences::read_sequence;
@@ -361,18 +362,20 @@ pub trait Decoder: Sized {
         self.decode_string::<u16, Bmp>(tag, constraints)
     }
 
-    /// A value of an ENUMERATED type, by its number.
+    /// A value of an ENUMERATED type, by its number. So it keeps the contract of [`Decode`] for the type, under whatever
+    /// constraints (`value`, `after_reading`).
+    #[inline(always)]
     final fn decode_enumerated<E: Enumerated>(&mut self, tag: Tag) -> Result<E, DecodeError>
         ensures read { ReadsContent reader tag unconstrained
             (λ v. discriminant (labels_of E.enumeration) (number_of E.eq E.enumeration v)) (λ _. ⊤)
             (λ w v. w ≡ v) self.old self.new result }
+        ensures value { ReadsValue reader E.meaning E.eq tag unconstrained self.old self.new
+            result }
+        ensures after_reading { (c : ConstraintSet) → AfterReading reader E.meaning tag c self.old
+            self.new result }
         ensures opens_nothing { OpensNothing reader self.old self.new result }
     {
-        let number = self.decode_enumerated_number::<E>(tag)?;
-        match E::from_discriminant(number) {
-            Some(value) => Ok(value),
-            None => Err(self.refuse(DecodeError::Custom("no item has this number"))),
-        }
+        read_enumerated(self, tag)
     }
 
     /// A value after an explicit tag.
@@ -724,6 +727,8 @@ pub trait Decoder: Sized {
         constraints: &Constraints<'_>,
     ) -> Result<T, DecodeError>
         ensures read { ReadsValue reader T.meaning T.eq tag (constraint_set constraints.now)
+            self.old self.new result }
+        ensures after_reading { AfterReading reader T.meaning tag (constraint_set constraints.now)
             self.old self.new result }
         ensures depth_first { NeedsDepth reader self.old result }
         ensures keeps_depth { KeepsDepth reader self.old self.new result }

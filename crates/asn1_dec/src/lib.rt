@@ -63,6 +63,7 @@ mod decode_set;
 mod decoder;
 mod defaults;
 mod elements;
+mod enumerations;
 mod explicit_tags;
 mod fields;
 mod impls;
