@@ -1,0 +1,3 @@
+pub mod ItemLemmas
+pub mod SkipSteps
+pub mod TokenLemmas
