@@ -1,5 +1,5 @@
 -- The items with which texts begin.
-use Rattle.std.proofs.Common.{◌≡◌, ℕ, zero, suc, ◌+◌, ◌-◌, ◌<◌, ◌≤◌, ◌⊎◌, Bool, true, false, cond, ◌||◌, ◌&&◌, not, List, [], ◌∷◌, ◌++◌, length, get_or, take, drop, Option, Some, None, refl, sym, ap, ◌∙◌, subst, append_assoc, arith}
+use Rattle.std.proofs.Common.{◌≡◌, ℕ, zero, suc, ◌+◌, ◌-◌, ◌<◌, ◌≤◌, Bool, true, false, cond, ◌||◌, ◌&&◌, not, List, [], ◌∷◌, ◌++◌, length, take, drop, Some, None, refl, sym, ap, ◌∙◌, subst, append_assoc, arith}
 use Rattle.std.specs.Char.{is_ascii_alphabetic, is_ascii_alphanumeric, is_ascii_digit}
 use Rattle.std.specs.Int.{is_in_range}
 use Rattle.std.specs.Prelude.{◌==◌, nat_eq}
@@ -10,8 +10,8 @@ use Rattle.std.proofs.lemmas.Slice.Eq.{slice_eq-Decides}
 use Rattle.std.proofs.Math.Seq.{take-append_seam}
 use Rattle.std.proofs.lemmas.List.{length-append, length-take-le, take-append-drop, take_rest}
 use Rattle.asn1_tokens.specs.declared.kind.TokenKind.{TokenKind}
-use Rattle.asn1_tokens.specs.Characters.{first, is_in_name, quotation_mark, is_binary_character, is_hex_character}
-use Rattle.asn1_tokens.specs.Items.{after_name, is_spelled_as_name, after_quotation, IsCharacterString, Splits, IsItem, IsNumber}
+use Rattle.asn1_tokens.specs.Characters.{first, is_in_name, is_binary_character, is_hex_character}
+use Rattle.asn1_tokens.specs.Items.{after_name, is_spelled_as_name, after_quotation, IsCharacterString, Splits, EndsName, IsItem, IsNumber}
 use Rattle.asn1_tokens.specs.Refusals.{HasNoDigits}
 use Rattle.asn1_tokens.specs.Words.{is_among}
 
@@ -77,6 +77,32 @@ name_first (c ∷ rest) letter = ap (λ b. first (cond b (c ∷ name_of rest) []
 pub word_is : (text after : List ℕ) → after ≡ after_name text → take (length text - length after) text ≡ name_of text
 word_is text after rest = cut_item text (name_of text) after (name_parts text ∙ ap (λ t. name_of text ++ t) (sym rest))
 
+-- a name ends where neither a letter, a digit, nor a hyphen before one follows
+after_name_ends : (text : List ℕ) → EndsName (after_name text)
+after_name_ends [] = refl
+after_name_ends (c ∷ rest) =
+    elim (is_in_name c (first rest)) as (λ b. is_in_name c (first rest) ≡ b → EndsName (cond b (after_name rest) (c ∷ rest))) [
+      | true ↦ λ same. after_name_ends rest
+      | false ↦ λ same. same
+    ] refl
+
+pub name_ends : (text after : List ℕ) → after ≡ after_name text → EndsName after
+name_ends text after rest = let P : List ℕ → Type 0 = λ t. EndsName t in subst P (sym rest) (after_name_ends text)
+
+-- digits end where none follows
+digits_stop : (text : List ℕ) → is_ascii_digit (first (drop (prefix_len is_ascii_digit text) text)) ≡ false
+digits_stop [] = refl
+digits_stop (c ∷ rest) =
+    elim (is_ascii_digit c) as (λ b. is_ascii_digit c ≡ b → is_ascii_digit (first (drop (cond b (1 + prefix_len is_ascii_digit rest) 0) (c ∷ rest))) ≡ false) [
+      | true ↦ λ same.
+          let one_more : suc (prefix_len is_ascii_digit rest) ≡ 1 + prefix_len is_ascii_digit rest = omega arith in
+          subst (λ n. is_ascii_digit (first (drop n (c ∷ rest))) ≡ false) one_more (digits_stop rest)
+      | false ↦ λ same. same
+    ] refl
+
+pub digits_end : (text : List ℕ) (n : ℕ) → n ≡ prefix_len is_ascii_digit text → is_ascii_digit (first (take (length text - n) (drop n text))) ≡ false
+digits_end text n counted = ap (λ t. is_ascii_digit (first t)) (take_rest text n) ∙ ap (λ m. is_ascii_digit (first (drop m text))) counted ∙ digits_stop text
+
 -- digits
 pub digits_pass : (p : ℕ → Bool) (text : List ℕ) → list_all p (take (prefix_len p text) text) ≡ true
 digits_pass p [] = refl
@@ -103,8 +129,7 @@ pub number_splits : (text : List ℕ) (n : ℕ) → n ≡ prefix_len is_ascii_di
     (first text ≡ 48 → n ≤ 1) → Splits IsNumber text (take (length text - n) (drop n text))
 number_splits text n counted within digit no_more =
     let some : 0 < n = omega (arith, some_digits text digit) in
-    let size : length (take n text) ≡ n = length-take-le n text within in
-    (
+    let size : length (take n text) ≡ n = length-take-le n text within in (
       take n text,
       sym (take-append-drop n text) ∙ ap (λ t. take n text ++ t) (sym (take_rest text n)),
       (
@@ -137,7 +162,7 @@ quotation_parts false (c ∷ rest) after found =
             | true ↦ λ pair found.
                 let more = quotation_parts true rest after found in
                 let again : (first more.body == 34) ≡ true =
-                    ap (λ x. x == 34) (sym (first_of_append more.body after more.some) ∙ ap first (sym more.parts)) ∙ pair in
+                ap (λ x. x == 34) (sym (first_of_append more.body after more.some) ∙ ap first (sym more.parts)) ∙ pair in
                 record {
                   body = c ∷ more.body;
                   parts = ap (λ t. c ∷ t) more.parts;
@@ -227,8 +252,7 @@ pub digits_split : (text inside after rest : List ℕ) (n letter : ℕ) (kind : 
     IsItem kind (39 ∷ (take n inside ++ 39 ∷ letter ∷ [])) → Splits (IsItem kind) text rest
 digits_split text inside after rest n letter kind mark inside_is counted within after_is letter_is some rest_is item =
     let cut = digit_parts text inside after n mark inside_is counted within after_is in
-    let end : after ≡ letter ∷ rest = begins after letter (sym letter_is) some ∙ ap (λ t. letter ∷ t) (sym (take_rest after 1) ∙ sym rest_is) in
-    (
+    let end : after ≡ letter ∷ rest = begins after letter (sym letter_is) some ∙ ap (λ t. letter ∷ t) (sym (take_rest after 1) ∙ sym rest_is) in (
       39 ∷ (take n inside ++ 39 ∷ letter ∷ []),
       cut.parts ∙ ap (λ t. 39 ∷ t) (ap (λ t. take n inside ++ 39 ∷ t) end ∙ sym (append_assoc (take n inside) (39 ∷ letter ∷ []) rest)),
       item,
@@ -290,8 +314,7 @@ pub symbol_splits : (table : List (List ℕ)) (text symbol : List ℕ) → Some 
     Splits (λ item. is_among table item ≡ true) text (take (length text - length symbol) (drop (length symbol) text))
 symbol_splits table text symbol found =
     let is = found_among (λ known. starts_with nat_eq text known) table symbol found in
-    let front : symbol ≡ take (length symbol) text = (slice_eq-Decides Decides-eqb symbol (take (length symbol) text) _ refl).0 is.passes in
-    (
+    let front : symbol ≡ take (length symbol) text = (slice_eq-Decides Decides-eqb symbol (take (length symbol) text) _ refl).0 is.passes in (
       symbol,
       sym (take-append-drop (length symbol) text) ∙ (λ i. sym front i ++ sym (take_rest text (length symbol)) i),
       is.among,

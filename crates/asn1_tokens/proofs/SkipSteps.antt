@@ -1,5 +1,5 @@
 -- One step of skipping.
-use Rattle.std.proofs.Common.{◌≡◌, ℕ, ◌-◌, Bool, true, false, List, length, take, drop, Option, Some, sym, ap, ◌∙◌, subst}
+use Rattle.std.proofs.Common.{◌≡◌, ℕ, ◌-◌, Bool, true, false, List, length, take, drop, Some, sym, ap, ◌∙◌, subst}
 use Rattle.std.proofs.lemmas.List.{take_rest}
 use Rattle.asn1_tokens.specs.Characters.{is_white_space, first}
 use Rattle.asn1_tokens.specs.Skipped.{Skips, white_space, line_comment, comment, after_hyphens, after_comment, begins_with_hyphens, begins_with_comment}

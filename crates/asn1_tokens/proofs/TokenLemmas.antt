@@ -1,13 +1,12 @@
 -- What is skipped and then taken.
-use Rattle.std.proofs.Common.{◌≡◌, ℕ, ◌+◌, ◌-◌, ◌<◌, ◌≤◌, Bool, true, false, cond, ◌&&◌, List, [], ◌∷◌, ◌++◌, length, take, drop, Option, Some, None, refl, sym, ap, ◌∙◌, subst, append_assoc, arith}
+use Rattle.std.proofs.Common.{◌≡◌, ℕ, ◌+◌, ◌-◌, ◌<◌, ◌≤◌, Bool, true, false, cond, ◌&&◌, List, [], ◌∷◌, ◌++◌, length, take, drop, Some, refl, sym, ap, ◌∙◌, subst, append_assoc, arith}
 use Rattle.std.specs.Prelude.{◌==◌}
-use Rattle.std.specs.Borrow.{Bor}
 use Rattle.std.proofs.lemmas.List.{append-nil, length-append, take-append-drop}
 use Rattle.asn1_tokens.specs.declared.kind.TokenKind.{TokenKind}
 use Rattle.asn1_tokens.specs.declared.kind.TokenKind.TheVariants.{TypeReference, Identifier, ReservedWord, Number, BinaryString, HexString, CharacterString, Symbol}
 use Rattle.asn1_tokens.specs.declared.token.Token.{Token}
 use Rattle.asn1_tokens.specs.Characters.{first, is_newline}
-use Rattle.asn1_tokens.specs.Items.{IsItem, Splits}
+use Rattle.asn1_tokens.specs.Items.{EndsItem, IsItem, Splits}
 use Rattle.asn1_tokens.specs.Skipped.{Skips, nothing, white_space, line_comment, comment, after_hyphens, after_comment}
 use Rattle.asn1_tokens.specs.Tokens.{TakesToken, TakesTokens}
 use Rattle.asn1_tokens.specs.Words.{is_reserved, is_symbol}
@@ -92,9 +91,9 @@ pub item_shortens : (kind : TokenKind) (rest after : List ℕ) → Splits (IsIte
 item_shortens kind rest after split =
     omega (arith, item_some kind split.0 split.2, ap length split.1, length-append split.0 after)
 
-pub token_taken : (size : ℕ) (text rest after : List ℕ) (t : Token) → Skips text rest → Splits (IsItem t.kind) rest after → length rest ≤ size →
+pub token_taken : (size : ℕ) (text rest after : List ℕ) (t : Token) → Skips text rest → Splits (IsItem t.kind) rest after → EndsItem t.kind after → length rest ≤ size →
     t.text.now ≡ take (length rest - length after) rest → t.start ≡ size - length rest → TakesToken size text t after
-token_taken size text rest after t skipped split within is_text is_start =
+token_taken size text rest after t skipped split ends within is_text is_start =
     let item : t.text.now ≡ split.0 = is_text ∙ cut_item rest split.0 after split.1 in
     let parts : rest ≡ t.text.now ++ after = split.1 ∙ ap (λ x. x ++ after) (sym item) in
     let gap = skipped_end text rest skipped in
@@ -103,6 +102,7 @@ token_taken size text rest after t skipped split within is_text is_start =
       parts = gap.parts ∙ ap (λ x. gap.gap ++ x) parts;
       skipped = let P : List ℕ → Type 0 = λ x. Skips text x in subst P parts skipped;
       item = let P : List ℕ → Type 0 = λ x. IsItem t.kind x in subst P (sym item) split.2;
+      ends = ends;
       start = omega (arith, is_start, ap length parts);
     }
 

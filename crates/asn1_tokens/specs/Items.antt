@@ -1,7 +1,7 @@
 -- Lexical items, each as X.680 defines its kind.
-use Rattle.std.specs.Prelude.{◌≡◌, ◌≢◌, ◌<◌, ◌⊎◌, ℕ, Bool, true, false, ◌&&◌, ◌==◌, List, [], ◌∷◌, ◌++◌, length, drop, slice_index, Option, Some, None, if◌then◌else◌, ⊤}
-use Rattle.std.specs.List.{list_all, list_any}
-use Rattle.std.specs.Char.{is_ascii_digit, is_ascii_alphabetic, is_ascii_uppercase, is_ascii_lowercase}
+use Rattle.std.specs.Prelude.{◌≡◌, ◌≢◌, ◌<◌, ℕ, Bool, true, false, ◌&&◌, ◌==◌, List, [], ◌∷◌, ◌++◌, length, drop, slice_index, Option, Some, None, if◌then◌else◌, ⊤}
+use Rattle.std.specs.List.{list_all}
+use Rattle.std.specs.Char.{is_ascii_digit, is_ascii_uppercase, is_ascii_lowercase}
 use Rattle.asn1_tokens.specs.declared.kind.TokenKind.{TokenKind}
 use Rattle.asn1_tokens.specs.declared.kind.TokenKind.TheVariants.{TypeReference, Identifier, ReservedWord, Number, BinaryString, HexString, CharacterString, Symbol}
 use Rattle.asn1_tokens.specs.Characters.{first, quotation_mark, apostrophe, is_in_name, is_binary_character, is_hex_character}
@@ -61,6 +61,19 @@ IsItem BinaryString = IsBinaryString
 IsItem HexString = IsHexString
 IsItem CharacterString = IsCharacterString
 IsItem Symbol = IsSymbol
+
+-- Neither a letter, a digit, nor a hyphen before one.
+abbrev pub EndsName : List ℕ → Type 0
+EndsName after = is_in_name (first after) (slice_index after 1) ≡ false
+
+-- What follows an item of the kind does not go on with it, so the item could not be longer.
+abbrev pub EndsItem : TokenKind → List ℕ → Type 0
+EndsItem TypeReference = EndsName
+EndsItem Identifier = EndsName
+EndsItem ReservedWord = EndsName
+EndsItem Number = λ after. is_ascii_digit (first after) ≡ false
+EndsItem CharacterString = λ after. first after ≢ quotation_mark
+EndsItem _ = λ after. ⊤
 
 -- The text begins with an item of which this holds, and another text follows.
 abbrev pub Splits : (List ℕ → Type 0) → List ℕ → List ℕ → Type 0

@@ -1,16 +1,17 @@
 -- The tokens of a text.
 use Rattle.std.specs.Prelude.{◌≡◌, ◌+◌, ℕ, List, [], ◌∷◌, ◌++◌, length}
 use Rattle.asn1_tokens.specs.declared.token.Token.{Token}
-use Rattle.asn1_tokens.specs.Items.{IsItem}
+use Rattle.asn1_tokens.specs.Items.{EndsItem, IsItem}
 use Rattle.asn1_tokens.specs.Skipped.{Skips}
 
--- What is skipped, the token, and the text after it are the text. The token is an item of its kind, and begins at its
--- offset in the whole text, which has this size.
+-- What is skipped, the token, and the text after it are the text. The token is an item of its kind, which could not be
+-- longer, and begins at its offset in the whole text, which has this size.
 pub record TakesToken (size : ℕ) (text : List ℕ) (t : Token) (after : List ℕ) : Type 0 where
   pub gap : List ℕ
   pub parts : text ≡ gap ++ (t.text.now ++ after)
   pub skipped : Skips text (t.text.now ++ after)
   pub item : IsItem t.kind t.text.now
+  pub ends : EndsItem t.kind after
   pub start : t.start + length (t.text.now ++ after) ≡ size
 
 -- The tokens one after another, and the text after the last.

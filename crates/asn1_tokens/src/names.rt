@@ -1,10 +1,10 @@
 //! Names, reserved words and numbers.
-ghost use Rattle.std.specs.Prelude.{◌≡◌, ◌≤◌, ◌<◌, true, length, MatchResult};
+ghost use Rattle.std.specs.Prelude.{◌≡◌, ◌≤◌, ◌<◌, ℕ, List, true, false, length, IfOk, MatchResult};
 ghost use Rattle.std.specs.List.{prefix_len};
 ghost use Rattle.std.specs.Char.{is_ascii_alphabetic, is_ascii_digit};
 ghost use Rattle.asn1_tokens.specs.Characters as spec;
 ghost use Rattle.asn1_tokens.specs.Items as items;
-ghost use Rattle.asn1_tokens.specs.Items.{IsItem, IsNumber, Splits, is_spelled_as_name};
+ghost use Rattle.asn1_tokens.specs.Items.{EndsItem, EndsName, IsItem, IsNumber, Splits, is_spelled_as_name};
 ghost use Rattle.asn1_tokens.specs.Refusals.{IsRefused};
 
 use crate::characters::first;
@@ -39,7 +39,8 @@ fn after_name(text: &[u8]) -> &[u8]
 fn word_kind(word: &[u8]) -> TokenKind
     requires letter { is_ascii_alphabetic (spec.first word.now) ≡ true }
     requires spelled { is_spelled_as_name word.now ≡ true }
-    ensures { IsItem result word.now }
+    ensures item { IsItem result word.now }
+    ensures ends { (after : List ℕ) → EndsName after → EndsItem result after }
 {
     if first(word).is_ascii_lowercase() {
         TokenKind::Identifier
@@ -54,6 +55,7 @@ fn word_kind(word: &[u8]) -> TokenKind
 pub(crate) fn take_word(text: &[u8]) -> (TokenKind, &[u8])
     requires letter { is_ascii_alphabetic (spec.first text.now) ≡ true }
     ensures item { Splits (IsItem result.0) text.now result.1.now }
+    ensures ends { EndsItem result.0 result.1.now }
 {
     let after = after_name(text);
     let word = &text[..text.len() - after.len()];
@@ -76,6 +78,7 @@ pub(crate) fn after_number(text: &[u8]) -> Result<&[u8], Refusal>
     ensures number { MatchResult result
         (λ after. Splits IsNumber text.now after.now)
         (λ refusal. IsRefused refusal text.now) }
+    ensures ends { IfOk result (λ after. is_ascii_digit (spec.first after.now) ≡ false) }
 {
     let length = digit_count(text);
     if first(text) == b'0' && 1 < length {

@@ -70,7 +70,7 @@ fn begins_with_pair(text: &[u8], a: u8, b: u8) -> bool
 fn skip_one(text: &[u8]) -> Result<Option<&[u8]>, UnclosedComment>
     ensures skipped { MatchResult result
         (λ next. MatchOption next (is_unskipped text.now ≡ true)
-            (λ after. (rest : List ℕ) → Skips after.now rest → Skips text.now rest))
+        (λ after. (rest : List ℕ) → Skips after.now rest → Skips text.now rest))
         (λ _. IsUnclosedComment text.now) }
     ensures shorter { IfOk result (λ next. IfSome next (λ after. length after.now < length text.now)) }
 {

@@ -1,11 +1,11 @@
 //! Strings of bits, of hexadecimal digits and of characters.
-ghost use Rattle.std.specs.Prelude.{◌≡◌, ◌≤◌, ◌<◌, ◌==◌, not, false, [], ◌∷◌, ◌++◌, length, IfSome, MatchOption, MatchResult};
+ghost use Rattle.std.specs.Prelude.{◌≡◌, ◌≢◌, ◌≤◌, ◌<◌, ◌==◌, ℕ, List, not, false, [], ◌∷◌, ◌++◌, length, IfOk, IfSome, MatchOption, MatchResult};
 ghost use Rattle.std.specs.Option.{option_map};
 ghost use Rattle.std.specs.List.{list_all, prefix_len};
 ghost use Rattle.asn1_tokens.specs.Characters as spec;
 ghost use Rattle.asn1_tokens.specs.Characters.{apostrophe, quotation_mark};
 ghost use Rattle.asn1_tokens.specs.Items as items;
-ghost use Rattle.asn1_tokens.specs.Items.{IsCharacterString, IsItem, Splits};
+ghost use Rattle.asn1_tokens.specs.Items.{EndsItem, IsCharacterString, IsItem, Splits};
 ghost use Rattle.asn1_tokens.specs.Refusals.{IsRefused};
 
 use crate::characters::{first, is_binary_character, is_hex_character};
@@ -15,6 +15,7 @@ use crate::kind::TokenKind;
 // The text after the quotation mark that ends a cstring, for the text after the one that begins it.
 fn after_quotation(text: &[u8]) -> Option<&[u8]>
     ensures rest { option_map (λ rest. rest.now) result ≡ items.after_quotation false text.now }
+    ensures ends { IfSome result (λ rest. spec.first rest.now ≢ quotation_mark) }
 {
     let mut rest = text;
     let mut is_second = false;
@@ -35,6 +36,7 @@ pub(crate) fn after_character_string(text: &[u8]) -> Result<&[u8], Refusal>
     ensures string { MatchResult result
         (λ after. Splits IsCharacterString text.now after.now)
         (λ refusal. IsRefused refusal text.now) }
+    ensures ends { IfOk result (λ after. spec.first after.now ≢ quotation_mark) }
 {
     match after_quotation(&text[1..]) {
         Some(after) => Ok(after),
@@ -60,9 +62,10 @@ fn are_hex(body: &[u8]) -> bool
 fn digits_kind(body: &[u8], letter: u8) -> Option<TokenKind>
     ensures kind { MatchOption result
         ((letter ≡ 66 → list_all spec.is_binary_character body.now ≡ false)
-            × (letter ≡ 72 → list_all spec.is_hex_character body.now ≡ false))
+        × (letter ≡ 72 → list_all spec.is_hex_character body.now ≡ false))
         (λ kind. IsItem kind (apostrophe ∷ (body.now ++ apostrophe ∷ letter ∷ []))) }
     ensures letter { IfSome result (λ _. 0 < letter) }
+    ensures ends { IfSome result (λ kind. (after : List ℕ) → EndsItem kind after) }
 {
     if letter == b'B' && are_binary(body) {
         Some(TokenKind::BinaryString)
@@ -87,6 +90,7 @@ pub(crate) fn take_digits(text: &[u8]) -> Result<(TokenKind, &[u8]), Refusal>
     ensures string { MatchResult result
         (λ (kind, after). Splits (IsItem kind) text.now after.now)
         (λ refusal. IsRefused refusal text.now) }
+    ensures ends { IfOk result (λ (kind, after). EndsItem kind after.now) }
 {
     let inside = &text[1..];
     let end = apostrophe_index(inside);

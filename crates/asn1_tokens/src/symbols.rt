@@ -8,32 +8,8 @@ ghost use Rattle.asn1_tokens.specs.Words as spec;
 /// The symbols, each before those with which it begins: assignments, ranges, ellipses and version brackets (X.680, 12.20 to
 /// 12.24), the single characters (12.37), and the ampersand with which the name of a field begins (X.681, 7.4).
 pub const SYMBOLS: [&[u8]; 26] = [
-    b"::=",
-    b"...",
-    b"..",
-    b"[[",
-    b"]]",
-    b"{",
-    b"}",
-    b"(",
-    b")",
-    b"<",
-    b">",
-    b"[",
-    b"]",
-    b",",
-    b".",
-    b":",
-    b";",
-    b"|",
-    b"!",
-    b"@",
-    b"^",
-    b"&",
-    b"*",
-    b"/",
-    b"=",
-    b"-",
+    b"::=", b"...", b"..", b"[[", b"]]", b"{", b"}", b"(", b")", b"<", b">", b"[", b"]", b",",
+    b".", b":", b";", b"|", b"!", b"@", b"^", b"&", b"*", b"/", b"=", b"-",
 ];
 
 // The first symbol of the table with which the text begins.

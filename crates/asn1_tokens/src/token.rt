@@ -1,7 +1,7 @@
 //! Tokens.
 ghost use Rattle.std.specs.Prelude.{◌≡◌, ◌≤◌, ◌<◌, [], length, IfOk, IfErr, IfSome, MatchOption, MatchResult};
 ghost use Rattle.asn1_tokens.specs.Characters as spec;
-ghost use Rattle.asn1_tokens.specs.Items.{IsItem, Splits};
+ghost use Rattle.asn1_tokens.specs.Items.{EndsItem, IsItem, Splits};
 ghost use Rattle.asn1_tokens.specs.Refusals.{IsRefused, Refuses, RefusesAt};
 ghost use Rattle.asn1_tokens.specs.Skipped.{Skips, is_unskipped};
 ghost use Rattle.asn1_tokens.specs.Tokens.{AreTokens, TakesToken};
@@ -32,6 +32,7 @@ fn take_item(text: &[u8]) -> Result<(TokenKind, &[u8]), Refusal>
     ensures item { MatchResult result
         (λ (kind, after). Splits (IsItem kind) text.now after.now)
         (λ refusal. IsRefused refusal text.now) }
+    ensures ends { IfOk result (λ (kind, after). EndsItem kind after.now) }
 {
     match first(text) {
         b'A'..=b'Z' | b'a'..=b'z' => Ok(take_word(text)),
@@ -58,7 +59,7 @@ fn next_token(text: &[u8], size: usize) -> Result<Option<(Token<'_>, &[u8])>, (R
     requires within { length text.now ≤ size }
     ensures token { MatchResult result
         (λ next. MatchOption next (Skips text.now [])
-            (λ (token, after). TakesToken size text.now token after.now))
+        (λ (token, after). TakesToken size text.now token after.now))
         (λ (cause, at). RefusesAt size text.now cause at) }
     ensures shorter { IfOk result (λ next. IfSome next (λ (_, after).
         length after.now < length text.now)) }

@@ -1,5 +1,5 @@
 use Rattle.asn1_tokens.proofs.ItemLemmas.{string_splits}
 use Rattle.asn1_tokens.proofs.strings.after_character_string.Goals as goal
 
-pub returns-in-Some : goal.returns-in-Some
-returns-in-Some c = record { string = string_splits c.args.text.now c.in-Some.after.now c.requires.quotation c.in-Some.ensures.rest }
+pub returns-in-Some-clause-string : goal.returns-in-Some-clause-string
+returns-in-Some-clause-string c = string_splits c.args.text.now c.in-Some.after.now c.requires.quotation c.in-Some.ensures.rest
