@@ -1,9 +1,11 @@
--- The records with one output in DER, whatever the order inside sets.
-use Rattle.std.specs.Prelude.{◌≡◌, ⊤, ℕ, List}
+-- The records with one output in DER, whatever the order inside sets, and the types whose values have one spelling.
+use Rattle.std.specs.Prelude.{◌≡◌, ⊤, ℕ, Bool, true, List}
 use Rattle.std.specs.Int.Digits.{AllBelowBase}
 use Rattle.asn1_der.specs.Format.{Carries, der_format}
-use Rattle.asn1_model.specs.Meaning.{Meaning}
-use Rattle.asn1_model.specs.Records.{Head, Record, Records, scalar, scope, open_type, presence_mark, none, more, sequence, set, sequence_of, set_of, explicit_tag, alternative}
+use Rattle.asn1_der_items.specs.DistinctTags.{HaveDistinctSets}
+use Rattle.asn1_model.specs.Meaning.{Meaning, own_records}
+use Rattle.asn1_model.specs.Orders.{SameRecords}
+use Rattle.asn1_model.specs.Records.{Head, Record, Records, scalar, scope, open_type, presence_mark, none, more, held, sequence, set, sequence_of, set_of, explicit_tag, alternative}
 use Rattle.asn1_rules.specs.CanonicalReading.{IsSpelled}
 
 -- what holds records is no SET (X.680, 27); it may be a SET OF
@@ -32,9 +34,22 @@ abbrev pub HaveOneOutput : List Record → List Record → Type 0
 HaveOneOutput rs ss =
     (own other : List ℕ) → AllBelowBase 256 own → AllBelowBase 256 other → Carries own rs → Carries other ss → own ≡ other
 
--- Octets that writing one of these values makes are the same as those that writing the other makes. A value that
--- `read_canonical` answers is written as the octets that were read.
-abbrev pub HaveOneSpelling : {V : Type 0} → Meaning V → V → V → Type 0
-HaveOneSpelling m v w =
-    (own other : List ℕ) → AllBelowBase 256 own → AllBelowBase 256 other → IsSpelled der_format m v own → IsSpelled der_format m w other →
-    own ≡ other
+module _ {V : Type 0} (m : Meaning V) where
+  -- Octets that writing one of these values makes are the same as those that writing the other makes. A value that
+  -- `read_canonical` answers is written as the octets that were read.
+  abbrev pub HaveOneSpelling : V → V → Type 0
+  HaveOneSpelling v w =
+      (own other : List ℕ) → AllBelowBase 256 own → AllBelowBase 256 other → IsSpelled der_format m v own → IsSpelled der_format m w other →
+      own ≡ other
+
+  -- Equal values have the same records, up to the order inside sets.
+  abbrev pub EqualHaveSameRecords : (V → V → Bool) → Type 0
+  EqualHaveSameRecords eq = (v w : V) → eq v w ≡ true → SameRecords (own_records m v) (own_records m w)
+
+  -- In each SET in a value the components have distinct tags (X.680, 27.3).
+  abbrev pub HasDistinctSetsIn : V → Type 0
+  HasDistinctSetsIn v = HaveDistinctSets (held (own_records m v))
+
+  -- This holds of each valid value of the type.
+  abbrev pub HaveDistinctSetsInEach : Type 0
+  HaveDistinctSetsInEach = (v : V) → m.IsOfType v → m.IsValid der_format.accepts v → HasDistinctSetsIn v

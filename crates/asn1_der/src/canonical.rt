@@ -1,28 +1,70 @@
-//! Laws of one encoding: records without a SET have one DER, and so values with the same records have one spelling.
-ghost use Rattle.asn1_der.specs.OneOutput.{HaveNoSet, HaveOneOutput, HaveOneSpelling};
-ghost use Rattle.asn1_model.specs.Meaning.{own_records};
+//! Laws of one spelling: records have one DER, and so values with the same records have one spelling.
+ghost use Rattle.asn1_der.specs.Format.{Carries, der_format};
+ghost use Rattle.asn1_der.specs.OneOutput.{EqualHaveSameRecords, HasDistinctSetsIn, HaveDistinctSetsInEach, HaveNoSet, HaveOneOutput, HaveOneSpelling};
+ghost use Rattle.asn1_der_items.specs.DistinctTags.{HaveDistinctSets};
+ghost use Rattle.asn1_model.specs.Meaning.{IsWellTagged, own_records};
 ghost use Rattle.asn1_model.specs.Orders.{SameRecords};
 ghost use Rattle.asn1_model.specs.Records.{Record, held};
-ghost use Rattle.std.specs.Prelude.{List};
+ghost use Rattle.asn1_rules.specs.CanonicalReading.{AreOctets, HasOneSpelling};
+ghost use Rattle.asn1_rules.specs.Fronts.{BelongsTo, IsSteady};
+ghost use Rattle.std.specs.Int.Digits.{AllBelowBase};
+ghost use Rattle.std.specs.Prelude.{◌≡◌, List, Vec, true, ℕ};
+ghost use Rattle.std.specs.declared.alloc.Global.{Global};
 
+use crate::reader::DerReader;
+use crate::rules::DerRules;
+use asn1_dec::Decode;
+use asn1_enc::Encode;
 use asn1_model::AsnType;
+use asn1_rules::{CanonicalReader, FrontReader, Rules};
 
-/// A law of one encoding: records that are the same up to the order inside sets have one output, where none of them is a SET or
-/// holds one. So octets that carry the records of a value are those that are written of every value with the same records. Values
-/// that are equal by their type's own equality need not have the same records.
-///
-/// Of records with a SET, whose components have distinct tags, `der_is_canonical` of `asn1_der_items` says the same.
+/// A law of one encoding: records that are the same up to the order inside sets have one output, if the components of each SET in
+/// them have distinct tags (`unique`), as they have if there is no SET (`without_set`). So the octets that carry the records of a
+/// value are those that are written of every value with the same records.
 pub fn output_is_unique()
-    ensures { (rs ss : List Record) → SameRecords rs ss → HaveNoSet (held rs) →
+    ensures unique { (rs ss : List Record) → SameRecords rs ss → HaveDistinctSets (held rs) →
         HaveOneOutput rs ss }
+    ensures without_set { (rs : List Record) → HaveNoSet (held rs) → HaveDistinctSets (held rs) }
 {}
 
-/// A law of one spelling: where `read_canonical` of `asn1_rules` answers, by DER, two values with the same records up to the order
-/// inside sets, and none of these records is a SET or holds one, the two inputs were the same octets. So signed octets have no
-/// second form that is read as the same value.
+/// A law of what has an output: octets that carry some records carry none that are rejected.
+pub fn records_with_an_output_are_not_rejected()
+    ensures { (bytes : List ℕ) (rs : List Record) → AllBelowBase 256 bytes → Carries bytes rs →
+        der_format.rejects rs → ⊥ }
+{}
+
+/// A law of one spelling: if two values have the same records, up to the order inside sets, then all octets that writing either of
+/// them makes are the same (`same_records`). So are those of equal values of a type whose equal values have the same records
+/// (`equal`). The components of each SET in the value have distinct tags.
 ///
-/// `equal_certificates_have_the_same_records` of `asn1_x509` has the premise for equal certificates.
-pub fn values_with_the_same_records_have_one_spelling<T: AsnType>()
-    ensures { (v w : T) → SameRecords (own_records T.meaning v) (own_records T.meaning w) →
-        HaveNoSet (held (own_records T.meaning v)) → HaveOneSpelling T.meaning v w }
+/// `read_canonical` of `asn1_rules` answers a value only of octets that writing it makes. So if it answers equal values of such a type by
+/// DER, the two inputs were the same octets, and signed octets have no second form that is read as the same value.
+pub fn equal_values_have_one_spelling<T: AsnType + PartialEq>()
+    ensures same_records { (v w : T) → SameRecords (own_records T.meaning v)
+        (own_records T.meaning w) → HasDistinctSetsIn T.meaning v → HaveOneSpelling T.meaning v w }
+    ensures equal { EqualHaveSameRecords T.meaning T.eq → (v w : T) →
+        HasDistinctSetsIn T.meaning v → T.eq v w ≡ true → HaveOneSpelling T.meaning v w }
+{}
+
+/// A law of one spelling: octets that carry the records of a value are its only spelling, if equal values of its type have the same
+/// records, and the components of each SET in it have distinct tags. This is the premise of `read` of `read_canonical`. So what
+/// DER writes of a valid value is read back by `read_canonical`, unless memory runs out or the depth is too small.
+pub fn what_is_written_is_the_only_spelling<T: AsnType + PartialEq>()
+    ensures { EqualHaveSameRecords T.meaning T.eq → (output : Vec ℕ Global) (v : T) →
+        AreOctets output.items → HasDistinctSetsIn T.meaning v →
+        der_format.carries output (own_records T.meaning v) →
+        HasOneSpelling der_format T.meaning T.eq v output.items }
+{}
+
+/// A law of streams: a canonical reader over the reader of DER is steady, and belongs to the rules of DER, for a type that can be
+/// inside others, whose equal values have the same records, and in whose SETs the components have distinct tags.
+pub fn the_canonical_reader_belongs_to_the_rules<T: Encode + Decode>(
+    reader: &CanonicalReader<DerReader, DerRules>,
+)
+    ensures steady { IsSteady
+        ⟦<CanonicalReader<DerReader, DerRules> as FrontReader<T>>⟧.fronts reader.now }
+    ensures belongs { IsWellTagged T.meaning → EqualHaveSameRecords T.meaning T.eq →
+        HaveDistinctSetsInEach T.meaning →
+        BelongsTo ⟦<CanonicalReader<DerReader, DerRules> as FrontReader<T>>⟧.fronts reader.now
+        ⟦<DerRules as Rules>⟧.format T.meaning T.eq }
 {}

@@ -6,7 +6,7 @@
 //! | [`DerReader`] | reads values one after another from DER |
 //! | [`DerEncoder`], [`DerBuffer`] | the encoder, and the buffer in which it writes |
 //! | [`DerDecoder`] | the decoder |
-//! | [`canonical`] | records without a SET have one output |
+//! | [`canonical`] | records have one output, and values one spelling |
 //! | [`laws`], [`encoder_laws`], [`decoder_laws`] | the laws of the codec and its reader, of the encoder, and of the decoder |
 //!
 //! # The codec
@@ -18,8 +18,10 @@
 //! - [`DerReader`] takes one whole element for the bytes of one value, no more and no less (`cut` of [`laws`]), and opens as many
 //!   scopes as it was made with (`depth`). It is steady and belongs to these rules, so values come out of a stream in the order in
 //!   which they were written, however the bytes are cut (`round_trip_in_pieces` of `asn1_rules`).
-//! - Records without a SET have one output (`output_is_unique`): a value that was read is written again as the same bytes, where it
-//!   has the same records.
+//! - Records have one output, whatever the order inside sets, if the components of each SET in them have distinct tags
+//!   (`output_is_unique` of [`canonical`]). So octets of which `read_canonical` of `asn1_rules` answers equal values are the same, if
+//!   equal values of the type have the same records (`equal_values_have_one_spelling`), and what is written of a valid value is read back
+//!   by it (`what_is_written_is_the_only_spelling`).
 //!
 //! # The encoder
 //!

@@ -21,34 +21,35 @@ use Rattle.asn1_der_items.specs.declared.content_order.ContentOrder.TheVariants.
 use Rattle.asn1_der_items.specs.Bytes.{HasDer, HaveDer, HoldsInOrder, content_order_of}
 use Rattle.asn1_der_items.specs.DistinctTags.{AreDistinctIn, HasDistinctSets, HaveDistinctSets, HaveDistinctTags, SharesNoTag}
 use Rattle.asn1_der_items.specs.Series.{AreElements, HoldsContents, is_one_element, tag_of}
+use Rattle.asn1_der_items.proofs.Comparing.{AreAlike, alike_elements, alike_scopes}
 use Rattle.asn1_der_items.proofs.OneContents.{below_first, below_later}
 use Rattle.asn1_der_items.proofs.OneElement.{one_split, some_bytes}
 use Rattle.asn1_der_items.proofs.SomeEncoding.{below_both}
 use Rattle.asn1_der_items.proofs.RecordElements.{mark_bytes, no_first, is_element_of_record}
-use Rattle.asn1_der_items.proofs.OneEncoding.{contents_below, one_der, same_contents}
+use Rattle.asn1_der_items.proofs.OneEncoding.{one_der, same_contents}
 use Rattle.asn1_der_items.proofs.SetOrders.{encodings_rank, one_encoding, one_tag, tags_rank}
 use Rattle.asn1_der_items.proofs.Sorting.{IsAscending, count, one_if, one_order, ascending_from}
 
 -- A record and its bytes.
-record Part : Type 0 where
+pub record Part : Type 0 where
   pub item : Record
   pub bytes : List ℕ
   pub der : HasDer item bytes
   pub are_octets : AllBelowBase 256 bytes
 
-abbrev items : List Part → List Record
+abbrev pub items : List Part → List Record
 items ps = map (λ p. p.item) ps
 
-abbrev joined : List Part → List ℕ
+abbrev pub joined : List Part → List ℕ
 joined ps = flat_map (λ p. p.bytes) ps
 
 -- the parts of some records
-record Parts (rs : Records) (bytes : List ℕ) : Type 0 where
+pub record Parts (rs : Records) (bytes : List ℕ) : Type 0 where
   pub all : List Part
   pub records : held (items all) ≡ rs
   pub are : bytes ≡ joined all
 
-parts_of : (rs : Records) (bytes : List ℕ) → AllBelowBase 256 bytes → HaveDer rs bytes → Parts rs bytes
+pub parts_of : (rs : Records) (bytes : List ℕ) → AllBelowBase 256 bytes → HaveDer rs bytes → Parts rs bytes
 parts_of none bytes below d = record { all = []; records = refl; are = d }
 parts_of (more r rs) bytes below d =
     let low = subst (AllBelowBase 256) d.are below in
@@ -59,7 +60,7 @@ parts_of (more r rs) bytes below d =
       are = d.are ∙ ap (λ l. d.first ++ l) p.are;
     }
 
-parts_der : (ps : List Part) → HaveDer (held (items ps)) (joined ps)
+pub parts_der : (ps : List Part) → HaveDer (held (items ps)) (joined ps)
 parts_der [] = refl
 parts_der (p ∷ ps) = record { first = p.bytes; others = joined ps; is_first = p.der; are_others = parts_der ps; are = refl }
 
@@ -171,7 +172,7 @@ distinct_ties (p ∷ ps) distinct x y among too tag = by (first_or_later p ps x 
     by (inr a) (inl g) others = absurd (no_other p.item ps x distinct.0 (subst (λ t. Has (record_tags p.item) t) (sym tag) g.tag) a)
     by (inr a) (inr b) others = others a b
 
-octets_joined : (ps : List Part) → AllBelowBase 256 (joined ps)
+pub octets_joined : (ps : List Part) → AllBelowBase 256 (joined ps)
 octets_joined [] = tt
 octets_joined (p ∷ ps) = below_both p.bytes (joined ps) p.are_octets (octets_joined ps)
 
@@ -195,19 +196,12 @@ one_in_any_order lt weak rs qs ss moved own other below above a b sorted_own sor
     let all : elements p.all ≡ elements q.all = one_order lt same bytes_decides weak (elements p.all) (elements q.all) (in_order lt p.all own p.are sorted_own) (in_order lt q.all other q.are sorted_other) (ties p.all p.records) (λ e. ap (count same e) there ∙ as_often made.order q.all made.rearranged e) in
     p.are ∙ elements_joined p.all ∙ ap (flat_map (λ e. e)) all ∙ sym (elements_joined q.all) ∙ sym q.are
 
--- Two that hold what is inside have one encoding where what is inside has.
+-- Bytes of two kinds are the same, where they are octets.
 abbrev AreOne : (List ℕ → Type 0) → (List ℕ → Type 0) → Type 0
-AreOne Is Too = (own other : List ℕ) → AllBelowBase 256 own → AllBelowBase 256 other → Is own → Too other → own ≡ other
+AreOne Is Too = AreAlike (λ own other. own ≡ other) Is Too
 
 hold_one : (t : Tag) (Are AreToo : List ℕ → Type 0) → AreOne Are AreToo → AreOne (HoldsContents Are t true) (HoldsContents AreToo t true)
-hold_one t Are AreToo one own other below above a b =
-    same_contents t true own other a.contents b.contents a.element b.element (one a.contents b.contents (contents_below t true a.contents own a.element below) (contents_below t true b.contents other b.element above) a.are b.are)
-
-form_one : (f : ContentOrder) (t : Tag) (Is Too : List ℕ → Type 0) → AreOne Is Too → AreOne (HoldsInOrder f t Is) (HoldsInOrder f t Too)
-form_one AsDefined t Is Too one = hold_one t Is Too one
-form_one ByTag t Is Too one = hold_one t _ _ (λ own other below above a b. one own other below above a.0 b.0)
-form_one ByEncoding t Is Too one = hold_one t _ _ (λ own other below above a b. one own other below above a.0 b.0)
-form_one Chosen t Is Too one = λ own other below above a b. one own other below above a.0 b.0
+hold_one t Are AreToo one = alike_elements (λ own other. own ≡ other) same_contents t true Are AreToo one
 
 in_any_order_one : (h : Head) (rs qs ss : Records) → is_unordered h ≡ true → IsPermutation (listed qs) (listed ss) → AreDistinctIn h rs → AreOne (HaveDer rs) (HaveDer qs) → AreOne (HasDer (scope h rs)) (HasDer (scope h ss))
 in_any_order_one (set t table n) rs qs ss unordered moved distinct one = hold_one t _ _ (λ own other below above a b.
@@ -233,7 +227,7 @@ joined_one r s rs ss one later own other below above a b =
 mutual
   pub same_der : (r s : Record) → SameRecord r s → HasDistinctSets r → AreOne (HasDer r) (HasDer s)
   same_der r s (equal _) distinct = one_der r
-  same_der r s (one_by_one h {rs = rs} {ss = ss} all) distinct = form_one (content_order_of h) (head_tag h) (HaveDer rs) (HaveDer ss) (same_ders rs ss all distinct.1)
+  same_der r s (one_by_one h {rs = rs} {ss = ss} all) distinct = alike_scopes (λ own other. own ≡ other) same_contents (content_order_of h) (head_tag h) (HaveDer rs) (HaveDer ss) (same_ders rs ss all distinct.1)
   same_der r s (in_any_order h {rs = rs} {qs = qs} {ss = ss} unordered all moved) distinct = in_any_order_one h rs qs ss unordered moved distinct.0 (same_ders rs qs all distinct.1)
 
   pub same_ders : (rs ss : Records) → SameAll rs ss → HaveDistinctSets rs → AreOne (HaveDer rs) (HaveDer ss)

@@ -1,4 +1,5 @@
 pub mod TrailingBytes
+mod Comparing
 mod Complements
 mod ElementFronts
 pub mod Encodings
@@ -12,7 +13,9 @@ mod Septets
 pub mod SomeEncoding
 mod WritingArcs
 pub mod Canonical
+pub mod DistinctSets
 pub mod Marks
+pub mod NotBoth
 pub mod OneEncoding
 pub mod RecordElements
 pub mod SetOrders

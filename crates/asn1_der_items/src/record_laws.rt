@@ -40,10 +40,10 @@ pub fn a_record_has_der_or_none()
     ensures { (r : Record) → IsInRange r → HasDerOrNone r }
 {}
 
-/// A law of what there is: no record has DER and has none.
+/// A law of what there is: no record has DER and has none, also in another order inside sets.
 pub fn no_record_has_both()
-    ensures { (r : Record) (bytes : List ℕ) → AllBelowBase 256 bytes →
-        HasDer r bytes → ¬ HasNoDer r }
+    ensures { (r s : Record) → SameRecord r s → (bytes : List ℕ) → AllBelowBase 256 bytes →
+        HasDer r bytes → ¬ HasNoDer s }
 {}
 
 /// A law of encodings: a record, in one order inside sets, has one.
@@ -58,6 +58,11 @@ pub fn der_is_canonical()
     ensures { (r s : Record) → SameRecord r s → HasDistinctSets r → (own other : List ℕ) →
         AllBelowBase 256 own → AllBelowBase 256 other → HasDer r own → HasDer s other →
         own ≡ other }
+{}
+
+/// A law of sets: where the components of each SET in a record have distinct tags, they have them in each order inside sets.
+pub fn distinct_tags_do_not_depend_on_order()
+    ensures { (r s : Record) → SameRecord r s → HasDistinctSets r → HasDistinctSets s }
 {}
 
 /// A law of the derives: two orders are equal if and only if they are the same, and clones are their sources.

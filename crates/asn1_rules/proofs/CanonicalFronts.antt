@@ -1,5 +1,5 @@
 -- A canonical reader is steady if the inner reader is, and belongs to the rules by which each value has one spelling.
-use Rattle.std.proofs.Common.{◌≡◌, ◌<◌, ◌⊎◌, inl, inr, ℕ, Bool, List, ◌++◌, subst, sym, arith, get_or, Fits, w8}
+use Rattle.std.proofs.Common.{◌≡◌, ◌<◌, ◌⊎◌, inl, inr, ℕ, Bool, List, ◌++◌, ap, subst, sym, ◌∙◌, arith, get_or, Fits, w8}
 use Rattle.std.proofs.Math.Seq.{take-length}
 use Rattle.std.proofs.Math.Facts.{Fits-lt-pow}
 use Rattle.std.proofs.lemmas.List.{get_or-take, get_or_default, length-take, take-append-le}
@@ -7,12 +7,11 @@ use Rattle.std.specs.Prelude.{Vec, min, take}
 use Rattle.std.specs.declared.alloc.Global.{Global}
 use Rattle.asn1_laws.specs.Reading.{MayFail}
 use Rattle.asn1_laws.specs.declared.decode_error.DecodeError.{DecodeError}
-use Rattle.asn1_laws.specs.declared.decode_error.DecodeError.TheVariants as reading
 use Rattle.asn1_laws.specs.declared.encode_error.EncodeError.{EncodeError}
 use Rattle.asn1_laws.specs.declared.encode_error.EncodeError.TheVariants as writing
 use Rattle.asn1_model.specs.Meaning.{Meaning, own_records}
 use Rattle.asn1_model.specs.Records.{highest}
-use Rattle.asn1_rules.specs.CanonicalFronts.{HasOneSpellingEach, IsCanonicalFront, canonical_fronts}
+use Rattle.asn1_rules.specs.CanonicalFronts.{HasOneSpellingEach, IsCanonicalFront, as_error_of_reading, canonical_fronts}
 use Rattle.asn1_rules.specs.CanonicalReading.{AreOctets, HasOneSpelling, IsSpelled}
 use Rattle.asn1_rules.specs.Fronts.{BelongsTo, Fronts, IsLawful, IsSteady}
 use Rattle.asn1_rules.specs.Rules.{Format}
@@ -26,10 +25,10 @@ first_octets bytes n fits = λ k d within.
     rw same (rw (get_or_default bytes k d 0 (omega (arith, short, within))) (Fits-lt-pow (fits k)))
 
 -- writing that fails for memory or depth is a reading that may fail
-pub fails_too : (a b height : ℕ) (e : EncodeError) (answer : DecodeError) → (e ≡ writing.Memory → answer ≡ reading.Memory) →
-    (e ≡ writing.Depth → answer ≡ reading.Depth) → (e ≡ writing.Memory) ⊎ ((e ≡ writing.Depth) × (b < height)) → MayFail (min a b) height answer
-fails_too a b height e answer memory depth (inl is) = inl (memory is)
-fails_too a b height e answer memory depth (inr deep) = inr (depth deep.0, omega (arith, deep.1))
+pub fails_too : (a b height : ℕ) (e : EncodeError) (answer : DecodeError) → answer ≡ as_error_of_reading e →
+    (e ≡ writing.Memory) ⊎ ((e ≡ writing.Depth) × (b < height)) → MayFail (min a b) height answer
+fails_too a b height e answer is (inl memory) = inl (is ∙ ap as_error_of_reading memory)
+fails_too a b height e answer is (inr deep) = inr (is ∙ ap as_error_of_reading deep.0, omega (arith, deep.1))
 
 module _ {F R V : Type 0} (inner : Fronts F V) (lawful : IsLawful inner) (format : Format (Vec ℕ Global)) (m : Meaning V) (reader : CanonicalReader F R) where
   -- the first bytes are the same, whatever follows

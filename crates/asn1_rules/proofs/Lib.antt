@@ -4,5 +4,5 @@ pub mod PiecesRead
 pub mod UnreadBytes
 pub mod Steps
 pub mod Streams
-mod CanonicalFronts
+pub mod CanonicalFronts
 mod Spellings

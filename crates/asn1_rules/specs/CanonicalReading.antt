@@ -1,12 +1,15 @@
 -- Bytes that are read only if writing what was read makes the very same bytes.
-use Rattle.std.specs.Prelude.{◌≡◌, ◌≢◌, ◌⊎◌, ⊤, ℕ, ◌<◌, ◌^◌, All, Bool, true, List, Vec, slice_get, take}
+use Rattle.std.specs.Prelude.{◌≡◌, ◌≢◌, ◌⊎◌, ℕ, ◌<◌, ◌^◌, All, Bool, true, Err, List, Ok, Result, Vec, slice_get, take}
 use Rattle.std.specs.declared.alloc.Global.{Global}
+use Rattle.asn1_laws.specs.Refusals.{Refusals}
+use Rattle.asn1_laws.specs.declared.decode_error.DecodeError.{DecodeError}
 use Rattle.asn1_laws.specs.declared.decode_error.DecodeError.TheVariants as reading
+use Rattle.asn1_laws.specs.declared.encode_error.EncodeError.{EncodeError}
 use Rattle.asn1_laws.specs.declared.encode_error.EncodeError.TheVariants as writing
 use Rattle.asn1_model.specs.Meaning.{Meaning, own_records}
 use Rattle.asn1_model.specs.Orders.{SameRecords}
 use Rattle.asn1_model.specs.Records.{highest}
-use Rattle.asn1_rules.specs.Rules.{Format, IsNotWritten, IsWritten}
+use Rattle.asn1_rules.specs.Rules.{Format, IsNotWritten, IsWritten, ReadsCarried, RefusesCarried}
 use Rattle.asn1_rules.specs.declared.canonical.CanonicalError.{CanonicalError}
 use Rattle.asn1_rules.specs.declared.canonical.CanonicalError.TheVariants.{Read, Write, NotCanonical}
 
@@ -31,13 +34,34 @@ module _ {V : Type 0} (F : Format (Vec ℕ Global)) (m : Meaning V) where
   abbrev pub IsSpelled : V → List ℕ → Type 0
   IsSpelled v bytes = (depth : ℕ) × IsWrittenAs depth v bytes
 
-  -- Why no value was answered: the bytes were not read; or a value that was read of them was not written, as it may; or it was
-  -- written as other bytes, and the two byte strings first differ at the position that the error names.
-  abbrev pub DepartsAs : ℕ → List ℕ → CanonicalError → Type 0
-  DepartsAs depth input (Read e) = ⊤
-  DepartsAs depth input (Write e) = (w : V) × IsNotWritten F (own_records m w) depth e
-  DepartsAs depth input (NotCanonical at) =
-      (w : V) × (bytes : List ℕ) × IsWrittenAs depth w bytes × IsFirstDifference input bytes at
+  module _ (eq : V → V → Bool) (refusals : Refusals) (depth : ℕ) (input : Vec ℕ Global) where
+    -- An answer that reading this input may give. Of an input that carries the own records of a valid value it is an equal value,
+    -- and of one that carries records which the type refuses it is the error of the type, unless memory runs out or the depth is
+    -- too small. Of any other input it may be any answer.
+    pub record MayAnswer (answer : Result V DecodeError) : Type 0 where
+      pub read : ReadsCarried F.accepts (F.carries input) m eq depth answer
+      pub refuses : RefusesCarried F.accepts (F.carries input) m refusals depth answer
+
+    -- A value that was read of the input is not written, as it may.
+    pub record ReadIsNotWritten (e : EncodeError) : Type 0 where
+      pub value : V
+      pub may_be_read : MayAnswer (Ok value)
+      pub not_written : IsNotWritten F (own_records m value) depth e
+
+    -- A value that was read of the input is written as other bytes, which differ from the input first at this position.
+    pub record ReadIsWrittenOtherwise (at : ℕ) : Type 0 where
+      pub value : V
+      pub bytes : List ℕ
+      pub may_be_read : MayAnswer (Ok value)
+      pub written : IsWrittenAs depth value bytes
+      pub first : IsFirstDifference input.items bytes at
+
+    -- Why no value was answered: reading the input failed; or the value that was read was not written; or it was written as other
+    -- bytes.
+    abbrev pub DepartsAs : CanonicalError → Type 0
+    DepartsAs (Read e) = MayAnswer (Err e)
+    DepartsAs (Write e) = ReadIsNotWritten e
+    DepartsAs (NotCanonical at) = ReadIsWrittenOtherwise at
 
   -- The value has one spelling, which is these bytes: equal values have the same records, up to the order inside sets, these
   -- records are not rejected, and an output of octets that carries them has no other bytes.

@@ -1,7 +1,7 @@
 //! A value that is read of the very bytes that writing it makes.
 ghost use Rattle.asn1_model.specs.Meaning.{IsWellTagged, own_records};
-ghost use Rattle.asn1_rules.specs.CanonicalReading.{AreOctets, DepartsAs, HasOneSpelling, IsFirstDifference, IsRefusedFor, IsWrittenAs};
-ghost use Rattle.std.specs.Prelude.{◌≡◌, true, IfErr, IfOk, MatchOption, MatchResult};
+ghost use Rattle.asn1_rules.specs.CanonicalReading.{AreOctets, DepartsAs, HasOneSpelling, IsFirstDifference, IsRefusedFor, IsWrittenAs, MayAnswer};
+ghost use Rattle.std.specs.Prelude.{◌≡◌, true, IfErr, IfOk, MatchOption, MatchResult, Ok};
 
 use crate::rules::Rules;
 use asn1_dec::{Decode, DecodeError};
@@ -27,23 +27,28 @@ pub enum CanonicalError {
 
 /// Reads a value, writes it again, and compares: the value is answered only if the two byte strings are the same.
 ///
-/// So each value that is answered is read of one spelling, the one that writing makes (`canonical`). A valid value of a well-tagged
-/// type whose only spelling is the input is read back equal (`read`); this is the case of each value that was written, by a codec
-/// that has one output for records that are the same up to the order inside sets, as DER. Reading and writing open at most this
-/// many nested scopes.
+/// A value that is answered is one that `read_value` may answer of the input (`answered`), and writing it makes the input
+/// (`canonical`). A valid value of a well-tagged type whose only spelling is the input is read back equal (`read`); so is each
+/// value that was written, by a codec that has one output for records that are the same up to the order inside sets, as DER.
+/// Reading and writing open at most this many nested scopes.
 ///
 /// # Errors
-/// [`CanonicalError::Read`] with the error of reading, [`CanonicalError::Write`] with the error of writing the value that was
-/// read, and [`CanonicalError::NotCanonical`] with the position of the first byte that differs (`departs`). Where the input is the
-/// only spelling of a valid value, the error is want of memory, or [`DecodeError::Depth`] where the value's records are nested
-/// deeper than the depth.
+/// Each error says why (`departs`); what `read_value` answers of an input is known by its contract alone.
+/// - [`CanonicalError::Read`]: `read_value` may answer this error of the input.
+/// - [`CanonicalError::Write`]: it may answer a value, which `write_value` may refuse with this error.
+/// - [`CanonicalError::NotCanonical`]: it may answer a value that is written as other bytes, which first differ at this position.
+///
+/// Where the input is the only spelling of a valid value, the error is [`DecodeError::Memory`], [`EncodeError::Memory`], or
+/// [`DecodeError::Depth`] where the value's records are nested deeper than the depth (`read`).
 pub fn read_canonical<T: Encode + Decode, R: Rules<Output = Vec<u8>>>(
     rules: &R,
     input: &Vec<u8>,
     depth: usize,
 ) -> Result<T, CanonicalError>
+    ensures answered { IfOk result (λ w. MayAnswer R.format T.meaning T.eq T.refusals depth
+        input.now (Ok w)) }
     ensures canonical { IfOk result (λ w. IsWrittenAs R.format T.meaning depth w input.now.items) }
-    ensures departs { IfErr result (DepartsAs R.format T.meaning depth input.now.items) }
+    ensures departs { IfErr result (DepartsAs R.format T.meaning T.eq T.refusals depth input.now) }
     ensures read { (v : T) → IsWellTagged T.meaning → T.meaning.IsOfType v →
         T.meaning.IsValid R.format.accepts v → R.format.carries input.now (own_records T.meaning v) →
         HasOneSpelling R.format T.meaning T.eq v input.now.items →

@@ -1,8 +1,6 @@
 //! A reader of fronts that are the very bytes that writing their values makes.
-ghost use Rattle.asn1_laws.specs.declared.decode_error.DecodeError.TheVariants as reading;
-ghost use Rattle.asn1_laws.specs.declared.encode_error.EncodeError.TheVariants as writing;
 ghost use Rattle.asn1_model.specs.Meaning.{own_records};
-ghost use Rattle.asn1_rules.specs.CanonicalFronts.{HasOneSpellingEach, canonical_fronts};
+ghost use Rattle.asn1_rules.specs.CanonicalFronts.{HasOneSpellingEach, as_error_of_reading, canonical_fronts};
 ghost use Rattle.asn1_rules.specs.Fronts.{BelongsTo, IsSteady};
 ghost use Rattle.std.specs.Prelude.{◌≡◌};
 
@@ -12,12 +10,12 @@ use crate::rules::Rules;
 use asn1_dec::{Decode, DecodeError};
 use asn1_enc::{Encode, EncodeError};
 
-/// A reader of fronts over another, which answers a value only if writing it makes the very bytes that were read.
+/// A reader of fronts over another, which answers a value only if writing it makes the very bytes that were read (`canonical` of its
+/// `read_front`).
 ///
 /// # Errors
-/// An error is one of the inner reader; [`DecodeError::Memory`] or [`DecodeError::Depth`] where writing the value failed so; and
-/// [`DecodeError::Custom`], with the codec's own text where it rejects the value, and with the text `not canonical` where the value
-/// is written as other bytes.
+/// An error is one that the inner reader may answer; or that of writing the value that was read, as an error of reading; or
+/// [`DecodeError::Custom`] with the text `not canonical`, where the value is written as other bytes (`departs`).
 #[derive(Clone, Copy, Debug, Drop)]
 pub struct CanonicalReader<F, R> {
     reader: F,
@@ -42,11 +40,21 @@ impl<F, R> CanonicalReader<F, R> {
 
 impl<T: Encode + Decode, F: FrontReader<T>, R: Rules<Output = Vec<u8>>> FrontReader<T>
     for CanonicalReader<F, R> {
-    ghost use Rattle.asn1_rules.specs.CanonicalFronts.{canonical_fronts};
+    ghost use Rattle.asn1_rules.specs.CanonicalFronts.{FrontDepartsAs, canonical_fronts};
+    ghost use Rattle.asn1_rules.specs.CanonicalReading.{IsWrittenAs};
+    ghost use Rattle.asn1_rules.specs.Fronts.{ReadsFront};
+    ghost use Rattle.std.specs.Prelude.{IfErr, IfOk, take};
 
     ghost fronts = { canonical_fronts F.fronts R.format T.meaning };
 
-    fn read_front(&self, input: &[u8]) -> Result<(T, usize), DecodeError> {
+    fn read_front(&self, input: &[u8]) -> Result<(T, usize), DecodeError>
+        ensures read { ReadsFront (canonical_fronts F.fronts R.format T.meaning) self.now input.now
+            result }
+        ensures canonical { IfOk result (λ answer. IsWrittenAs R.format T.meaning self.now.depth
+            answer.0 (take answer.1 input.now)) }
+        ensures departs { IfErr result (FrontDepartsAs F.fronts R.format T.meaning
+            self.now.reader self.now.depth input.now) }
+    {
         let (value, length) = self.reader.read_front(input)?;
         let output = match self.rules.write_value(&value, self.depth) {
             Ok(output) => output,
@@ -66,8 +74,7 @@ impl<T: Encode + Decode, F: FrontReader<T>, R: Rules<Output = Vec<u8>>> FrontRea
 
 /// The error of a reader that cannot write what it has read.
 fn error_of_writing(error: EncodeError) -> DecodeError
-    ensures memory { error ≡ writing.Memory → result ≡ reading.Memory }
-    ensures depth { error ≡ writing.Depth → result ≡ reading.Depth }
+    ensures { result ≡ as_error_of_reading error }
 {
     match error {
         EncodeError::Memory => DecodeError::Memory,

@@ -45,6 +45,11 @@ pub fn canonical_errors_are_compared_by_what_they_hold()
     ensures positions { (at other : ℕ) →
         ⟦<CanonicalError as PartialEq>⟧.eq (canonical_errors.NotCanonical at)
         (canonical_errors.NotCanonical other) ≡ (at == other) }
+    ensures apart { (e : _) (f : _) (at : ℕ) →
+        (⟦<CanonicalError as PartialEq>⟧.eq (canonical_errors.Read e) (canonical_errors.Write f) ≡
+        false) × (⟦<CanonicalError as PartialEq>⟧.eq (canonical_errors.Read e)
+        (canonical_errors.NotCanonical at) ≡ false) × (⟦<CanonicalError as PartialEq>⟧.eq
+        (canonical_errors.Write f) (canonical_errors.NotCanonical at) ≡ false) }
     ensures clones { ClonesAll ⟦<CanonicalError as Clone>⟧.is_clone
         ⟦<CanonicalError as Clone>⟧.is_infallible }
 {}

@@ -8,6 +8,7 @@
 //! | [`recode`], [`RecodeError`] | reads a value by one codec and writes it by another |
 //! | [`read_canonical`], [`CanonicalError`] | reads a value only if writing it makes the same bytes |
 //! | [`FrontReader`] | reads one value at the front of an input, and tells its length |
+//! | [`CanonicalReader`] | a reader of fronts that answers a value only if writing it makes the same bytes |
 //! | [`Iter`], [`iter_of`] | values one after another, out of bytes that come in pieces |
 //! | [`write_list`] | the outputs of values, joined |
 //! | [`read_pieces`], [`Pieces`] | the values of pieces of bytes |
@@ -32,9 +33,10 @@
 //! - `recode` goes from any codec to any other: of an input that carries the own records of such a value of such a type it makes an
 //!   output that carries those of an equal value (`recoded`), and it fails as reading and writing may (`Recodes` of
 //!   `specs/Recoding.antt`).
-//! - `read_canonical` answers a value only if the bytes are those that writing it makes (`canonical`). A valid value whose only
-//!   spelling is these bytes is read back equal (`read`; `HasOneSpelling` of `specs/CanonicalReading.antt`), and each error says why
-//!   there is no value (`departs`).
+//! - `read_canonical` answers a value only if the bytes are those that writing it makes (`canonical`), and only one that reading them
+//!   may answer (`answered`, by `MayAnswer` of `specs/CanonicalReading.antt`, the contract of `read_value`). Each error says what was
+//!   read and why it was refused (`departs`). A valid value whose only spelling is these bytes is read back equal (`read`, by
+//!   `HasOneSpelling`).
 //!
 //! # A stream
 //!
@@ -43,6 +45,10 @@
 //!   value and its length (`IsFront`); it fails there only if memory runs out, or if the value is nested deeper than the reader's
 //!   depth (`IsNoFront`). A reader is steady if trailing bytes change nothing (`IsSteady`), and belongs to a codec's rules if
 //!   each output is a front (`BelongsTo`).
+//! - `CanonicalReader` answers a value of its inner reader only if the front is what writing the value makes (`canonical` of its
+//!   `read_front`), and each error says what the inner reader answered and why it was refused (`departs`). It is steady if the inner
+//!   reader is, and belongs to the rules if the inner one does and each output is the only spelling of its value
+//!   ([`a_canonical_reader_keeps_to_its_rules`]).
 //! - `next` always answers. Either a value was read at the front of the unread bytes and its bytes were taken, or an error
 //!   changes nothing (`Steps` of `specs/Progress.antt`). `append_bytes` puts a piece after the unread bytes, or changes nothing.
 //!   The bytes that have been read and are still kept are never more than the unread ones (`kept` of [`Iter::unread`]), and no

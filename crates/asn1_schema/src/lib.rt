@@ -2,7 +2,7 @@
 //!
 //! | Item | What it is |
 //! |---|---|
-//! | [`Rules`], [`round_trip`], [`recode`] | a codec as a whole, and the theorem: of `asn1_rules` |
+//! | [`Rules`], [`round_trip`], [`recode`], [`read_canonical`] | a codec as a whole, and the theorem: of `asn1_rules` |
 //! | [`FrontReader`], [`Iter`], [`write_list`], [`read_pieces`] | values one after another: of `asn1_rules` |
 //! | [`Encode`], [`Decode`], [`DecodeByIndex`] and the rest | how a type is written and read: of the crates below |
 //! | [`UniversalString`], [`UtcTime`], [`GeneralizedTime`], [`ObjectDescriptor`] | the kinds of string that are another kind under a tag |
@@ -59,14 +59,18 @@ pub use asn1_open::each_open_is_valid;
 pub use asn1_open::open_is_well_tagged;
 pub use asn1_ranges as ranges;
 pub use asn1_rules as rules;
+pub use asn1_rules::CanonicalError;
+pub use asn1_rules::CanonicalReader;
 pub use asn1_rules::FrontReader;
 pub use asn1_rules::Iter;
 pub use asn1_rules::Pieces;
 pub use asn1_rules::RecodeError;
 pub use asn1_rules::RoundTripError;
 pub use asn1_rules::Rules;
+pub use asn1_rules::a_canonical_reader_keeps_to_its_rules;
 pub use asn1_rules::iter_of;
 pub use asn1_rules::outputs_are_fronts;
+pub use asn1_rules::read_canonical;
 pub use asn1_rules::read_pieces;
 pub use asn1_rules::recode;
 pub use asn1_rules::round_trip;

@@ -22,16 +22,17 @@ returns-in-None-clause-canonical g c = record {
 }
 
 pub returns-in-Some-clause-departs : goal.returns-in-Some-clause-departs
-returns-in-Some-clause-departs g c = (
-  c.in-Ok.value,
-  c.deref-2.result.now,
-  record {
+returns-in-Some-clause-departs g c = record {
+  value = c.in-Ok.value;
+  bytes = c.deref-2.result.now;
+  may_be_read = record { read = c.in-Ok.ensures.read; refuses = c.in-Ok.ensures.refuses };
+  written = record {
     output = c.in-Ok-write_value.output;
     has_bytes = sym c.deref-2.ensures.value;
     written = c.in-Ok-write_value.ensures;
-  },
-  rw (sym c.deref.ensures.value) c.in-Some.ensures.first,
-)
+  };
+  first = rw (sym c.deref.ensures.value) c.in-Some.ensures.first;
+}
 
 pub returns-in-Some-clause-read : goal.returns-in-Some-clause-read
 returns-in-Some-clause-read g c = λ v can of_type valid carried one.
