@@ -87,14 +87,14 @@ pub trait Enumerated: AsnType + EnumeratedItems {
     final fn discriminant(&self) -> isize
         ensures { result ≡ number_of Self.eq Self.enumeration self.now }
     {
-        own_item(self).number
+        own_item(self).1
     }
 
     /// The name of this value.
     final fn identifier(&self) -> &'static str
         ensures { result.now ≡ name_of Self.eq Self.enumeration self.now }
     {
-        own_item(self).name
+        own_item(self).2
     }
 
     /// The index of this value in its own table.
@@ -168,10 +168,10 @@ pub fn written_number<T: Enumerated>(value: &T) -> isize
 pub(crate) fn additions<T: EnumeratedItems>() -> &'static [EnumerationItem<T>]
     ensures { table_items result.now ≡ added T.enumeration }
 {
-    match T::added_items() {
-        Some(items) => items,
-        None => &[],
-    }
+    let Some(items) = T::added_items() else {
+        return &[];
+    };
+    items
 }
 
 // The line of the value.
@@ -191,11 +191,11 @@ fn with_value<'a, T: Eq>(
     additions: &'a [EnumerationItem<T>],
 ) -> Option<&'a EnumerationItem<T>>
     ensures { option_copied result ≡
-        find (λ l. T.eq l.value value.now) (root.now ++ additions.now) }
+        find (λ l. T.eq l.0 value.now) (root.now ++ additions.now) }
 {
     root.iter()
         .chain(additions.iter())
-        .find(|item| item.value == *value)
+        .find(|item| item.0 == *value)
 }
 
 // The value of the first line of that number in two tables.
@@ -205,9 +205,9 @@ fn with_number<T: Copy>(
     additions: &[EnumerationItem<T>],
 ) -> Option<T>
     ensures { result ≡
-        option_map (λ l. l.value) (find (λ l. int_eq l.number number) (root.now ++ additions.now)) }
+        option_map (λ l. l.0) (find (λ l. int_eq l.1 number) (root.now ++ additions.now)) }
 {
-    Some(item_with_number(number, root, additions)?.value)
+    Some(item_with_number(number, root, additions)?.0)
 }
 
 // The value of the first line of that name in two tables.
@@ -217,22 +217,22 @@ fn with_name<T: Copy>(
     additions: &[EnumerationItem<T>],
 ) -> Option<T>
     ensures { result ≡
-        option_map (λ l. l.value) (find (λ l. bytes_eq l.name.now name.now)
+        option_map (λ l. l.0) (find (λ l. bytes_eq l.2.now name.now)
         (root.now ++ additions.now)) }
 {
-    Some(item_with_name(name, root, additions)?.value)
+    Some(item_with_name(name, root, additions)?.0)
 }
 
 // The first index of the value in a table.
 fn index_in<T: Eq>(value: &T, table: &[EnumerationItem<T>]) -> Option<usize>
-    ensures { result ≡ position (λ l. T.eq l.value value.now) table.now }
+    ensures { result ≡ position (λ l. T.eq l.0 value.now) table.now }
 {
-    table.iter().position(|item| item.value == *value)
+    table.iter().position(|item| item.0 == *value)
 }
 
 // The value at an index of a table; `None` if there is none.
 fn value_at<T: Copy>(table: &[EnumerationItem<T>], index: usize) -> Option<T>
-    ensures { result ≡ option_map (λ l. l.value) (slice_get table.now index) }
+    ensures { result ≡ option_map (λ l. l.0) (slice_get table.now index) }
 {
-    table.get(index).map(|item| item.value)
+    table.get(index).map(|item| item.0)
 }

@@ -95,16 +95,16 @@ impl<E: Enumerated> EnumeratedTable for E {
 
 // The number at an index of a table; `None` if there is none.
 fn number_at<T>(table: &[EnumerationItem<T>], index: usize) -> Option<isize>
-    ensures { result ≡ option_map (λ l. l.number) (slice_get table.now index) }
+    ensures { result ≡ option_map (λ l. l.1) (slice_get table.now index) }
 {
-    table.get(index).map(|item| item.number)
+    table.get(index).map(|item| item.1)
 }
 
 // The first index of the number in a table.
 fn index_of<T>(number: isize, table: &[EnumerationItem<T>]) -> Option<usize>
-    ensures { result ≡ position (λ l. int_eq l.number number) table.now }
+    ensures { result ≡ position (λ l. int_eq l.1 number) table.now }
 {
-    table.iter().position(|item| item.number == number)
+    table.iter().position(|item| item.1 == number)
 }
 
 // The name of the first line of that number in two tables.
@@ -114,10 +114,10 @@ fn name_of<T>(
     additions: &[EnumerationItem<T>],
 ) -> Option<&'static str>
     ensures { option_map (λ name. name.now) result ≡
-        option_map (λ l. l.name.now)
-        (find (λ l. int_eq l.number number) (root.now ++ additions.now)) }
+        option_map (λ l. l.2.now)
+        (find (λ l. int_eq l.1 number) (root.now ++ additions.now)) }
 {
-    Some(item_with_number(number, root, additions)?.name)
+    Some(item_with_number(number, root, additions)?.2)
 }
 
 // The number of the first line of that name in two tables.
@@ -127,8 +127,8 @@ fn number_of<T>(
     additions: &[EnumerationItem<T>],
 ) -> Option<isize>
     ensures { result ≡
-        option_map (λ l. l.number) (find (λ l. bytes_eq l.name.now name.now)
+        option_map (λ l. l.1) (find (λ l. bytes_eq l.2.now name.now)
         (root.now ++ additions.now)) }
 {
-    Some(item_with_name(name, root, additions)?.number)
+    Some(item_with_name(name, root, additions)?.1)
 }

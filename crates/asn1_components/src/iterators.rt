@@ -30,7 +30,7 @@ impl<'a, T: Copy> Iterator for VariantIter<'a, T> {
 
     fn next(&mut self) -> Option<T> {
         let item = self.left.next()?;
-        Some(item.value)
+        Some(item.0)
     }
 }
 
@@ -57,7 +57,7 @@ impl<'a, T: Copy> Iterator for DiscriminantIter<'a, T> {
 
     fn next(&mut self) -> Option<(T, isize)> {
         let item = self.left.next()?;
-        Some((item.value, item.number))
+        Some((item.0, item.1))
     }
 }
 
@@ -92,6 +92,6 @@ impl<'a, T> Iterator for ItemIdentifierIter<'a, T> {
             Some(item) => item,
             None => self.additions.next()?,
         };
-        Some(item.name)
+        Some(item.2)
     }
 }

@@ -1,13 +1,10 @@
-//! Laws of what no other contract names: what the iterators of a table give, and the derived clone of a line.
+//! Laws of what no other contract names: what the iterators of a table give.
 ghost use Rattle.asn1_components.specs.ItemTables.{discriminants_left, identifiers_left, variants_left};
-ghost use Rattle.asn1_components.specs.declared.items.EnumerationItem.{EnumerationItem};
 ghost use Rattle.asn1_components.specs.declared.iterators.DiscriminantIter.{DiscriminantIter};
 ghost use Rattle.asn1_components.specs.declared.iterators.ItemIdentifierIter.{ItemIdentifierIter};
 ghost use Rattle.asn1_components.specs.declared.iterators.VariantIter.{VariantIter};
 ghost use Rattle.std.specs.Iterator.{YieldsFirst, YieldsFirstBy};
-ghost use Rattle.std.specs.Prelude.{◌≡◌};
 
-use crate::items::EnumerationItem;
 use crate::iterators::{DiscriminantIter, ItemIdentifierIter, VariantIter};
 
 /// A law of the iterators of a table: each gives the first of what is left, and the next time what follows.
@@ -21,10 +18,4 @@ pub fn iterators_give_what_is_left<T: Copy + 'static>()
     ensures names { (s t : ItemIdentifierIter T) (item : _) →
         ⟦<ItemIdentifierIter<'static, T> as Iterator>⟧.next_gives s item t →
         YieldsFirstBy (λ name. name.now) identifiers_left s item t }
-{}
-
-/// A law of the derived clone: a clone of an item has a clone of the value, and the same number and name.
-pub fn items_are_cloned_as_they_are<T: Clone>()
-    ensures { (a b : EnumerationItem T) → ⟦<EnumerationItem<T> as Clone>⟧.is_clone a b →
-        T.is_clone a.value b.value × (b.number ≡ a.number) × (b.name ≡ a.name) }
 {}

@@ -15,7 +15,7 @@
 //! | [`ChoiceType`] | a type of ASN.1 whose meaning is that of its alternatives |
 //! | [`the_chosen_tag_identifies_the_alternative`] | the law on which a decoder of a CHOICE rests |
 //! | [`alternatives_are_as_in_records`] | the law that the table in records is the one that the calls of a type answer |
-//! | [`EnumerationItem`], `item!` | a value with its number and its name: a row of a type's table; a macro that writes one |
+//! | [`EnumerationItem`] | a value with its number and its name: a row of a type's table |
 //! | [`EnumeratedItems`] | the two tables of a type: the items of its root, and those after the extension marker |
 //! | [`Enumerated`], [`written_number`] | a type of ASN.1 whose meaning is that of its items, with all calls on them; the number in the records of a value |
 //! | [`EnumeratedTable`] | the numbers and names of such a type's items, in their order, as a codec knows them |

@@ -1,9 +1,8 @@
 //! `Color ::= ENUMERATED { red(0), green(1), ..., blue(5) }`
-ghost use Rattle.std.specs.Prelude.{[], ◌∷◌, pos, codes, refl};
-ghost use Rattle.asn1_types.specs.Words.{item, by_test, extensible_enumeration, enumeration_type, enumeration_agrees, IsWellTagged};
+ghost use Rattle.std.specs.Prelude.{codes, refl};
+ghost use Rattle.asn1_types.specs.Words.{IsWellTagged, by_test, enumeration_agrees, enumeration_type, extensible_enumeration, items_of};
 ghost use Rattle.asn1_samples.specs.declared.color.Color.TheVariants.{Red, Green, Blue};
 
-use asn1_components::item;
 use asn1_dec::{Decode, DecodeError, Decoder};
 use asn1_enc::{Encode, EncodeError, Encoder};
 use asn1_types::{
@@ -21,17 +20,14 @@ pub enum Color {
     Blue,
 }
 
-const ROOT: &[EnumerationItem<Color>] = &[
-    item!(Color::Red, 0, "red"),
-    item!(Color::Green, 1, "green"),
-];
+const ROOT: &[EnumerationItem<Color>] = &[(Color::Red, 0, "red"), (Color::Green, 1, "green")];
 
-const ADDITIONS: &[EnumerationItem<Color>] = &[item!(Color::Blue, 5, "blue")];
+const ADDITIONS: &[EnumerationItem<Color>] = &[(Color::Blue, 5, "blue")];
 
 impl EnumeratedItems for Color {
-    ghost enumeration = { extensible_enumeration
-        (item Red (pos 0) (codes "red") ∷ item Green (pos 1) (codes "green") ∷ [])
-        (item Blue (pos 5) (codes "blue") ∷ []) };
+    ghost use Rattle.asn1_samples.specs.declared.color.TheConstants.{ADDITIONS, ROOT};
+
+    ghost enumeration = { extensible_enumeration (items_of ROOT.now) (items_of ADDITIONS.now) };
 
     fn items() -> &'static [EnumerationItem<Color>] {
         ROOT

@@ -17,7 +17,7 @@ pub use Rattle.asn1_types.specs.Words.{table_of, inl, inr, alternative, closed_c
 -- the same, each with the variant that makes a value of it
 pub use Rattle.asn1_slots.specs.Cases.{variant, choice_of_cases, extensible_choice_after}
 -- the items of an ENUMERATED type (20)
-pub use Rattle.asn1_types.specs.Words.{item, by_test, closed_enumeration, extensible_enumeration, labels_of, enumeration_type, enumeration_agrees}
+pub use Rattle.asn1_types.specs.Words.{item, items_of, by_test, closed_enumeration, extensible_enumeration, labels_of, enumeration_type, enumeration_agrees}
 -- that a type is well tagged, and the records of a value
 pub use Rattle.asn1_types.specs.Words.{IsWellTagged, IsWellTaggedUnder, own_records}
 pub use Rattle.asn1_types.specs.Words.{holding, scalar, open_type, presence_mark, null, boolean, number, discriminant, arcs, bits, units, octet, utf8, visible, general, graphic, ia5, printable, numeric, teletex, bmp}

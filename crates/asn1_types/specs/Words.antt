@@ -12,6 +12,7 @@ pub use Rattle.asn1_components.specs.Alternatives.{table_of, alternative, closed
 pub use Rattle.asn1_components.specs.ChoiceTypes.{choice_of, choice_agrees}
 -- the items of an ENUMERATED type (20)
 pub use Rattle.asn1_components.specs.EnumerationLaws.{by_test}
+pub use Rattle.asn1_components.specs.ItemTables.{items_of}
 pub use Rattle.asn1_components.specs.Enumerations.{item, closed as closed_enumeration, extensible as extensible_enumeration}
 pub use Rattle.asn1_components.specs.Labels.{labels_of}
 pub use Rattle.asn1_components.specs.EnumerationTypes.{enumeration_type, enumeration_agrees}

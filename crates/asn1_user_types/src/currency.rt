@@ -1,6 +1,6 @@
 //! `Currency ::= ENUMERATED { euro(0), yen(1) }`
-ghost use Rattle.std.specs.Prelude.{[], codes, pos, refl, ◌∷◌};
-ghost use Rattle.asn1_schema.specs.Words.{IsWellTagged, by_test, closed_enumeration, enumeration_agrees, enumeration_type, item};
+ghost use Rattle.std.specs.Prelude.{codes, refl};
+ghost use Rattle.asn1_schema.specs.Words.{IsWellTagged, by_test, closed_enumeration, enumeration_agrees, enumeration_type, items_of};
 ghost use Rattle.asn1_user_types.specs.declared.currency.Currency.TheVariants.{Euro, Yen};
 
 use asn1_schema::{
@@ -18,21 +18,14 @@ pub enum Currency {
 }
 
 const ITEMS: &[EnumerationItem<Currency>] = &[
-    EnumerationItem {
-        value: Currency::Euro,
-        number: 0,
-        name: "euro",
-    },
-    EnumerationItem {
-        value: Currency::Yen,
-        number: 1,
-        name: "yen",
-    },
+    (Currency::Euro, 0, "euro"),
+    (Currency::Yen, 1, "yen"),
 ];
 
 impl EnumeratedItems for Currency {
-    ghost enumeration = { closed_enumeration
-        (item Euro (pos 0) (codes "euro") ∷ item Yen (pos 1) (codes "yen") ∷ []) };
+    ghost use Rattle.asn1_user_types.specs.declared.currency.TheConstants.{ITEMS};
+
+    ghost enumeration = { closed_enumeration (items_of ITEMS.now) };
 
     fn items() -> &'static [EnumerationItem<Currency>] {
         ITEMS

@@ -15,7 +15,7 @@ returns-clause-back g c = λ v same.
     let laws = g.met.Self.Enumerated in
     let rows = c.items.result.now ++ c.additions.result.now in
     let given = to_z-of_z w64 c.args.discriminant c.ranges.discriminant in
-    let answer = subst (λ n. c.with_number.result ≡ option_map (λ l. l.value) (find (λ l. int_eq l.number n) rows)) given c.with_number.ensures in
+    let answer = subst (λ n. c.with_number.result ≡ option_map (λ l. l.0) (find (λ l. int_eq l.1 n) rows)) given c.with_number.ensures in
     answer
     ∙ (value_found e (λ i. int_eq i.number c.args.discriminant) c.items.result.now c.additions.result.now c.items.ensures c.additions.ensures
     ∙ back g.Self.PartialEq.eq g.met.Self.Eq.laws e laws.complete laws.lawful.distinct (λ i. i.number) int_eq Decides-int_eq
@@ -27,7 +27,7 @@ returns-clause-only g c =
     let laws = g.met.Self.Enumerated in
     let rows = c.items.result.now ++ c.additions.result.now in
     let given = to_z-of_z w64 c.args.discriminant c.ranges.discriminant in
-    let answer = subst (λ n. c.with_number.result ≡ option_map (λ l. l.value) (find (λ l. int_eq l.number n) rows)) given c.with_number.ensures in
+    let answer = subst (λ n. c.with_number.result ≡ option_map (λ l. l.0) (find (λ l. int_eq l.1 n) rows)) given c.with_number.ensures in
     let found =
     answer
     ∙ value_found e (λ i. int_eq i.number c.args.discriminant) c.items.result.now c.additions.result.now c.items.ensures c.additions.ensures in

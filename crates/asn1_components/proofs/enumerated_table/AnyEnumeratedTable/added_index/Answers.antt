@@ -10,5 +10,5 @@ use Rattle.asn1_components.proofs.enumerated_table.AnyEnumeratedTable.added_inde
 pub returns : goal.returns
 returns g c =
     let given = to_z-of_z w64 c.args.number c.ranges.number in
-    subst (λ n. c.index_of.result ≡ position (λ l. int_eq l.number n) c.additions.result.now) given c.index_of.ensures
+    subst (λ n. c.index_of.result ≡ position (λ l. int_eq l.1 n) c.additions.result.now) given c.index_of.ensures
     ∙ index_of_number c.additions.result.now _ (ap (map label_of) c.additions.ensures ∙ sym (added_labels_are g.E.EnumeratedItems.enumeration)) c.args.number

@@ -9,5 +9,5 @@ use Rattle.asn1_components.proofs.enumerated_table.AnyEnumeratedTable.root_index
 pub returns : goal.returns
 returns g c =
     let given = to_z-of_z w64 c.args.number c.ranges.number in
-    subst (λ n. c.index_of.result ≡ position (λ l. int_eq l.number n) c.items.result.now) given c.index_of.ensures
+    subst (λ n. c.index_of.result ≡ position (λ l. int_eq l.1 n) c.items.result.now) given c.index_of.ensures
     ∙ index_of_number c.items.result.now _ (ap (map label_of) c.items.ensures) c.args.number
