@@ -128,41 +128,93 @@ def in_form(form, data):
     return tag_form(items) if form == "tag" else b"".join(octets for _, octets in der_elements(items))
 
 
+def parts(line):
+    """The codec, the type, the action, the other codec, the bytes, the answer and the source of a line."""
+    request, rest = line.split(" -> ")
+    answer, source = rest.split(" ; ", 1)
+    codec, type_name, _depth, action, other, digits = (request + " ").split(" ", 5)
+    return codec, type_name, action, other, bytes.fromhex(digits), answer, source
+
+
+def octets(answer):
+    """The bytes of an answer, if it has any."""
+    digits = answer.split(" of ")[0]
+    return bytes.fromhex(digits) if all(part in "0123456789abcdef " for part in digits) else None
+
+
 def sides(line):
-    """The two forms of a line and the bytes in each, and whether the first bytes were read; nothing if it is a refusal."""
-    words, answer = line.split(" ; ")[0].split(" -> ")
-    codec, _type, _depth, action, other, digits = (words + " ").split(" ", 5)
-    if answer.startswith("refused") or not all(part in "0123456789abcdef " for part in answer.split(" of ")[0]):
+    """The two forms of a line and the bytes in each; nothing if it is a refusal."""
+    codec, _type, action, other, asked, answer, _source = parts(line)
+    answered = None if answer.startswith("refused") else octets(answer)
+    if answered is None:
         return None
-    asked, answered = bytes.fromhex(digits), bytes.fromhex(answer.split(" of ")[0])
     if action == "front":
         asked = asked[:int(answer.split(" of ")[1].split(" ")[0])]
+    if action == "stream":
+        asked = read_of(asked, codec, answered, int(answer.split(" of ")[1].split(" ")[0]))
     return (codec, other, asked, answered) if action != "write" else (other, codec, asked, answered)
+
+
+def read_of(asked, codec, answered, count):
+    """The bytes of a stream that were read as so many values, which are also those of the answer."""
+    if codec == "der":
+        return asked[:len(in_form("der", answered))]
+    values, length = items_of(asked)[:count], 0
+    while items_of_front(asked, length) != values:
+        length += 1
+    return asked[:length]
+
+
+def items_of_front(data, length):
+    """The items of the first bytes, if they are whole items."""
+    try:
+        return items_of(data[:length])
+    except (NoItems, IndexError):
+        return None
+
+
+def first_difference(left, right):
+    """The first position in which two byte strings differ, or at which one of them ends."""
+    same = 0
+    while same < min(len(left), len(right)) and left[same] == right[same]:
+        same += 1
+    return same
+
+
+def departs(line, read):
+    """Whether the bytes of a line are written as those that it names, which are read, and differ first where it says."""
+    codec, type_name, _action, _other, asked, answer, source = parts(line)
+    written = bytes.fromhex(source.split("written as ")[1])
+    return (codec, type_name, written) in read and first_difference(asked, written) == int(answer.split(" ")[-1])
 
 
 def main():
     if len(sys.argv) > 1:
         return print(__doc__.strip())
     checked = left = 0
-    with open(LINES) as lines:
-        for number, line in enumerate(lines, 1):
-            line = line.rstrip("\n")
-            if not line or line.startswith("#"):
-                continue
-            found = sides(line)
-            if found is None or " Any " in line or found[0] == found[1]:
-                left += 1
-                continue
-            form, other, asked, answered = found
-            if form == "der" or (form == "tag" and other == "packed"):
-                form, other, asked, answered = other, form, answered, asked
-            made = in_form(other, asked)
-            if made == answered:
-                checked += 1
-            elif " default" in line:
-                left += 1
-            else:
-                sys.exit(f"line {number}: {line}\nmade: {made.hex(' ')}")
+    with open(LINES) as file:
+        lines = [(number, line.rstrip("\n")) for number, line in enumerate(file, 1) if line.strip() and line[0] != "#"]
+    read = {parts(line)[:2] + (parts(line)[4],) for _, line in lines if " canonical " in line and sides(line)}
+    for number, line in lines:
+        if "not canonical at byte" in line:
+            if not departs(line, read):
+                sys.exit(f"line {number}: {line}")
+            checked += 1
+            continue
+        found = sides(line)
+        if found is None or " Any " in line or found[0] == found[1]:
+            left += 1
+            continue
+        form, other, asked, answered = found
+        if form == "der" or (form == "tag" and other == "packed"):
+            form, other, asked, answered = other, form, answered, asked
+        made = in_form(other, asked)
+        if made == answered:
+            checked += 1
+        elif " default" in line and " read " in line:
+            left += 1
+        else:
+            sys.exit(f"line {number}: {line}\nmade: {made.hex(' ')}")
     print(f"{checked} lines checked, {left} left out")
 
 

@@ -3,7 +3,9 @@ use asn1_bench::{BenchReader, BenchRules};
 use asn1_dec::{Decode, DecodeError};
 use asn1_der::{DerReader, DerRules};
 use asn1_enc::{Encode, EncodeError};
-use asn1_rules::{FrontReader, Rules};
+use asn1_rules::{
+    CanonicalError, CanonicalReader, FrontReader, Pieces, Rules, read_canonical, read_pieces,
+};
 use asn1_tagform::TagRules;
 use std::alloc::Global;
 
@@ -60,6 +62,48 @@ impl Codec {
             Codec::Packed => BenchReader::new(alloc, depth).read_front(bytes),
             Codec::TagForm => Ok((self.read(alloc, bytes, depth)?, bytes.len())),
             Codec::Der => DerReader::new(alloc, depth).read_front(bytes),
+        }
+    }
+
+    /// Reads a value of all of the bytes, if writing it makes the same bytes.
+    ///
+    /// # Errors
+    /// As [`read_canonical`].
+    pub fn read_canonical<T: Encode + Decode>(
+        self,
+        alloc: Global,
+        bytes: &Vec<u8>,
+        depth: usize,
+    ) -> Result<T, CanonicalError> {
+        match self {
+            Codec::Packed => read_canonical(&BenchRules::new(alloc), bytes, depth),
+            Codec::TagForm => read_canonical(&TagRules::new(alloc), bytes, depth),
+            Codec::Der => read_canonical(&DerRules::new(alloc), bytes, depth),
+        }
+    }
+
+    /// Reads values one after another, as long as writing each makes the same bytes. The tag form has no reader of streams.
+    ///
+    /// # Errors
+    /// As [`read_pieces`]; and [`DecodeError::Custom`] of the tag form.
+    pub fn read_canonical_stream<T: Encode + Decode + Drop>(
+        self,
+        alloc: Global,
+        bytes: &[u8],
+        depth: usize,
+    ) -> Result<Pieces<T>, DecodeError> {
+        match self {
+            Codec::Packed => {
+                let inner = BenchReader::new(alloc, depth);
+                let reader = CanonicalReader::new(inner, BenchRules::new(alloc), depth);
+                read_pieces(alloc, reader, &[bytes], usize::MAX)
+            }
+            Codec::TagForm => Err(DecodeError::Custom("no reader of streams")),
+            Codec::Der => {
+                let inner = DerReader::new(alloc, depth);
+                let reader = CanonicalReader::new(inner, DerRules::new(alloc), depth);
+                read_pieces(alloc, reader, &[bytes], usize::MAX)
+            }
         }
     }
 

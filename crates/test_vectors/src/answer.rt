@@ -1,6 +1,7 @@
 //! The answer of a codec to a request.
 use asn1_dec::{Decode, DecodeError, Needed};
 use asn1_enc::{Encode, EncodeError};
+use asn1_rules::CanonicalError;
 use std::alloc::Global;
 use std::fmt;
 use test_calls::{Codec, Request, TypeCase, try_named};
@@ -14,9 +15,20 @@ pub(crate) enum Answer {
     /// The bytes of the value, by the codec that writes it.
     Written(Vec<u8>),
     /// The bytes of the value with which the bytes of the request begin, and how many these are.
-    Front { written: Vec<u8>, length: usize },
+    Front {
+        written: Vec<u8>,
+        length: usize,
+    },
+    /// The bytes of the values of a stream, one after another, how many values these are, and why no more came.
+    Stream {
+        written: Vec<u8>,
+        count: usize,
+        last: Option<DecodeError>,
+    },
     /// The codec that is asked reads no value.
     NotRead(DecodeError),
+    /// The codec that is asked reads no value whose writing makes the same bytes.
+    NotCanonical(CanonicalError),
     /// The codec that is asked does not write the value.
     NotWritten(EncodeError),
     /// The other codec reads no value.
@@ -32,6 +44,10 @@ enum Action {
     Read,
     /// To read a value from the front of the bytes.
     ReadFront,
+    /// To read a value from all of the bytes, if writing it makes the same bytes.
+    ReadCanonical,
+    /// To read values one after another, as long as writing each makes the same bytes.
+    ReadStream,
     /// To write the value that the other codec reads from the bytes.
     Write,
 }
@@ -42,6 +58,8 @@ impl Action {
         match name {
             "read" => Some(Action::Read),
             "front" => Some(Action::ReadFront),
+            "canonical" => Some(Action::ReadCanonical),
+            "stream" => Some(Action::ReadStream),
             "write" => Some(Action::Write),
             _ => None,
         }
@@ -76,6 +94,8 @@ impl TypeCase for Question<'_> {
         match self.action {
             Action::Read => self.read::<T>(),
             Action::ReadFront => self.read_front::<T>(),
+            Action::ReadCanonical => self.read_canonical::<T>(),
+            Action::ReadStream => self.read_stream::<T>(),
             Action::Write => self.write::<T>(),
         }
     }
@@ -105,6 +125,45 @@ impl Question<'_> {
             },
             Err(error) => Answer::NotRead(error),
         }
+    }
+
+    fn read_canonical<T: Encode + Decode>(&self) -> Answer {
+        let request = self.request;
+        match request
+            .codec
+            .read_canonical::<T>(self.alloc, &request.bytes, request.depth)
+        {
+            Ok(value) => written_by_other(self.other.write(self.alloc, &value, ENOUGH)),
+            Err(error) => Answer::NotCanonical(error),
+        }
+    }
+
+    fn read_stream<T: Encode + Decode>(&self) -> Answer {
+        let request = self.request;
+        match request
+            .codec
+            .read_canonical_stream::<T>(self.alloc, &request.bytes, request.depth)
+        {
+            Ok(read) => match self.write_all(&read.values) {
+                Ok(written) => Answer::Stream {
+                    written,
+                    count: read.values.len(),
+                    last: read.last,
+                },
+                Err(error) => Answer::NotWrittenByOther(error),
+            },
+            Err(error) => Answer::NotRead(error),
+        }
+    }
+
+    /// The bytes of values, one after another, by the other codec.
+    fn write_all<T: Encode>(&self, values: &[T]) -> Result<Vec<u8>, EncodeError> {
+        let mut written = Vec::new(self.alloc);
+        for value in values {
+            let bytes = self.other.write(self.alloc, value, ENOUGH)?;
+            written.extend_from_slice(&bytes)?;
+        }
+        Ok(written)
     }
 
     fn write<T: Encode + Decode>(&self) -> Answer {
@@ -140,7 +199,20 @@ impl fmt::Display for Answer {
                 write_bytes(f, written)?;
                 write!(f, " of {length} bytes")
             }
+            Answer::Stream {
+                written,
+                count,
+                last,
+            } => {
+                write_bytes(f, written)?;
+                write!(f, " of {count} values")?;
+                match last {
+                    Some(error) => write_refusal(f, ", then refused", *error),
+                    None => Ok(()),
+                }
+            }
             Answer::NotRead(error) => write_refusal(f, "refused", *error),
+            Answer::NotCanonical(error) => write!(f, "refused: {error}"),
             Answer::NotWritten(error) => write!(f, "not written: {error}"),
             Answer::NoValue(error) => write_refusal(f, "no value", *error),
             Answer::NotWrittenByOther(error) => write!(

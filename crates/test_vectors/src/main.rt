@@ -6,6 +6,8 @@
 //! |---|---|---|
 //! | `CODEC TYPE DEPTH read OTHER BYTES` | the codec reads a value from all of the bytes | its bytes in the other codec |
 //! | `CODEC TYPE DEPTH front OTHER BYTES` | the codec reads the value with which the bytes begin | its bytes in the other codec, and its length |
+//! | `CODEC TYPE DEPTH canonical OTHER BYTES` | the codec reads a value from all of the bytes, if writing it makes the same bytes | its bytes in the other codec |
+//! | `CODEC TYPE DEPTH stream OTHER BYTES` | the codec reads values one after another, as long as writing each makes the same bytes | their bytes in the other codec, how many they are, and why no more came |
 //! | `CODEC TYPE DEPTH write OTHER BYTES` | the codec writes the value that the other one reads | the bytes |
 //!
 //! `CODEC` and `OTHER` are `packed`, `tag` or `der`; the first of them may open `DEPTH` nested scopes. `TYPE` is a name of
