@@ -3,7 +3,7 @@ use Rattle.std.specs.Prelude.{List, [], ◌∷◌, ◌++◌, Some, codes, pos}
 use Rattle.asn1_model.specs.Composites.{explicit_tag_records, sequence_records, set_records}
 use Rattle.asn1_model.specs.Meaning.{own_records}
 use Rattle.asn1_model.specs.Records.{Record}
-use Rattle.asn1_types.specs.Words.{Range, absent, application, context, in_root, lines, number, octet, presence_mark, scalar, unconstrained, units, universal, values_of, visible}
+use Rattle.asn1_types.specs.Words.{Range, absent, application, context, in_root, number, octet, presence_mark, rows, scalar, unconstrained, units, universal, values_of, visible}
 use Rattle.asn1_protocols.specs.contracts.ldap.bind_request.BindRequestFieldTable.TheImpl.{ghosts as bind_request}
 use Rattle.asn1_protocols.specs.contracts.personnel.name.NameAsnType.TheImpl.{ghosts as names}
 use Rattle.asn1_protocols.specs.contracts.personnel.record.PersonnelRecordFieldTable.TheImpl.{ghosts as personnel}
@@ -13,7 +13,7 @@ use Rattle.asn1_protocols.specs.declared.personnel.record.PersonnelRecord.{Perso
 
 -- BindRequest ::= [APPLICATION 0] SEQUENCE { version INTEGER (1..127), name LDAPDN, simple [0] OCTET STRING }
 abbrev pub bind_request_records : BindRequest → List Record
-bind_request_records r = sequence_records (application 0) (lines bind_request.components) (Some (codes "BindRequest")) (
+bind_request_records r = sequence_records (application 0) (rows bind_request.components) (Some (codes "BindRequest")) (
     scalar (universal 2) (values_of (Range (Some (pos 1)) (Some (pos 127)))) (Some (codes "INTEGER")) (number r.version) ∷
     scalar (universal 4) unconstrained (Some (codes "OCTET_STRING")) (units octet r.name) ∷
     scalar (context 0) unconstrained (Some (codes "OCTET_STRING")) (units octet r.simple) ∷ [])
@@ -28,7 +28,7 @@ date_records date = scalar (application 3) unconstrained (Some (codes "Date")) (
 -- }
 -- A record without children. [0], [1] and [2] are explicit tags.
 abbrev pub records_without_children : PersonnelRecord → List Record
-records_without_children p = set_records (application 0) (lines personnel.components) (Some (codes "PersonnelRecord")) (
+records_without_children p = set_records (application 0) (rows personnel.components) (Some (codes "PersonnelRecord")) (
     own_records names.meaning p.name ++
     explicit_tag_records (context 0) (Some (codes "VisibleString")) (scalar (universal 26) unconstrained (Some (codes "VisibleString")) (units visible p.title) ∷ []) ++
     scalar (application 2) unconstrained (Some (codes "INTEGER")) (number p.number) ∷

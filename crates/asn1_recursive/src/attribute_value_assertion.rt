@@ -6,14 +6,12 @@ ghost use Rattle.asn1_types.specs.Words.{IsWellTagged, constructed_agrees, const
 
 use asn1_dec::{Decode, DecodeError, Decoder};
 use asn1_enc::{Encode, EncodeError, EncodeFields, Encoder};
-use asn1_slots::{
-    DecodeByIndex, Decoded, Tagging, decode_sequence_naming_errors, filled, required,
-};
+use asn1_slots::{DecodeByIndex, Decoded, Tagging, decode_sequence_naming_errors, required};
 use asn1_types::{
     AsnType, Constraints, ConstructedType, Field, FieldTable, Identifier, Tag, TypeTable,
 };
 use asn1_values::OctetString;
-use std::alloc::Global;
+use std::alloc::{AllocError, Global};
 
 /// An assertion on an attribute: its name, and a value.
 #[derive(PartialEq, Eq, Debug, Drop)]
@@ -32,13 +30,10 @@ impl DecodeByIndex for AttributeValueAssertion {
         required_slot (codes "assertionValue") (λ v. v.value) (λ s. s.1)
         (untagged ⟦<OctetString as AsnType>⟧.meaning) ⟦<OctetString as PartialEq>⟧.eq ∷ [] };
 
-    fn from_slots(
-        _alloc: Global,
-        slots: Self::Slots,
-    ) -> Result<AttributeValueAssertion, DecodeError> {
+    fn full(_alloc: Global, slots: Self::Slots) -> Result<AttributeValueAssertion, AllocError> {
         Ok(AttributeValueAssertion {
-            attribute: filled(slots.0, "attributeDesc")?,
-            value: filled(slots.1, "assertionValue")?,
+            attribute: slots.0.unwrap(),
+            value: slots.1.unwrap(),
         })
     }
 
@@ -118,8 +113,8 @@ impl Decode for AttributeValueAssertion {
     fn decode_with_tag_and_constraints<D: Decoder>(
         decoder: &mut D,
         tag: Tag,
-        _constraints: &Constraints<'_>,
+        constraints: &Constraints<'_>,
     ) -> Result<AttributeValueAssertion, DecodeError> {
-        decode_sequence_naming_errors(decoder, tag)
+        decode_sequence_naming_errors(decoder, tag, constraints)
     }
 }

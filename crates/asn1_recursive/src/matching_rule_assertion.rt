@@ -15,14 +15,13 @@ ghost use Rattle.asn1_types.specs.Words.{IsWellTagged, constructed_agrees, const
 use asn1_dec::{Decode, DecodeError, Decoder};
 use asn1_enc::{Encode, EncodeError, EncodeFields, Encoder};
 use asn1_slots::{
-    DecodeByIndex, Decoded, Tagging, decode_sequence_naming_errors, filled, optional, or_default,
-    required,
+    DecodeByIndex, Decoded, Tagging, decode_sequence_naming_errors, optional, or_default, required,
 };
 use asn1_types::{
     AsnType, Class, Constraints, ConstructedType, Field, FieldTable, Identifier, Tag, TypeTable,
 };
 use asn1_values::OctetString;
-use std::alloc::Global;
+use std::alloc::{AllocError, Global};
 
 /// A value, the rule by which it is compared, and with what.
 #[derive(PartialEq, Eq, Debug, Drop)]
@@ -74,14 +73,11 @@ impl DecodeByIndex for MatchingRuleAssertion {
         default_slot (codes "dnAttributes") (λ v. v.dn_attributes) false (λ s. s.3)
         (tagged (context 4) ⟦<bool as AsnType>⟧.meaning) ⟦<bool as PartialEq>⟧.eq ∷ [] };
 
-    fn from_slots(
-        _alloc: Global,
-        slots: Self::Slots,
-    ) -> Result<MatchingRuleAssertion, DecodeError> {
+    fn full(_alloc: Global, slots: Self::Slots) -> Result<MatchingRuleAssertion, AllocError> {
         Ok(MatchingRuleAssertion {
             matching_rule: slots.0,
             attribute: slots.1,
-            value: filled(slots.2, "matchValue")?,
+            value: slots.2.unwrap(),
             dn_attributes: or_default(slots.3, false),
         })
     }
@@ -177,8 +173,8 @@ impl Decode for MatchingRuleAssertion {
     fn decode_with_tag_and_constraints<D: Decoder>(
         decoder: &mut D,
         tag: Tag,
-        _constraints: &Constraints<'_>,
+        constraints: &Constraints<'_>,
     ) -> Result<MatchingRuleAssertion, DecodeError> {
-        decode_sequence_naming_errors(decoder, tag)
+        decode_sequence_naming_errors(decoder, tag, constraints)
     }
 }

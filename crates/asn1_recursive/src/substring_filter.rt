@@ -7,14 +7,12 @@ ghost use Rattle.asn1_types.specs.Words.{IsWellTagged, constructed_agrees, const
 use crate::substring::Substring;
 use asn1_dec::{Decode, DecodeError, Decoder};
 use asn1_enc::{Encode, EncodeError, EncodeFields, Encoder};
-use asn1_slots::{
-    DecodeByIndex, Decoded, Tagging, decode_sequence_naming_errors, filled, required,
-};
+use asn1_slots::{DecodeByIndex, Decoded, Tagging, decode_sequence_naming_errors, required};
 use asn1_types::{
     AsnType, Constraints, ConstructedType, Field, FieldTable, Identifier, Tag, TypeTable,
 };
 use asn1_values::OctetString;
-use std::alloc::Global;
+use std::alloc::{AllocError, Global};
 
 /// The parts of a text, in their order.
 pub type Substrings = Vec<Substring>;
@@ -36,10 +34,10 @@ impl DecodeByIndex for SubstringFilter {
         required_slot (codes "substrings") (λ v. v.substrings) (λ s. s.1)
         (untagged ⟦<Substrings as AsnType>⟧.meaning) ⟦<Substrings as PartialEq>⟧.eq ∷ [] };
 
-    fn from_slots(_alloc: Global, slots: Self::Slots) -> Result<SubstringFilter, DecodeError> {
+    fn full(_alloc: Global, slots: Self::Slots) -> Result<SubstringFilter, AllocError> {
         Ok(SubstringFilter {
-            attribute: filled(slots.0, "type")?,
-            substrings: filled(slots.1, "substrings")?,
+            attribute: slots.0.unwrap(),
+            substrings: slots.1.unwrap(),
         })
     }
 
@@ -119,8 +117,8 @@ impl Decode for SubstringFilter {
     fn decode_with_tag_and_constraints<D: Decoder>(
         decoder: &mut D,
         tag: Tag,
-        _constraints: &Constraints<'_>,
+        constraints: &Constraints<'_>,
     ) -> Result<SubstringFilter, DecodeError> {
-        decode_sequence_naming_errors(decoder, tag)
+        decode_sequence_naming_errors(decoder, tag, constraints)
     }
 }

@@ -1,7 +1,7 @@
 //! `Badge ::= SET { id INTEGER (0..4294967295), label VisibleString OPTIONAL, shape Shape }`
 ghost use Rattle.std.specs.Prelude.{◌≡◌, [], ◌∷◌, OnOk, map, codes};
 ghost use Rattle.asn1_types.specs.Words.{untagged, required, optional, set, constructed_type, constructed_agrees, IsWellTagged};
-ghost use Rattle.asn1_components.specs.Components.{all_components, root_entries, table};
+ghost use Rattle.asn1_components.specs.Components.{all_components, root_views, table};
 ghost use Rattle.asn1_laws.specs.SetParts.{EachFits, MakesValue};
 ghost use Rattle.asn1_fields.specs.CanonicalOrder.{IsCanonical};
 ghost use Rattle.asn1_fields.specs.FieldViews.{component_of};
@@ -87,7 +87,7 @@ pub fn badge_table_is_canonical()
     ensures indices { map (λ entry. entry.index) (table ⟦<Badge as FieldTable>⟧.components) ≡ 2 ∷
         0 ∷ 1 ∷ [] }
     ensures canonical { IsCanonical (map component_of
-        (root_entries ⟦<Badge as FieldTable>⟧.components)) }
+        (root_views ⟦<Badge as FieldTable>⟧.components)) }
 {}
 
 impl Encode for Badge {

@@ -9,7 +9,7 @@ use asn1_slots::{DecodeByIndex, Decoded, Tagging, decode_fields_by_index, option
 use asn1_tags::tag;
 use asn1_types::{AsnType, Field, FieldTable, Tag, TagTree};
 use asn1_values::{Ia5String, NumericString};
-use std::alloc::Global;
+use std::alloc::{AllocError, Global};
 
 /// How to reach someone: a group of additions, which has no tag of its own.
 #[derive(PartialEq, Eq, Debug, Drop)]
@@ -32,7 +32,7 @@ impl DecodeByIndex for Contact {
     ghost layout = { optional_slot (codes "phone") (λ c. c.phone) (λ s. s.0) (tagged (context 3) ⟦<NumericString as AsnType>⟧.meaning) ⟦<NumericString as PartialEq>⟧.eq ∷
         optional_slot (codes "mail") (λ c. c.mail) (λ s. s.1) (tagged (context 4) ⟦<Ia5String as AsnType>⟧.meaning) ⟦<Ia5String as PartialEq>⟧.eq ∷ [] };
 
-    fn from_slots(_alloc: Global, slots: Self::Slots) -> Result<Contact, DecodeError> {
+    fn full(_alloc: Global, slots: Self::Slots) -> Result<Contact, AllocError> {
         Ok(Contact {
             phone: slots.0,
             mail: slots.1,

@@ -1,5 +1,5 @@
 //! `Gauge ::= SET { level INTEGER, limit [0] INTEGER OPTIONAL, unit [1] UTF8String }`
-ghost use Rattle.std.specs.Prelude.{[], ◌∷◌, None, Some, codes, refl};
+ghost use Rattle.std.specs.Prelude.{[], ◌∷◌, None, Some, codes};
 ghost use Rattle.asn1_slots.specs.Slots.{optional_slot, required_slot, set_of_slots};
 ghost use Rattle.asn1_slots.specs.Taggings.{under_constraints};
 ghost use Rattle.asn1_types.specs.Words.{context, tagged, constructed_type, constructed_agrees, IsWellTagged, unconstrained};
@@ -8,14 +8,14 @@ use asn1_dec::{Decode, DecodeError, Decoder};
 use asn1_enc::{Encode, EncodeError, EncodeFields, Encoder};
 use asn1_slots::{
     DecodeSetByIndex, Decoded, Tagging, decode_set_by_index, decode_unique,
-    decode_unique_with_constraints, filled,
+    decode_unique_with_constraints, missing,
 };
 use asn1_tags::tag;
 use asn1_types::{
     AsnType, Constraints, ConstructedType, Field, FieldTable, Identifier, Tag, TypeTable,
 };
 use asn1_values::Utf8String;
-use std::alloc::Global;
+use std::alloc::{AllocError, Global};
 
 /// The reading of a gauge: a SET with two components under constraints of their own. The definition has no limits for the
 /// numbers, and a value keeps those of a `u16`.
@@ -40,12 +40,20 @@ impl DecodeSetByIndex for Gauge {
         optional_slot (codes "limit") (λ g. g.limit) (λ s. s.1) (under_constraints (Some (context 0)) unconstrained ⟦<u16 as AsnType>⟧.meaning) ⟦<u16 as PartialEq>⟧.eq ∷
         required_slot (codes "unit") (λ g. g.unit) (λ s. s.2) (tagged (context 1) ⟦<Utf8String as AsnType>⟧.meaning) ⟦<Utf8String as PartialEq>⟧.eq ∷ [] };
 
-    fn from_slots(_alloc: Global, slots: Self::Slots) -> Result<Gauge, DecodeError> {
+    fn full(_alloc: Global, slots: Self::Slots) -> Result<Gauge, AllocError> {
         Ok(Gauge {
-            level: filled(slots.0, "level")?,
+            level: slots.0.unwrap(),
             limit: slots.1,
-            unit: filled(slots.2, "unit")?,
+            unit: slots.2.unwrap(),
         })
+    }
+
+    fn missing_at(index: usize, slots: &Self::Slots) -> Option<&'static str> {
+        match index {
+            0 => missing(&slots.0, "level"),
+            2 => missing(&slots.2, "unit"),
+            _ => None,
+        }
     }
 
     fn decode_field<D: Decoder>(index: usize, slots: &mut Self::Slots, decoder: &mut D) -> Decoded {
@@ -57,10 +65,6 @@ impl DecodeSetByIndex for Gauge {
             _ => Ok(()),
         }
     }
-
-    ghost no_group = { refl };
-
-    ghost empty_at_first = { λ slots empty. (empty.0, (empty.1, empty.2)) };
 }
 
 impl FieldTable for Gauge {
@@ -135,8 +139,8 @@ impl Decode for Gauge {
     fn decode_with_tag_and_constraints<D: Decoder>(
         decoder: &mut D,
         tag: Tag,
-        _constraints: &Constraints<'_>,
+        constraints: &Constraints<'_>,
     ) -> Result<Gauge, DecodeError> {
-        decode_set_by_index(decoder, tag)
+        decode_set_by_index(decoder, tag, constraints)
     }
 }

@@ -9,12 +9,12 @@ ghost use Rattle.asn1_types.specs.Words.{context, tagged, constructed_type, cons
 
 use asn1_dec::{Decode, DecodeError, DecodeFields, Decoder};
 use asn1_enc::{Encode, EncodeError, EncodeFields, Encoder};
-use asn1_slots::{DecodeByIndex, Decoded, Tagging, decode_fields_by_index, filled, required};
+use asn1_slots::{DecodeByIndex, Decoded, Tagging, decode_fields_by_index, required};
 use asn1_tags::tag;
 use asn1_types::{
     AsnType, Constraints, ConstructedType, Field, FieldTable, Identifier, Tag, TypeTable,
 };
-use std::alloc::Global;
+use std::alloc::{AllocError, Global};
 use std::hash::{Hash, Hasher};
 
 /// A number with a note. Two with one key are equal, whatever their notes.
@@ -56,10 +56,10 @@ impl DecodeByIndex for Labelled {
     ghost layout = { required_slot (codes "key") (λ l. l.key) (λ s. s.0) (tagged (context 0) ⟦<u8 as AsnType>⟧.meaning) ⟦<u8 as PartialEq>⟧.eq ∷
         required_slot (codes "note") (λ l. l.note) (λ s. s.1) (tagged (context 1) ⟦<u8 as AsnType>⟧.meaning) ⟦<u8 as PartialEq>⟧.eq ∷ [] };
 
-    fn from_slots(_alloc: Global, slots: Self::Slots) -> Result<Labelled, DecodeError> {
+    fn full(_alloc: Global, slots: Self::Slots) -> Result<Labelled, AllocError> {
         Ok(Labelled {
-            key: filled(slots.0, "key")?,
-            note: filled(slots.1, "note")?,
+            key: slots.0.unwrap(),
+            note: slots.1.unwrap(),
         })
     }
 

@@ -6,14 +6,14 @@ ghost use Rattle.asn1_types.specs.Words.{context, tagged, explicitly_tagged, con
 use asn1_dec::{Decode, DecodeError, Decoder};
 use asn1_enc::{Encode, EncodeError, EncodeFields, Encoder, encode_explicit_optional};
 use asn1_slots::{
-    DecodeByIndex, Decoded, Tagging, decode_sequence_naming_errors, filled, optional, required,
+    DecodeByIndex, Decoded, Tagging, decode_sequence_naming_errors, optional, required,
 };
 use asn1_tags::tag;
 use asn1_types::{
     AsnType, Constraints, ConstructedType, Field, FieldTable, Identifier, Tag, TypeTable,
 };
 use asn1_values::Utf8String;
-use std::alloc::Global;
+use std::alloc::{AllocError, Global};
 
 /// A message, and whether it is urgent.
 #[derive(PartialEq, Eq, Debug, Drop)]
@@ -33,11 +33,11 @@ impl DecodeByIndex for Notice {
         optional_slot (codes "urgent") (λ n. n.urgent) (λ s. s.1) (explicitly_tagged (context 1) ⟦<bool as AsnType>⟧.meaning) ⟦<bool as PartialEq>⟧.eq ∷
         required_slot (codes "text") (λ n. n.text) (λ s. s.2) (tagged (context 2) ⟦<Utf8String as AsnType>⟧.meaning) ⟦<Utf8String as PartialEq>⟧.eq ∷ [] };
 
-    fn from_slots(_alloc: Global, slots: Self::Slots) -> Result<Notice, DecodeError> {
+    fn full(_alloc: Global, slots: Self::Slots) -> Result<Notice, AllocError> {
         Ok(Notice {
-            id: filled(slots.0, "id")?,
+            id: slots.0.unwrap(),
             urgent: slots.1,
-            text: filled(slots.2, "text")?,
+            text: slots.2.unwrap(),
         })
     }
 
@@ -120,8 +120,8 @@ impl Decode for Notice {
     fn decode_with_tag_and_constraints<D: Decoder>(
         decoder: &mut D,
         tag: Tag,
-        _constraints: &Constraints<'_>,
+        constraints: &Constraints<'_>,
     ) -> Result<Notice, DecodeError> {
-        decode_sequence_naming_errors(decoder, tag)
+        decode_sequence_naming_errors(decoder, tag, constraints)
     }
 }

@@ -6,13 +6,13 @@ ghost use Rattle.asn1_types.specs.Words.{context, tagged, untagged, required, op
 use asn1_dec::{Decode, DecodeError, Decoder};
 use asn1_enc::{Encode, EncodeError, EncodeFields, Encoder};
 use asn1_slots::{
-    DecodeByIndex, Decoded, Tagging, decode_sequence_naming_errors, filled, optional, required,
+    DecodeByIndex, Decoded, Tagging, decode_sequence_naming_errors, optional, required,
 };
 use asn1_tags::tag;
 use asn1_types::{
     AsnType, Constraints, ConstructedType, Field, FieldTable, Identifier, Tag, TypeTable,
 };
-use std::alloc::Global;
+use std::alloc::{AllocError, Global};
 
 /// A value of one type, and perhaps one of another.
 #[derive(PartialEq, Eq, Debug, Drop)]
@@ -29,9 +29,9 @@ impl<T: Decode, U: Decode> DecodeByIndex for Pair<T, U> {
     ghost layout = { required_slot (codes "first") (λ p. p.first) (λ s. s.0) (untagged T.meaning) T.eq ∷
         optional_slot (codes "second") (λ p. p.second) (λ s. s.1) (tagged (context 0) U.meaning) U.eq ∷ [] };
 
-    fn from_slots(_alloc: Global, slots: Self::Slots) -> Result<Pair<T, U>, DecodeError> {
+    fn full(_alloc: Global, slots: Self::Slots) -> Result<Pair<T, U>, AllocError> {
         Ok(Pair {
-            first: filled(slots.0, "first")?,
+            first: slots.0.unwrap(),
             second: slots.1,
         })
     }
@@ -122,8 +122,8 @@ impl<T: Decode, U: Decode> Decode for Pair<T, U> {
     fn decode_with_tag_and_constraints<D: Decoder>(
         decoder: &mut D,
         tag: Tag,
-        _constraints: &Constraints<'_>,
+        constraints: &Constraints<'_>,
     ) -> Result<Pair<T, U>, DecodeError> {
-        decode_sequence_naming_errors(decoder, tag)
+        decode_sequence_naming_errors(decoder, tag, constraints)
     }
 }

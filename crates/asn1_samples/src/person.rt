@@ -5,12 +5,12 @@ ghost use Rattle.asn1_types.specs.Words.{untagged, constructed_type, constructed
 
 use asn1_dec::{Decode, DecodeError, DecodeFields, Decoder};
 use asn1_enc::{Encode, EncodeError, EncodeFields, Encoder};
-use asn1_slots::{DecodeByIndex, Decoded, Tagging, decode_fields_by_index, filled, required};
+use asn1_slots::{DecodeByIndex, Decoded, Tagging, decode_fields_by_index, required};
 use asn1_types::{
     AsnType, Constraints, ConstructedType, Field, FieldTable, Identifier, Tag, TypeTable,
 };
 use asn1_values::{Integer, Utf8String};
-use std::alloc::Global;
+use std::alloc::{AllocError, Global};
 
 /// How old someone is, and their name.
 #[derive(PartialEq, Eq, Debug, Drop)]
@@ -27,10 +27,10 @@ impl DecodeByIndex for Person {
     ghost layout = { required_slot (codes "age") (λ p. p.age) (λ s. s.0) (untagged ⟦<Integer as AsnType>⟧.meaning) ⟦<Integer as PartialEq>⟧.eq ∷
         required_slot (codes "name") (λ p. p.name) (λ s. s.1) (untagged ⟦<Utf8String as AsnType>⟧.meaning) ⟦<Utf8String as PartialEq>⟧.eq ∷ [] };
 
-    fn from_slots(_alloc: Global, slots: Self::Slots) -> Result<Person, DecodeError> {
+    fn full(_alloc: Global, slots: Self::Slots) -> Result<Person, AllocError> {
         Ok(Person {
-            age: filled(slots.0, "age")?,
-            name: filled(slots.1, "name")?,
+            age: slots.0.unwrap(),
+            name: slots.1.unwrap(),
         })
     }
 

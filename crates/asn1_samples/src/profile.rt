@@ -19,15 +19,14 @@ use crate::contact::{CONTACT, Contact};
 use asn1_dec::{Decode, DecodeError, DecodeFields, Decoder};
 use asn1_enc::{Encode, EncodeError, EncodeFields, Encoder};
 use asn1_slots::{
-    DecodeByIndex, Decoded, Tagging, decode_fields_by_index, filled, group, optional, or_default,
-    required,
+    DecodeByIndex, Decoded, Tagging, decode_fields_by_index, group, optional, or_default, required,
 };
 use asn1_tags::tag;
 use asn1_types::{
     AsnType, Constraints, ConstructedType, Field, FieldTable, Identifier, Tag, TypeTable,
 };
 use asn1_values::{Ia5String, Utf8String};
-use std::alloc::Global;
+use std::alloc::{AllocError, Global};
 
 /// The profile of a user.
 #[derive(PartialEq, Eq, Debug, Drop)]
@@ -55,10 +54,10 @@ impl DecodeByIndex for Profile {
         default_slot (codes "color") (λ p. p.color) Red (λ s. s.2) (tagged (context 2) ⟦<Color as AsnType>⟧.meaning) ⟦<Color as PartialEq>⟧.eq ∷
         group_slot (codes "contact") (λ p. p.contact) (λ s. s.3) ⟦<Contact as FieldTable>⟧.components ⟦<Contact as PartialEq>⟧.eq ∷ [] };
 
-    fn from_slots(_alloc: Global, slots: Self::Slots) -> Result<Profile, DecodeError> {
+    fn full(_alloc: Global, slots: Self::Slots) -> Result<Profile, AllocError> {
         Ok(Profile {
             nick: slots.0,
-            level: filled(slots.1, "level")?,
+            level: slots.1.unwrap(),
             color: or_default(slots.2, Color::Red),
             contact: slots.3,
         })

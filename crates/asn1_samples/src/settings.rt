@@ -11,7 +11,7 @@ use asn1_tags::tag;
 use asn1_types::{
     AsnType, Constraints, ConstructedType, Field, FieldTable, Identifier, Tag, TypeTable,
 };
-use std::alloc::Global;
+use std::alloc::{AllocError, Global};
 
 /// A setting with a default. An entry with the key of the default is the default, and its note is not written.
 #[derive(PartialEq, Eq, Debug, Drop)]
@@ -25,7 +25,7 @@ impl DecodeByIndex for Settings {
 
     ghost layout = { default_slot (codes "entry") (λ s. s.entry) (record { key = 1; note = 0 }) (λ s. s.0) (tagged (context 0) ⟦<Labelled as AsnType>⟧.meaning) ⟦<Labelled as PartialEq>⟧.eq ∷ [] };
 
-    fn from_slots(_alloc: Global, slots: Self::Slots) -> Result<Settings, DecodeError> {
+    fn full(_alloc: Global, slots: Self::Slots) -> Result<Settings, AllocError> {
         Ok(Settings {
             entry: or_default(slots.0, Labelled { key: 1, note: 0 }),
         })

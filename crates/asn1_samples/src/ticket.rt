@@ -1,19 +1,19 @@
 //! `Ticket ::= SET { seat [0] INTEGER (0..65535), name [1] UTF8String OPTIONAL, paid [2] BOOLEAN DEFAULT FALSE }`
-ghost use Rattle.std.specs.Prelude.{[], ◌∷◌, false, codes, refl};
+ghost use Rattle.std.specs.Prelude.{[], ◌∷◌, false, codes};
 ghost use Rattle.asn1_slots.specs.Slots.{default_slot, optional_slot, required_slot, set_of_slots};
 ghost use Rattle.asn1_types.specs.Words.{context, tagged, constructed_type, constructed_agrees, IsWellTagged};
 
 use asn1_dec::{Decode, DecodeError, Decoder};
 use asn1_enc::{Encode, EncodeError, EncodeFields, Encoder};
 use asn1_slots::{
-    DecodeSetByIndex, Decoded, Tagging, decode_set_by_index, decode_unique, filled, or_default,
+    DecodeSetByIndex, Decoded, Tagging, decode_set_by_index, decode_unique, missing, or_default,
 };
 use asn1_tags::tag;
 use asn1_types::{
     AsnType, Constraints, ConstructedType, Field, FieldTable, Identifier, Tag, TypeTable,
 };
 use asn1_values::Utf8String;
-use std::alloc::Global;
+use std::alloc::{AllocError, Global};
 
 /// A seat, the name of the guest if it is known, and whether it is paid: a SET with a default.
 #[derive(PartialEq, Eq, Debug, Drop)]
@@ -39,12 +39,19 @@ impl DecodeSetByIndex for Ticket {
         optional_slot (codes "name") (λ t. t.name) (λ s. s.1) (tagged (context 1) ⟦<Utf8String as AsnType>⟧.meaning) ⟦<Utf8String as PartialEq>⟧.eq ∷
         default_slot (codes "paid") (λ t. t.paid) false (λ s. s.2) (tagged (context 2) ⟦<bool as AsnType>⟧.meaning) ⟦<bool as PartialEq>⟧.eq ∷ [] };
 
-    fn from_slots(_alloc: Global, slots: Self::Slots) -> Result<Ticket, DecodeError> {
+    fn full(_alloc: Global, slots: Self::Slots) -> Result<Ticket, AllocError> {
         Ok(Ticket {
-            seat: filled(slots.0, "seat")?,
+            seat: slots.0.unwrap(),
             name: slots.1,
             paid: or_default(slots.2, false),
         })
+    }
+
+    fn missing_at(index: usize, slots: &Self::Slots) -> Option<&'static str> {
+        match index {
+            0 => missing(&slots.0, "seat"),
+            _ => None,
+        }
     }
 
     fn decode_field<D: Decoder>(index: usize, slots: &mut Self::Slots, decoder: &mut D) -> Decoded {
@@ -55,10 +62,6 @@ impl DecodeSetByIndex for Ticket {
             _ => Ok(()),
         }
     }
-
-    ghost no_group = { refl };
-
-    ghost empty_at_first = { λ slots empty. (empty.0, (empty.1, empty.2)) };
 }
 
 impl FieldTable for Ticket {
@@ -135,8 +138,8 @@ impl Decode for Ticket {
     fn decode_with_tag_and_constraints<D: Decoder>(
         decoder: &mut D,
         tag: Tag,
-        _constraints: &Constraints<'_>,
+        constraints: &Constraints<'_>,
     ) -> Result<Ticket, DecodeError> {
-        decode_set_by_index(decoder, tag)
+        decode_set_by_index(decoder, tag, constraints)
     }
 }

@@ -16,15 +16,14 @@ use crate::contact::{CONTACT, Contact};
 use asn1_dec::{Decode, DecodeError, Decoder};
 use asn1_enc::{Encode, EncodeError, EncodeFields, Encoder};
 use asn1_slots::{
-    DecodeByIndex, Decoded, Tagging, addition, decode_sequence_naming_errors, filled, group,
-    required,
+    DecodeByIndex, Decoded, Tagging, addition, decode_sequence_naming_errors, group, required,
 };
 use asn1_tags::tag;
 use asn1_types::{
     AsnType, Constraints, ConstructedType, Field, FieldTable, Identifier, Tag, TypeTable,
 };
 use asn1_values::{NumericString, Utf8String};
-use std::alloc::Global;
+use std::alloc::{AllocError, Global};
 
 /// When someone came, and what is known of it.
 #[derive(PartialEq, Eq, Debug, Drop)]
@@ -44,9 +43,9 @@ impl DecodeByIndex for Visit {
         group_slot (codes "contact") (λ v. v.contact) (λ s. s.1) ⟦<Contact as FieldTable>⟧.components ⟦<Contact as PartialEq>⟧.eq ∷
         addition_slot (codes "note") (λ v. v.note) (λ s. s.2) (tagged (context 5) ⟦<Utf8String as AsnType>⟧.meaning) ⟦<Utf8String as PartialEq>⟧.eq ∷ [] };
 
-    fn from_slots(_alloc: Global, slots: Self::Slots) -> Result<Visit, DecodeError> {
+    fn full(_alloc: Global, slots: Self::Slots) -> Result<Visit, AllocError> {
         Ok(Visit {
-            day: filled(slots.0, "day")?,
+            day: slots.0.unwrap(),
             contact: slots.1,
             note: slots.2,
         })
@@ -135,8 +134,8 @@ impl Decode for Visit {
     fn decode_with_tag_and_constraints<D: Decoder>(
         decoder: &mut D,
         tag: Tag,
-        _constraints: &Constraints<'_>,
+        constraints: &Constraints<'_>,
     ) -> Result<Visit, DecodeError> {
-        decode_sequence_naming_errors(decoder, tag)
+        decode_sequence_naming_errors(decoder, tag, constraints)
     }
 }

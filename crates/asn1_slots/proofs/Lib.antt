@@ -1,5 +1,4 @@
-pub mod FilledSlots
-pub mod KeptSlots
+mod FilledSlots
 mod NamedErrors
 mod ReadByIndex
 mod ReadChoices

@@ -39,7 +39,7 @@ as_before k came i other = omega (arith, times-push k came i, ap {B = ℕ} (λ b
 module _ {S V : Type 0} where
   -- a slot is empty until its component has come, and then has what the value has
   abbrev IsInStep : Slot S V → ℕ → S → V → Type 0
-  IsInStep h n s v = (n ≡ 0 → h.IsEmpty s) × (n ≢ 0 → h.holds s v ≡ true)
+  IsInStep h n s v = (n ≡ 0 → h.content s ≡ None) × (n ≢ 0 → h.holds (h.content s) v ≡ true)
 
   -- so it is with each; the first has this index
   abbrev AreInStep : List (Slot S V) → ℕ → List ℕ → S → V → Type 0
@@ -48,18 +48,17 @@ module _ {S V : Type 0} where
 
   abbrev HoldsAt : List (Slot S V) → ℕ → S → V → Type 0
   HoldsAt [] index s v = ⊤
-  HoldsAt (h ∷ hs) zero s v = h.holds s v ≡ true
+  HoldsAt (h ∷ hs) zero s v = h.holds (h.content s) v ≡ true
   HoldsAt (h ∷ hs) (suc index) s v = HoldsAt hs index s v
 
   abbrev IsEmptyAt : List (Slot S V) → ℕ → S → Type 0
   IsEmptyAt [] index s = ⊤
-  IsEmptyAt (h ∷ hs) zero s = h.IsEmpty s
+  IsEmptyAt (h ∷ hs) zero s = h.content s ≡ None
   IsEmptyAt (h ∷ hs) (suc index) s = IsEmptyAt hs index s
 
   none_came : (hs : List (Slot S V)) (k : ℕ) (s : S) (v : V) → AreEmpty hs s → AreInStep hs k [] s v
   none_came [] k s v empty = tt
-  none_came (h ∷ []) k s v empty = (((λ _. empty), (λ some. absurd (some refl))), tt)
-  none_came (h ∷ i ∷ hs) k s v empty = (((λ _. empty.0), (λ some. absurd (some refl))), none_came (i ∷ hs) (suc k) s v empty.1)
+  none_came (h ∷ hs) k s v empty = (((λ _. empty.0), (λ some. absurd (some refl))), none_came hs (suc k) s v empty.1)
 
   empty_at : (hs : List (Slot S V)) (k j index : ℕ) (came : List ℕ) (s : S) (v : V) → index ≡ k + j → AreInStep hs k came s v → times index came ≡ 0 → IsEmptyAt hs j s
   empty_at [] k j index came s v is in_step none = tt
@@ -69,11 +68,11 @@ module _ {S V : Type 0} where
   empty_at (h ∷ hs) k (suc j) index came s v is in_step none = empty_at hs (suc k) j index came s v (omega (arith, is)) in_step.1 none
 
   module _ (before after : S) (v : V) where
-    kept_in_step : (h : Slot S V) (m n : ℕ) → n ≡ m → IsKept h before after v → IsInStep h m before v → IsInStep h n after v
+    kept_in_step : (h : Slot S V) (m n : ℕ) → n ≡ m → IsKept h before after → IsInStep h m before v → IsInStep h n after v
     kept_in_step h m n same kept in_step =
-        ((λ none. kept.1 (in_step.0 (sym same ∙ none))), (λ some. kept.0 (in_step.1 (λ none. some (same ∙ none)))))
+        ((λ none. kept ∙ in_step.0 (sym same ∙ none)), (λ some. ap (λ o. h.holds o v) kept ∙ in_step.1 (λ none. some (same ∙ none))))
 
-    later_in_step : (hs : List (Slot S V)) (k index : ℕ) (came : List ℕ) → suc index ≤ k → AllAreKept hs before after v → AreInStep hs k came before v → AreInStep hs k (came ++ index ∷ []) after v
+    later_in_step : (hs : List (Slot S V)) (k index : ℕ) (came : List ℕ) → suc index ≤ k → AllAreKept hs before after → AreInStep hs k came before v → AreInStep hs k (came ++ index ∷ []) after v
     later_in_step [] k index came low kept in_step = tt
     later_in_step (h ∷ hs) k index came low kept in_step = (
       kept_in_step h (times k came) (times k (came ++ index ∷ [])) (as_before k came index (λ same. omega (arith, low, same))) kept.0 in_step.0,
@@ -81,7 +80,7 @@ module _ {S V : Type 0} where
     )
 
     -- after the component of this index has come
-    one_came : (hs : List (Slot S V)) (k j index : ℕ) (came : List ℕ) → index ≡ k + j → AreInStep hs k came before v → HoldsAt hs j after v → OthersAreKept hs j before after v →
+    one_came : (hs : List (Slot S V)) (k j index : ℕ) (came : List ℕ) → index ≡ k + j → AreInStep hs k came before v → HoldsAt hs j after v → OthersAreKept hs j before after →
         AreInStep hs k (came ++ index ∷ []) after v
     one_came [] k j index came is in_step holds kept = tt
     one_came (h ∷ hs) k zero index came is in_step holds kept = (
@@ -95,9 +94,9 @@ module _ {S V : Type 0} where
 
   -- where all have come that are there
   holds_at_end : (h : Slot S V) → h.is_single ≡ true → (s : S) (v : V) (n : ℕ) → h.component.IsWellTagged → IsInStep h n s v → (rs : List Record) → rs ≡ unmarked (h.component.records v) →
-      (rs ≢ [] → n ≢ 0) → h.holds s v ≡ true
+      (rs ≢ [] → n ≢ 0) → h.holds (h.content s) v ≡ true
   holds_at_end h single s v (suc n) can in_step rs is complete = in_step.1 (λ none. cc)
-  holds_at_end h single s v zero can in_step [] is complete = h.is_absent single s v can (in_step.0 refl) (sym is)
+  holds_at_end h single s v zero can in_step [] is complete = ap (λ o. h.holds o v) (in_step.0 refl) ∙ h.is_absent single v can (sym is)
   holds_at_end h single s v zero can in_step (r ∷ rs) is complete = absurd (complete (λ none. cc) refl)
 
   hold_at_end : (cs : List (ComponentType V)) (hs : List (Slot S V)) → AreSlotsOf cs hs → has_no_group hs ≡ true → (s : S) (v : V) (k : ℕ) (came : List ℕ) → EachIsWellTagged cs → AreInStep hs k came s v →
@@ -132,8 +131,9 @@ module _ {S V : Type 0} where
       let singles = and_parts h.is_single (has_no_group hs) single in
       let same = all.0 v in
       let written : unmarked (c.records v) ≡ unmarked (h.component.records v) = ap unmarked same.4 in
-      subst (λ rs. ReadsBack R old new rs rest outer (λ _. h.holds after v ≡ true) result) (sym written)
-      (h.reads_once R old new before after result singles.0 reads empty v rest outer (same.0 can.0) (same.1 of_type.0) (same.2 R.accepts valid.0) (λ none. some (written ∙ none)))
+      let once = subst (λ o. h.ReadsOnce R old new o (h.content after) result) empty reads in
+      subst (λ rs. ReadsBack R old new rs rest outer (λ _. h.holds (h.content after) v ≡ true) result) (sym written)
+      (h.reads_once R old new (h.content after) result singles.0 once v rest outer (same.0 can.0) (same.1 of_type.0) (same.2 R.accepts valid.0) (λ none. some (written ∙ none)))
   reads_at R (c ∷ cs) (h ∷ hs) all single (suc j) old new before after result reads empty v rest outer can of_type valid some =
       let singles = and_parts h.is_single (has_no_group hs) single in
       reads_at R cs hs all.1 singles.1 j old new before after result reads empty v rest outer can.1 of_type.1 valid.1 some
@@ -180,7 +180,7 @@ module _ {D S V : Type 0} (R : Reader D) (cs : List (ComponentType V)) (hs : Lis
 
     -- after it was read
     pub one_more : {d : D} {s : S} {height : ℕ} {outer : Outside} {count bound index : ℕ} (e : D) (after : S) (comes : SlotComes d s height outer count bound index) →
-        HasAdvanced R d e (highest (written_of cs v index)) (records comes.next.todo, outer) (HoldsAt hs index after v) → OthersAreKept hs index s after v → R.depth_left e ≡ R.depth_left d →
+        HasAdvanced R d e (highest (written_of cs v index)) (records comes.next.todo, outer) (HoldsAt hs index after v) → OthersAreKept hs index s after → R.depth_left e ≡ R.depth_left d →
         SlotsRead e after height outer (count + 1) bound
     one_more {s = s} {index = index} e after comes moved kept same = record {
       came = comes.came ++ index ∷ [];

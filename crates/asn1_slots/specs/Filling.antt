@@ -1,5 +1,5 @@
 -- Calls that read a component into its slot.
-use Rattle.std.specs.Prelude.{◌≡◌, ℕ, Bool, true, false, List, Option, None, Some, IfSome, IsSome, Result}
+use Rattle.std.specs.Prelude.{◌≡◌, ℕ, Bool, true, false, List, Option, None, Some, IfSome, IsSome, OnOk, Result, is_some}
 use Rattle.std.specs.Option.{option_eq, option_map}
 use Rattle.std.specs.Result.{IsErrAnd}
 use Rattle.asn1_components.specs.ComponentLists.{CanBeInSequence, EachIsOfType, EachIsValid, trees_of}
@@ -33,10 +33,11 @@ module _ {D W A : Type 0} (R : Reader D) where
       (Is v) result
 
   -- A call that reads a component that is always there into this slot: then the slot holds an
-  -- equal value.
+  -- equal value. After each success it is full.
   pub record Fills (type : TaggedType W) (eq : W → W → Bool) (old new : D)
       (slot : Option W) (result : Result A DecodeError) : Type 0 where
     pub reads : ReadsComponent type (λ v _. option_eq eq slot (Some v) ≡ true) old new result
+    pub is_full : OnOk result (is_some slot ≡ true)
 
   -- one that may be absent, on this side: then the slot holds an equal value, or nothing
   pub record FillsOptional (side : Side) (type : TaggedType W) (eq : W → W → Bool) (old new : D)

@@ -1,5 +1,5 @@
 -- The components of a SEQUENCE or a group, each read into a slot of its own.
-use Rattle.std.specs.Prelude.{◌≡◌, ◌≢◌, ◌≤◌, ◌&&◌, ℕ, zero, suc, ⊤, Bool, true, false, List, [], ◌∷◌, drop, length, take, Option, None, Some, IfSome, Result, Err, MatchResult, Vec, is_some, if◌then◌else◌, refl}
+use Rattle.std.specs.Prelude.{◌≡◌, ◌≢◌, ◌≤◌, ◌&&◌, ℕ, zero, suc, ⊤, Bool, true, false, List, [], ◌∷◌, drop, length, take, Option, None, Some, IfSome, Result, Ok, MatchResult, Vec, is_some, if◌then◌else◌, refl}
 use Rattle.std.specs.Cmp.Lexicographic.{pointwise}
 use Rattle.std.specs.Option.{option_eq}
 use Rattle.std.specs.Result.{IsErrAnd}
@@ -33,31 +33,40 @@ pub record Slot (S V : Type 0) : Type 1 where
   pub component : ComponentType V
   -- it is no group of additions
   pub is_single : Bool
-  pub IsEmpty : S → Type 0
-  -- the slot is not empty, or the component may be absent
-  pub is_filled : S → Bool
+  -- what the slot can hold, and the slot itself
+  pub Content : Type 0
+  pub content : S → Option Content
+  -- the slot is full, or the component may be absent
+  pub is_filled : Option Content → Bool
   -- the slot has what the value has, or what is equal
-  pub holds : S → V → Bool
+  pub holds : Option Content → V → Bool
+  -- which no other slot has
+  pub if_held : (slot : Option Content) (v : V) → holds slot v ≡ true → is_filled slot ≡ true
   -- what a call promises that reads the component into the slot
-  pub Reads : {D A : Type 0} → Reader D → D → D → S → Result A DecodeError → Type 0
+  pub Reads : {D A : Type 0} → Reader D → D → D → Option Content → Result A DecodeError → Type 0
   -- which is enough
-  pub reads : {D A : Type 0} (R : Reader D) (old new : D) (s : S) (result : Result A DecodeError) →
-      Reads R old new s result → ReadsInto R component (holds s) old new result
-  -- what a call promises that reads it in a SET, by the slots before and after
-  pub ReadsOnce : {D A : Type 0} → Reader D → D → D → S → S → Result A DecodeError → Type 0
+  pub reads : {D A : Type 0} (R : Reader D) (old new : D) (slot : Option Content)
+      (result : Result A DecodeError) → Reads R old new slot result →
+      ReadsInto R component (holds slot) old new result
+  -- after a success the slot is filled, whatever was read
+  pub fills : {D A : Type 0} (R : Reader D) (old new : D) (slot : Option Content) (x : A) →
+      Reads R old new slot (Ok x) → is_filled slot ≡ true
+  -- what a call promises that reads it in a SET, by the slot before and after
+  pub ReadsOnce : {D A : Type 0} → Reader D → D → D → Option Content → Option Content →
+      Result A DecodeError → Type 0
   -- A component that is no group is one record in a SET, or absent.
   pub is_one : is_single ≡ true → component.IsWellTagged → (v : V) →
       records_in (component.records v) ≤ 1
   -- what is there is read into an empty slot, without its presence mark
-  pub reads_once : {D A : Type 0} (R : Reader D) (old new : D) (before after : S)
-      (result : Result A DecodeError) → is_single ≡ true → ReadsOnce R old new before after result → IsEmpty before →
+  pub reads_once : {D A : Type 0} (R : Reader D) (old new : D) (after : Option Content)
+      (result : Result A DecodeError) → is_single ≡ true → ReadsOnce R old new None after result →
       (v : V) (rest : List Record) (outer : Outside) → component.IsWellTagged → component.IsOfType v →
       component.IsValid R.accepts v → unmarked (component.records v) ≢ [] →
       ReadsBack R old new (unmarked (component.records v)) rest outer (λ _. holds after v ≡ true)
       result
   -- what is absent has an empty slot
-  pub is_absent : is_single ≡ true → (s : S) (v : V) → component.IsWellTagged → IsEmpty s →
-      unmarked (component.records v) ≡ [] → holds s v ≡ true
+  pub is_absent : is_single ≡ true → (v : V) → component.IsWellTagged →
+      unmarked (component.records v) ≡ [] → holds None v ≡ true
 
 -- The slot of a component with a default: it has what the value has, or it is empty, and the value
 -- passes the test for the default.
@@ -108,6 +117,12 @@ pub default_is_read : {W : Type 0} (eq : W → W → Bool) (test : W → Bool) (
     option_eq eq slot (unless_default (test w) w) ≡ true → holds_or_passes eq test slot w ≡ true
 default_is_read eq test w slot same = holds_default eq test w slot (test w) refl same
 
+-- a slot that has what a value has is full
+pub full_if_held : {W : Type 0} (eq : W → W → Bool) (slot : Option W) (w : W) → option_eq eq slot (Some w) ≡ true →
+    is_some slot ≡ true
+full_if_held eq None w held = cc
+full_if_held eq (Some x) w held = refl
+
 -- which no group is
 pub no_group : {P : Type 0} → false ≡ true → P
 no_group wrong = cc
@@ -118,20 +133,23 @@ module _ {S V W : Type 0} (name : List ℕ) where
   required_slot get slot type eq = record {
     component = required name get type;
     is_single = true;
-    IsEmpty = λ s. slot s ≡ None;
-    is_filled = λ s. is_some (slot s);
-    holds = λ s v. option_eq eq (slot s) (Some (get v));
-    Reads = λ R old new s result. Fills R type eq old new (slot s) result;
+    Content = W;
+    content = slot;
+    is_filled = is_some;
+    holds = λ s v. option_eq eq s (Some (get v));
+    if_held = λ s v held. full_if_held eq s (get v) held;
+    Reads = λ R old new s result. Fills R type eq old new s result;
     reads = λ R old new s result fills v rest outer can of_type valid apart.
         fills.reads (get v) rest outer can of_type valid;
+    fills = λ R old new s x fills. fills.is_full;
     ReadsOnce = λ R old new before after result.
-        FillsOnce R name type eq old new (slot before) (slot after) result;
+        FillsOnce R name type eq old new before after result;
     is_one = λ single can v. one_required type can (get v);
-    reads_once = λ R old new before after result single fills empty v rest outer can of_type valid some.
-        slot_of_present type R name eq old new (slot before) (slot after) result fills empty (Some (get v))
+    reads_once = λ R old new after result single fills v rest outer can of_type valid some.
+        slot_of_present type R name eq old new None after result fills refl (Some (get v))
         _ rest outer can of_type valid (written_required type can (get v)) some;
-    is_absent = λ single s v can empty none.
-        slot_of_absent type can eq (slot s) (Some (get v)) _ (written_required type can (get v)) empty none;
+    is_absent = λ single v can none.
+        slot_of_absent type can eq None (Some (get v)) _ (written_required type can (get v)) refl none;
   }
 
   -- of one that may be absent, on this side
@@ -139,20 +157,23 @@ module _ {S V W : Type 0} (name : List ℕ) where
   optional_slot_in side get slot type eq = record {
     component = optional_in side name get type;
     is_single = true;
-    IsEmpty = λ s. slot s ≡ None;
-    is_filled = λ s. true;
-    holds = λ s v. option_eq eq (slot s) (get v);
-    Reads = λ R old new s result. FillsOptional R side type eq old new (slot s) result;
+    Content = W;
+    content = slot;
+    is_filled = λ _. true;
+    holds = λ s v. option_eq eq s (get v);
+    if_held = λ s v held. refl;
+    Reads = λ R old new s result. FillsOptional R side type eq old new s result;
     reads = λ R old new s result fills v rest outer can of_type valid apart.
         fills.reads (get v) rest outer can of_type valid apart;
+    fills = λ R old new s x fills. refl;
     ReadsOnce = λ R old new before after result.
-        FillsOnce R name type eq old new (slot before) (slot after) result;
+        FillsOnce R name type eq old new before after result;
     is_one = λ single can v. one_optional type can side (get v);
-    reads_once = λ R old new before after result single fills empty v rest outer can of_type valid some.
-        slot_of_present type R name eq old new (slot before) (slot after) result fills empty (get v)
+    reads_once = λ R old new after result single fills v rest outer can of_type valid some.
+        slot_of_present type R name eq old new None after result fills refl (get v)
         _ rest outer can of_type valid (written_optional type can side (get v)) some;
-    is_absent = λ single s v can empty none.
-        slot_of_absent type can eq (slot s) (get v) _ (written_optional type can side (get v)) empty none;
+    is_absent = λ single v can none.
+        slot_of_absent type can eq None (get v) _ (written_optional type can side (get v)) refl none;
   }
 
   -- of the root, and of the additions
@@ -167,25 +188,28 @@ module _ {S V W : Type 0} (name : List ℕ) where
   default_slot_in side get test slot type eq = record {
     component = default_in side name get (λ v. test (get v)) type;
     is_single = true;
-    IsEmpty = λ s. slot s ≡ None;
-    is_filled = λ s. true;
-    holds = λ s v. holds_or_passes eq test (slot s) (get v);
-    Reads = λ R old new s result. FillsOptional R side type eq old new (slot s) result;
+    Content = W;
+    content = slot;
+    is_filled = λ _. true;
+    holds = λ s v. holds_or_passes eq test s (get v);
+    if_held = λ s v held. refl;
+    Reads = λ R old new s result. FillsOptional R side type eq old new s result;
     reads = λ R old new s result fills v rest outer can of_type valid apart.
-        reads_default R side type eq test old new (slot s) result fills (get v) rest outer (test (get v))
+        reads_default R side type eq test old new s result fills (get v) rest outer (test (get v))
         refl can of_type valid apart;
+    fills = λ R old new s x fills. refl;
     ReadsOnce = λ R old new before after result.
-        FillsOnce R name type eq old new (slot before) (slot after) result;
+        FillsOnce R name type eq old new before after result;
     is_one = λ single can v. one_default type can side (test (get v)) (get v);
-    reads_once = λ R old new before after result single fills empty v rest outer can of_type valid some.
-        in_other_words R old new _ _ _ result (λ _ same. default_is_read eq test (get v) (slot after) same)
-        (slot_of_present type R name eq old new (slot before) (slot after) result fills empty
+    reads_once = λ R old new after result single fills v rest outer can of_type valid some.
+        in_other_words R old new _ _ _ result (λ _ same. default_is_read eq test (get v) after same)
+        (slot_of_present type R name eq old new None after result fills refl
         (unless_default (test (get v)) (get v)) _ rest outer can (if_not_default _ (test (get v)) (get v) of_type)
         (if_not_default _ (test (get v)) (get v) valid)
         (written_default type can side (test (get v)) (get v)) some);
-    is_absent = λ single s v can empty none. default_is_read eq test (get v) (slot s)
-        (slot_of_absent type can eq (slot s) (unless_default (test (get v)) (get v)) _
-        (written_default type can side (test (get v)) (get v)) empty none);
+    is_absent = λ single v can none. default_is_read eq test (get v) None
+        (slot_of_absent type can eq None (unless_default (test (get v)) (get v)) _
+        (written_default type can side (test (get v)) (get v)) refl none);
   }
 
   -- of one default value, in the root and among the additions
@@ -201,15 +225,18 @@ module _ {S V W : Type 0} (name : List ℕ) where
   group_slot get slot components eq = record {
     component = group name get components;
     is_single = false;
-    IsEmpty = λ s. slot s ≡ None;
-    is_filled = λ s. true;
-    holds = λ s v. option_eq eq (slot s) (get v);
-    Reads = λ R old new s result. FillsGroup R components eq old new (slot s) result;
+    Content = W;
+    content = slot;
+    is_filled = λ _. true;
+    holds = λ s v. option_eq eq s (get v);
+    if_held = λ s v held. refl;
+    Reads = λ R old new s result. FillsGroup R components eq old new s result;
     reads = λ R old new s result fills v rest outer can of_type valid apart.
         fills.reads (get v) rest outer can.0 of_type valid apart;
+    fills = λ R old new s x fills. refl;
     ReadsOnce = λ R old new before after result. ⊤;
     is_one = λ wrong. no_group wrong;
-    reads_once = λ R old new before after result wrong. no_group wrong;
+    reads_once = λ R old new after result wrong. no_group wrong;
     is_absent = λ wrong. no_group wrong;
   }
 
@@ -224,6 +251,15 @@ module _ {S V T A : Type 0} (name : List ℕ) where
       (T → T → Bool) → (Vec T A → Vec T A → Bool) → Slot S V
   addition_with_empty_list_slot get slot type element_eq eq =
       default_slot_in name in_additions get (is_empty_list element_eq) slot type eq
+
+-- the name, if this is false
+abbrev pub name_unless : Bool → List ℕ → Option (List ℕ)
+name_unless true name = None
+name_unless false name = Some name
+
+-- the name of a component that is always there, if its slot is empty
+abbrev pub missing_in : {W : Type 0} → Option W → List ℕ → Option (List ℕ)
+missing_in slot name = name_unless (is_some slot) name
 
 module _ {S V : Type 0} where
   -- the components of the slots
@@ -252,41 +288,52 @@ module _ {S V : Type 0} where
   abbrev pub HoldBefore : List (Slot S V) → ℕ → S → V → Type 0
   HoldBefore [] index s v = ⊤
   HoldBefore (h ∷ hs) zero s v = ⊤
-  HoldBefore (h ∷ hs) (suc index) s v = (h.holds s v ≡ true) × HoldBefore hs index s v
+  HoldBefore (h ∷ hs) (suc index) s v =
+      (h.holds (h.content s) v ≡ true) × HoldBefore hs index s v
 
   -- all slots are empty
   abbrev pub AreEmpty : List (Slot S V) → S → Type 0
   AreEmpty [] s = ⊤
-  AreEmpty (h ∷ []) s = h.IsEmpty s
-  AreEmpty (h ∷ i ∷ hs) s = h.IsEmpty s × AreEmpty (i ∷ hs) s
+  AreEmpty (h ∷ hs) s = (h.content s ≡ None) × AreEmpty hs s
+
+  -- each slot of a component that is always there is full
+  abbrev pub AreFilled : List (Slot S V) → S → Type 0
+  AreFilled [] s = ⊤
+  AreFilled (h ∷ hs) s = (h.is_filled (h.content s) ≡ true) × AreFilled hs s
 
   -- none of the components is a group
   abbrev pub has_no_group : List (Slot S V) → Bool
   has_no_group [] = true
   has_no_group (h ∷ hs) = h.is_single && has_no_group hs
 
-  -- what a slot holds it still holds, and one that was empty is empty
-  abbrev pub IsKept : Slot S V → S → S → V → Type 0
-  IsKept h before after v =
-      (h.holds before v ≡ true → h.holds after v ≡ true) × (h.IsEmpty before → h.IsEmpty after)
+  -- the slot is as it was
+  abbrev pub IsKept : Slot S V → S → S → Type 0
+  IsKept h before after = h.content after ≡ h.content before
 
-  abbrev pub AllAreKept : List (Slot S V) → S → S → V → Type 0
-  AllAreKept [] before after v = ⊤
-  AllAreKept (h ∷ hs) before after v = IsKept h before after v × AllAreKept hs before after v
+  abbrev pub AllAreKept : List (Slot S V) → S → S → Type 0
+  AllAreKept [] before after = ⊤
+  AllAreKept (h ∷ hs) before after = IsKept h before after × AllAreKept hs before after
+
+  -- each slot before this index is kept
+  abbrev pub AreKeptBefore : List (Slot S V) → ℕ → S → S → Type 0
+  AreKeptBefore [] index before after = ⊤
+  AreKeptBefore (h ∷ hs) zero before after = ⊤
+  AreKeptBefore (h ∷ hs) (suc index) before after =
+      IsKept h before after × AreKeptBefore hs index before after
 
   -- each slot but that of this index is kept
-  abbrev pub OthersAreKept : List (Slot S V) → ℕ → S → S → V → Type 0
-  OthersAreKept [] index before after v = ⊤
-  OthersAreKept (h ∷ hs) zero before after v = AllAreKept hs before after v
-  OthersAreKept (h ∷ hs) (suc index) before after v =
-      IsKept h before after v × OthersAreKept hs index before after v
+  abbrev pub OthersAreKept : List (Slot S V) → ℕ → S → S → Type 0
+  OthersAreKept [] index before after = ⊤
+  OthersAreKept (h ∷ hs) zero before after = AllAreKept hs before after
+  OthersAreKept (h ∷ hs) (suc index) before after =
+      IsKept h before after × OthersAreKept hs index before after
 
   -- the call reads the component of this index in a SET, into its slot
   abbrev pub ReadsOnceAt : {D A : Type 0} → Reader D → List (Slot S V) → ℕ → D → D → S → S →
       Result A DecodeError → Type 0
   ReadsOnceAt R [] index old new before after result = ⊤
   ReadsOnceAt R (h ∷ hs) zero old new before after result =
-      h.ReadsOnce R old new before after result
+      h.ReadsOnce R old new (h.content before) (h.content after) result
   ReadsOnceAt R (h ∷ hs) (suc index) old new before after result =
       ReadsOnceAt R hs index old new before after result
 
@@ -294,13 +341,20 @@ module _ {S V : Type 0} where
   abbrev pub ReadsAt : {D A : Type 0} → Reader D → List (Slot S V) → ℕ → D → D → S →
       Result A DecodeError → Type 0
   ReadsAt R [] index old new s result = ⊤
-  ReadsAt R (h ∷ hs) zero old new s result = h.Reads R old new s result
+  ReadsAt R (h ∷ hs) zero old new s result = h.Reads R old new (h.content s) result
   ReadsAt R (h ∷ hs) (suc index) old new s result = ReadsAt R hs index old new s result
 
   -- the name of the first component that is always there and whose slot is empty
   abbrev pub first_missing : List (Slot S V) → S → Option (List ℕ)
   first_missing [] s = None
-  first_missing (h ∷ hs) s = if h.is_filled s then first_missing hs s else Some h.component.name
+  first_missing (h ∷ hs) s =
+      if h.is_filled (h.content s) then first_missing hs s else Some h.component.name
+
+  -- the name of the component at this index, if it is always there and its slot is empty
+  abbrev pub missing_at : List (Slot S V) → ℕ → S → Option (List ℕ)
+  missing_at [] index s = None
+  missing_at (h ∷ hs) zero s = name_unless (h.is_filled (h.content s)) h.component.name
+  missing_at (h ∷ hs) (suc index) s = missing_at hs index s
 
   -- The error names the first missing component.
   abbrev pub RefusesMissing : {A : Type 0} → List (Slot S V) → S → Result A DecodeError → Type 0
@@ -312,11 +366,6 @@ module _ {S V : Type 0} where
   MakesValueOfSlots slots eq s result =
       (v : V) → HoldBefore slots (length slots) s v →
       MatchResult result (λ w. eq w v ≡ true) (λ e. e ≡ Memory)
-
--- The error is one that can be made of slots.
-abbrev pub IsOfSlots : {S V : Type 0} → List (Slot S V) → (V → V → Bool) → DecodeError → Type 0
-IsOfSlots {S = S} {V = V} slots eq e =
-    (s : S) × (MakesValueOfSlots slots eq s (Err e) × RefusesMissing {A = V} slots s (Err e))
 
 -- Two components are the same to a reader.
 abbrev pub SameComponent : {V : Type 0} → ComponentType V → ComponentType V → Type 0
@@ -337,18 +386,6 @@ AreSlotsOf (c ∷ cs) (h ∷ hs) = SameComponent c h.component × AreSlotsOf cs 
 -- so of the components of a type
 abbrev pub IsLayoutOf : {S V : Type 0} → Components V → List (Slot S V) → Type 0
 IsLayoutOf components layout = AreSlotsOf (all_components components) layout
-
-abbrev SameAll : {V : Type 0} → List (ComponentType V) → Type 0
-SameAll [] = ⊤
-SameAll (c ∷ cs) = SameComponent c c × SameAll cs
-
-same_all : {V : Type 0} (cs : List (ComponentType V)) → SameAll cs
-same_all [] = tt
-same_all (c ∷ cs) = (λ v. ((λ h. h), (λ h. h), (λ accepts h. h), (λ rest h. h), refl), same_all cs)
-
--- so it is for each type whose components are stated by its slots
-pub slots_agree : {V : Type 0} (components : Components V) → SameAll (all_components components)
-slots_agree components = same_all (all_components components)
 
 -- A call that reads the components that are left in a SET, of which there are at most this many
 -- records: in any order, and into slots.

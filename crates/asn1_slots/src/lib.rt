@@ -18,7 +18,8 @@
 //! | [`DecodeSetByIndex`], [`decode_set_by_index`] | a SET, whose components come in any order; errors name the component |
 //! | [`required`], [`optional`], [`addition`], [`group`], [`decode_unique`] | read a component into its slot, and answer [`Decoded`] |
 //! | [`required_with_constraints`], [`optional_with_constraints`], [`addition_with_constraints`], [`decode_unique_with_constraints`] | the same under constraints of the component's own |
-//! | [`filled`], [`or_default`], [`or_empty`] | the value in a slot |
+//! | [`or_default`], [`or_empty`] | the value in the slot of a component with a default |
+//! | [`missing`] | the name of a required component of a SET, if its slot is empty |
 //! | [`DecodeChoiceByIndex`] | a CHOICE: its cases, and how its alternatives are read |
 //! | [`from_tag_by_index`], [`from_tag_by_table`] | read the alternative that can begin with a tag |
 //! | [`alternative`], [`alternative_with_constraints`] | read the value of an alternative |
@@ -32,18 +33,21 @@
 //!   `addition_with_empty_list_slot` and `group_slot`. The components of the type are made of the list of slots, by
 //!   `sequence_of_slots`, `set_of_slots`, and with an extension marker by `extensible_sequence_after` and `extensible_set_after`.
 //! - A call that reads a component into its slot reads the component's records, and then the slot holds an equal value (`Fills`,
-//!   `FillsOptional`, `FillsGroup` of `specs/Filling.antt`). In a SET it refuses by name a component whose slot was full
-//!   (`FillsOnce`).
-//! - The line of a type for an index has to promise that (`ReadsAt`, `ReadsOnceAt`), and to leave the other slots (`kept`).
-//! - `from_slots` makes an equal value of slots that hold the components of a value (`MakesValueOfSlots`). Its error names the first
-//!   missing component (`RefusesMissing`).
+//!   `FillsOptional`, `FillsGroup` of `specs/Filling.antt`). A success fills the slot of a required component, whatever was read. In
+//!   a SET the call refuses by name a component whose slot was full (`FillsOnce`).
+//! - The line of a type for an index has to promise that (`ReadsAt`, `ReadsOnceAt`), and to leave the other slots as they were
+//!   (`kept`: in a SEQUENCE those before the index, in a SET all others).
+//! - `full` makes the value of filled slots (`AreFilled`), and it is equal to each value that they hold (`made`). It has no error but
+//!   that memory ran out for a default. After a SEQUENCE or a group was read, each slot is filled. In a SET a required component may
+//!   be missing; [`decode_set_by_index`] asks `missing_at` for each index, and its error names the first (`RefusesMissing`).
 //! - A type chooses whether errors name its components. [`decode_fields_by_index`] answers an error of a component unchanged, which
 //!   is tested. The calls that name errors answer a component's name, unless the error is about more than the component (`named` of
 //!   [`decode_fields_naming_errors`], [`decode_unique`] and [`decode_unique_with_constraints`]); tests show that it is the name of
 //!   this component.
 //! - Both keep the contract of `decode_fields` of `asn1_dec`. [`decode_sequence_naming_errors`] and [`decode_set_by_index`] keep
-//!   those of `decode_sequence` and `decode_set` of `Decoder`, if the layout is that of the type's components (`IsLayoutOf`), which
-//!   the check finds.
+//!   that of `Decode`. They ask that the layout is that of the type's components (`IsLayoutOf`), and the kind the type's; of a SET
+//!   also that no component is a group (`has_no_group`), and that the slots are empty at first. The check finds all four for each
+//!   type, of any size.
 //! - An alternative and its variant are a `Case` (`specs/Cases.antt`), made by `variant`. The alternatives of the type are made of
 //!   the list of cases, by `choice_of_cases` and `extensible_choice_after`. The line of a CHOICE for an index has to promise that it
 //!   reads the alternative's value and makes the value of its case (`ReadsCaseAt`, `case_of`).
@@ -80,5 +84,5 @@ pub use constrained::{
     required_with_constraints,
 };
 pub use set_by_index::{DecodeSetByIndex, decode_set_by_index};
-pub use slot_values::{filled, or_default, or_empty};
+pub use slot_values::{missing, or_default, or_empty};
 pub use tagging::Tagging;

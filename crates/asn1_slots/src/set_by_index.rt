@@ -1,45 +1,83 @@
 //! SET types that are read by index.
-ghost use Rattle.asn1_laws.specs.Reading.{KeepsDepth, NeedsDepth, ReadsValue};
+ghost use Rattle.asn1_laws.specs.Reading.{AfterReading, KeepsDepth, NeedsDepth, ReadsValue};
 ghost use Rattle.asn1_laws.specs.ReadingTypes.{ReadsComponents};
 ghost use Rattle.asn1_laws.specs.declared.decode_error.DecodeError.TheVariants.{Depth, Memory};
 ghost use Rattle.asn1_components.specs.Components.{is_set};
-ghost use Rattle.asn1_model.specs.ConstraintSets.{ConstraintSet};
-ghost use Rattle.asn1_slots.specs.Slots.{AreEmpty, IsLayoutOf, MakesValueOfSlots, OthersAreKept, ReadsOnceAt, ReadsSlotsLeft, RefusesMissing, Slot, has_no_group};
-ghost use Rattle.std.specs.Prelude.{◌≡◌, List, OnErr, OnOk, true};
+ghost use Rattle.asn1_model.specs.ConstraintSets.{constraint_set};
+ghost use Rattle.asn1_slots.specs.Slots.{AreEmpty, AreFilled, HoldBefore, IsLayoutOf, MakesValueOfSlots, OthersAreKept, ReadsOnceAt, ReadsSlotsLeft, RefusesMissing, Slot, first_missing, has_no_group, missing_at};
+ghost use Rattle.std.specs.Option.{option_map};
+ghost use Rattle.std.specs.Prelude.{◌≡◌, IfOk, List, OnErr, OnOk, length, true};
 
 use crate::calls::Decoded;
+use asn1_bounds::Constraints;
 use asn1_components::{ConstructedType, FieldTable};
 use asn1_dec::{Decoder, component_with_tag};
 use asn1_laws::DecodeError;
 use asn1_tags::Tag;
-use std::alloc::Global;
+use std::alloc::{AllocError, Global};
 
 /// A SET whose components are read in whatever order they come, each by its index in the definition, into slots.
 pub trait DecodeSetByIndex: Eq + Sized + Drop {
-    /// The slots: an option for each component.
+    /// The slots: an option for each component. A tuple has up to twelve; a longer list is a tuple of tuples.
     type Slots: Default + Drop;
 
     // The components, each with its slot, in the order of the definition.
     ghost layout: { List (Slot Self.Slots Self) };
 
-    /// The value of these slots, as [`crate::DecodeByIndex::from_slots`] makes it.
-    fn from_slots(alloc: Global, slots: Self::Slots) -> Result<Self, DecodeError>
-        ensures made { MakesValueOfSlots layout Self.eq slots result }
-        ensures missing { RefusesMissing layout slots result };
+    /// The value of filled slots, as [`crate::DecodeByIndex::full`] makes it.
+    fn full(alloc: Global, slots: Self::Slots) -> Result<Self, AllocError>
+        requires are_filled { AreFilled layout slots }
+        ensures made { (v : Self) → HoldBefore layout (length layout) slots v →
+            IfOk result (λ w. Self.eq w v ≡ true) };
+
+    /// The name of the component at an index, if it is required and its slot is empty.
+    fn missing_at(index: usize, slots: &Self::Slots) -> Option<&'static str>
+        ensures missing { option_map (λ name. name.now) result ≡
+            missing_at layout index slots.now };
 
     /// Reads the component at an index of the definition into its slot, and leaves the other slots. If it was read before, the
     /// error is [`DecodeError::DuplicateField`] with its name.
     fn decode_field<D: Decoder>(index: usize, slots: &mut Self::Slots, decoder: &mut D) -> Decoded
         ensures read { ReadsOnceAt D.reader layout index decoder.old decoder.new slots.old slots.new
             result }
-        ensures kept { (v : Self) → OthersAreKept layout index slots.old slots.new v }
+        ensures kept { OthersAreKept layout index slots.old slots.new }
         ensures same_depth { OnOk result (D.reader.depth_left decoder.new ≡
             D.reader.depth_left decoder.old) };
+}
 
-    // The laws: none of the components is a group, and the slots are empty at first.
-    ghost no_group: { has_no_group layout ≡ true };
+/// The name of the first required component whose slot is empty.
+#[inline(always)]
+fn first_missing<S: DecodeSetByIndex + FieldTable>(slots: &S::Slots) -> Option<&'static str>
+    requires laid_out { IsLayoutOf S.components S.layout }
+    ensures first { option_map (λ name. name.now) result ≡ first_missing S.layout slots.now }
+{
+    for index in 0..S::field_count() {
+        match S::missing_at(index, slots) {
+            Some(name) => return Some(name),
+            None => {}
+        }
+    }
+    None
+}
 
-    ghost empty_at_first: { (s : Self.Slots) → Self.Slots.Default.is_default s → AreEmpty layout s };
+/// The value of these slots. The error is [`DecodeError::MissingField`] with the name of the first missing component, if a
+/// required one is missing; or memory ran out for a default.
+#[inline(always)]
+fn value_of_slots<S: DecodeSetByIndex + FieldTable>(
+    alloc: Global,
+    slots: S::Slots,
+) -> Result<S, DecodeError>
+    requires laid_out { IsLayoutOf S.components S.layout }
+    ensures made { MakesValueOfSlots S.layout S.eq slots result }
+    ensures missing { RefusesMissing S.layout slots result }
+{
+    match first_missing::<S>(&slots) {
+        Some(name) => Err(DecodeError::MissingField(name)),
+        None => match S::full(alloc, slots) {
+            Ok(value) => Ok(value),
+            Err(AllocError) => Err(DecodeError::Memory),
+        },
+    }
 }
 
 /// The slots of the components that are left in a SET, of which there are at most this many records.
@@ -48,8 +86,11 @@ fn read_slots<S: DecodeSetByIndex + FieldTable, D: Decoder>(
     decoder: &mut D,
     bound: usize,
 ) -> Result<S::Slots, DecodeError>
-    ensures read { IsLayoutOf S.components S.layout →
-        ReadsSlotsLeft D.reader bound S.components S.layout decoder.old decoder.new result }
+    requires laid_out { IsLayoutOf S.components S.layout }
+    requires no_group { has_no_group S.layout ≡ true }
+    requires empty_at_first { (s : S.Slots) → S.Slots.Default.is_default s → AreEmpty S.layout s }
+    ensures read { ReadsSlotsLeft D.reader bound S.components S.layout decoder.old decoder.new
+        result }
     ensures same_depth { OnOk result (D.reader.depth_left decoder.new ≡
         D.reader.depth_left decoder.old) }
     ensures has_failed { OnErr result (D.reader.failed decoder.new ≡ true) }
@@ -123,14 +164,17 @@ fn read_components<S: DecodeSetByIndex + FieldTable, D: Decoder>(
     decoder: &mut D,
     tag: Tag,
 ) -> Result<S, DecodeError>
-    ensures read { IsLayoutOf S.components S.layout →
-        ReadsComponents D.reader is_set tag S.components S.eq decoder.old decoder.new result }
+    requires laid_out { IsLayoutOf S.components S.layout }
+    requires no_group { has_no_group S.layout ≡ true }
+    requires empty_at_first { (s : S.Slots) → S.Slots.Default.is_default s → AreEmpty S.layout s }
+    ensures read { ReadsComponents D.reader is_set tag S.components S.eq decoder.old decoder.new
+        result }
     ensures depth_first { NeedsDepth D.reader decoder.old result }
     ensures keeps_depth { KeepsDepth D.reader decoder.old decoder.new result }
 {
     let bound = decoder.open_set::<S>(tag)?;
     let slots = read_slots::<S, D>(decoder, bound)?;
-    let value = match S::from_slots(decoder.global(), slots) {
+    let value = match value_of_slots::<S>(decoder.global(), slots) {
         Ok(value) => value,
         Err(error) => return Err(decoder.refuse(error)),
     };
@@ -138,25 +182,30 @@ fn read_components<S: DecodeSetByIndex + FieldTable, D: Decoder>(
     Ok(value)
 }
 
-/// Reads a SET, by its components, in whatever order they come. A layout of the type's components reads these under the tag
-/// (`components`), and a value of a SET type under whatever constraints (`as_meant`). The error is [`DecodeError::Depth`] if no
-/// depth is left, before anything but `Failed` (`depth_first`). An error makes the decoder failed, a failed decoder answers
-/// [`DecodeError::Failed`], and a success keeps the depth left (`keeps_depth`).
+/// Reads a SET, by its components, in whatever order they come. The layout is that of the type's components, none of which is a
+/// group, and the slots are empty at first. So the call keeps the contract of [`asn1_dec::Decode`] (`read`, `after_reading`), under
+/// whatever constraints. The error is [`DecodeError::Depth`] if no depth is left, before anything but `Failed` (`depth_first`). An
+/// error makes the decoder failed, a failed decoder answers [`DecodeError::Failed`], and a success keeps the depth left
+/// (`keeps_depth`).
 ///
 /// The contracts of the calls below promise the names: a component that comes twice is refused by its name (`twice` of `FillsOnce`,
 /// which is `read` of [`crate::decode_unique`]), an error of a component has a name (`named` of [`crate::decode_unique`]), and the
-/// first missing component is named (`missing` of [`DecodeSetByIndex::from_slots`]). A record whose tag no component has is refused
-/// with [`DecodeError::UnknownField`] and its index among the records; no contract covers this.
+/// first missing component is named (`missing` of [`DecodeSetByIndex::missing_at`], for each index). A record whose tag no component
+/// has is refused with [`DecodeError::UnknownField`] and its index among the records; no contract covers this.
 #[inline(always)]
 pub fn decode_set_by_index<S: DecodeSetByIndex + ConstructedType, D: Decoder>(
     decoder: &mut D,
     tag: Tag,
+    constraints: &Constraints<'_>,
 ) -> Result<S, DecodeError>
-    ensures components { IsLayoutOf S.components S.layout →
-        ReadsComponents D.reader is_set tag S.components S.eq decoder.old decoder.new result }
-    ensures as_meant { IsLayoutOf S.components S.layout → S.components.kind ≡ is_set →
-        (c : ConstraintSet) →
-        ReadsValue D.reader S.meaning S.eq tag c decoder.old decoder.new result }
+    requires laid_out { IsLayoutOf S.components S.layout }
+    requires kind { S.components.kind ≡ is_set }
+    requires no_group { has_no_group S.layout ≡ true }
+    requires empty_at_first { (s : S.Slots) → S.Slots.Default.is_default s → AreEmpty S.layout s }
+    ensures read { ReadsValue D.reader S.meaning S.eq tag (constraint_set constraints.now)
+        decoder.old decoder.new result }
+    ensures after_reading { AfterReading D.reader S.meaning tag (constraint_set constraints.now)
+        decoder.old decoder.new result }
     ensures depth_first { NeedsDepth D.reader decoder.old result }
     ensures keeps_depth { KeepsDepth D.reader decoder.old decoder.new result }
 {

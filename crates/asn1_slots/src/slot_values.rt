@@ -1,21 +1,18 @@
 //! The values of slots.
-ghost use Rattle.asn1_slots.specs.Slots.{holds_or_default, holds_or_passes, is_empty_list};
-ghost use Rattle.asn1_laws.specs.DecodeErrors.{missing_field, reason};
-ghost use Rattle.std.specs.Prelude.{◌≡◌, MatchOption, Ok, Vec, true};
-ghost use Rattle.std.specs.Result.{IsErrAnd};
+ghost use Rattle.asn1_slots.specs.Slots.{holds_or_default, holds_or_passes, is_empty_list, missing_in};
+ghost use Rattle.std.specs.Option.{option_map};
+ghost use Rattle.std.specs.Prelude.{◌≡◌, Vec, true};
 
-use asn1_laws::DecodeError;
 use std::alloc::Global;
 
-/// The component in a slot. The error of an empty slot is [`DecodeError::MissingField`] with the name.
+/// The name of a required component, if its slot is empty.
 #[inline(always)]
-pub fn filled<T: Drop>(slot: Option<T>, name: &'static str) -> Result<T, DecodeError>
-    ensures { MatchOption slot (IsErrAnd result (λ error. reason error ≡ missing_field name.now))
-        (λ value. result ≡ Ok value) }
+pub fn missing<T>(slot: &Option<T>, name: &'static str) -> Option<&'static str>
+    ensures { option_map (λ name. name.now) result ≡ missing_in slot.now name.now }
 {
     match slot {
-        Some(value) => Ok(value),
-        None => Err(DecodeError::MissingField(name)),
+        Some(_) => None,
+        None => Some(name),
     }
 }
 

@@ -1,14 +1,14 @@
 //! `Order ::= SET { price Price, goods SET OF UTF8String }`
-ghost use Rattle.std.specs.Prelude.{[], codes, refl, ◌∷◌};
+ghost use Rattle.std.specs.Prelude.{[], codes, ◌∷◌};
 ghost use Rattle.asn1_schema.specs.Words.{IsWellTagged, constructed_agrees, constructed_type, required_slot, set_of_slots, untagged};
 
 use crate::price::Price;
 use asn1_schema::{
     AsnType, Constraints, ConstructedType, Decode, DecodeError, DecodeSetByIndex, Decoded, Decoder,
     Encode, EncodeError, EncodeFields, Encoder, Field, FieldTable, Identifier, SetOf, Tag, Tagging,
-    TypeTable, Utf8String, decode_set_by_index, decode_unique, filled,
+    TypeTable, Utf8String, decode_set_by_index, decode_unique, missing,
 };
-use std::alloc::Global;
+use std::alloc::{AllocError, Global};
 
 /// The articles of an order, in any order.
 pub type Goods = SetOf<Utf8String>;
@@ -28,11 +28,19 @@ impl DecodeSetByIndex for Order {
     ghost layout = { required_slot (codes "price") (λ o. o.price) (λ s. s.0) (untagged ⟦<Price as AsnType>⟧.meaning) ⟦<Price as PartialEq>⟧.eq ∷
         required_slot (codes "goods") (λ o. o.goods) (λ s. s.1) (untagged ⟦<Goods as AsnType>⟧.meaning) ⟦<Goods as PartialEq>⟧.eq ∷ [] };
 
-    fn from_slots(_alloc: Global, slots: Self::Slots) -> Result<Order, DecodeError> {
+    fn full(_alloc: Global, slots: Self::Slots) -> Result<Order, AllocError> {
         Ok(Order {
-            price: filled(slots.0, "price")?,
-            goods: filled(slots.1, "goods")?,
+            price: slots.0.unwrap(),
+            goods: slots.1.unwrap(),
         })
+    }
+
+    fn missing_at(index: usize, slots: &Self::Slots) -> Option<&'static str> {
+        match index {
+            0 => missing(&slots.0, "price"),
+            1 => missing(&slots.1, "goods"),
+            _ => None,
+        }
     }
 
     fn decode_field<D: Decoder>(index: usize, slots: &mut Self::Slots, decoder: &mut D) -> Decoded {
@@ -42,10 +50,6 @@ impl DecodeSetByIndex for Order {
             _ => Ok(()),
         }
     }
-
-    ghost no_group = { refl };
-
-    ghost empty_at_first = { λ slots empty. (empty.0, empty.1) };
 }
 
 impl FieldTable for Order {
@@ -115,8 +119,8 @@ impl Decode for Order {
     fn decode_with_tag_and_constraints<D: Decoder>(
         decoder: &mut D,
         tag: Tag,
-        _constraints: &Constraints<'_>,
+        constraints: &Constraints<'_>,
     ) -> Result<Order, DecodeError> {
-        decode_set_by_index(decoder, tag)
+        decode_set_by_index(decoder, tag, constraints)
     }
 }

@@ -6,9 +6,9 @@ use crate::currency::Currency;
 use asn1_schema::{
     AsnType, Constraints, ConstructedType, Decode, DecodeByIndex, DecodeError, Decoded, Decoder,
     Encode, EncodeError, EncodeFields, Encoder, Field, FieldTable, Identifier, Tag, Tagging,
-    TypeTable, decode_sequence_naming_errors, filled, required,
+    TypeTable, decode_sequence_naming_errors, required,
 };
-use std::alloc::Global;
+use std::alloc::{AllocError, Global};
 
 /// The price of an article.
 #[derive(PartialEq, Eq, Debug, Drop)]
@@ -25,10 +25,10 @@ impl DecodeByIndex for Price {
     ghost layout = { required_slot (codes "amount") (λ p. p.amount) (λ s. s.0) (untagged ⟦<u32 as AsnType>⟧.meaning) ⟦<u32 as PartialEq>⟧.eq ∷
         required_slot (codes "currency") (λ p. p.currency) (λ s. s.1) (untagged ⟦<Currency as AsnType>⟧.meaning) ⟦<Currency as PartialEq>⟧.eq ∷ [] };
 
-    fn from_slots(_alloc: Global, slots: Self::Slots) -> Result<Price, DecodeError> {
+    fn full(_alloc: Global, slots: Self::Slots) -> Result<Price, AllocError> {
         Ok(Price {
-            amount: filled(slots.0, "amount")?,
-            currency: filled(slots.1, "currency")?,
+            amount: slots.0.unwrap(),
+            currency: slots.1.unwrap(),
         })
     }
 
@@ -108,8 +108,8 @@ impl Decode for Price {
     fn decode_with_tag_and_constraints<D: Decoder>(
         decoder: &mut D,
         tag: Tag,
-        _constraints: &Constraints<'_>,
+        constraints: &Constraints<'_>,
     ) -> Result<Price, DecodeError> {
-        decode_sequence_naming_errors(decoder, tag)
+        decode_sequence_naming_errors(decoder, tag, constraints)
     }
 }

@@ -7,10 +7,10 @@ use crate::payment::Payment;
 use asn1_schema::{
     AsnType, Constraints, ConstructedType, Decode, DecodeByIndex, DecodeError, Decoded, Decoder,
     Encode, EncodeError, EncodeFields, Encoder, Field, FieldTable, Identifier, OctetString,
-    RoundTripError, Rules, Tag, Tagging, TypeTable, decode_sequence_naming_errors, filled,
-    required, round_trip,
+    RoundTripError, Rules, Tag, Tagging, TypeTable, decode_sequence_naming_errors, required,
+    round_trip,
 };
-use std::alloc::Global;
+use std::alloc::{AllocError, Global};
 
 /// A value of any type, and a signature.
 #[derive(PartialEq, Eq, Debug, Drop)]
@@ -27,10 +27,10 @@ impl<T: Decode> DecodeByIndex for Signed<T> {
     ghost layout = { required_slot (codes "content") (λ v. v.content) (λ s. s.0) (untagged T.meaning) T.eq ∷
         required_slot (codes "signature") (λ v. v.signature) (λ s. s.1) (untagged ⟦<OctetString as AsnType>⟧.meaning) ⟦<OctetString as PartialEq>⟧.eq ∷ [] };
 
-    fn from_slots(_alloc: Global, slots: Self::Slots) -> Result<Signed<T>, DecodeError> {
+    fn full(_alloc: Global, slots: Self::Slots) -> Result<Signed<T>, AllocError> {
         Ok(Signed {
-            content: filled(slots.0, "content")?,
-            signature: filled(slots.1, "signature")?,
+            content: slots.0.unwrap(),
+            signature: slots.1.unwrap(),
         })
     }
 
@@ -112,9 +112,9 @@ impl<T: Decode> Decode for Signed<T> {
     fn decode_with_tag_and_constraints<D: Decoder>(
         decoder: &mut D,
         tag: Tag,
-        _constraints: &Constraints<'_>,
+        constraints: &Constraints<'_>,
     ) -> Result<Signed<T>, DecodeError> {
-        decode_sequence_naming_errors(decoder, tag)
+        decode_sequence_naming_errors(decoder, tag, constraints)
     }
 }
 

@@ -15,7 +15,7 @@ use Rattle.std.proofs.lemmas.List.Concat.{flat_map_single}
 use Rattle.std.proofs.lemmas.List.Sorted.{IsPermutation-map}
 use Rattle.asn1_components.specs.ComponentLists.{all_records}
 use Rattle.asn1_components.specs.ComponentTypes.{ComponentType}
-use Rattle.asn1_components.specs.Components.{all_components, lines}
+use Rattle.asn1_components.specs.Components.{all_components, rows}
 use Rattle.asn1_model.proofs.SameUpToOrder.{SameAll-append, SameAll-refl, SameRecords-refl, same_rearranged}
 use Rattle.asn1_model.specs.ConstraintSets.{unconstrained}
 use Rattle.asn1_model.specs.Meaning.{own_records}
@@ -86,7 +86,7 @@ all_same (c ∷ cs) v w each =
 
 -- the record of an attribute
 abbrev record_of : AttributeTypeAndValue → Record
-record_of a = holding (sequence_head (universal 16) (lines attribute_fields.components) (Some (codes "AttributeTypeAndValue"))) (all_records (all_components attribute_fields.components) a)
+record_of a = holding (sequence_head (universal 16) (rows attribute_fields.components) (Some (codes "AttributeTypeAndValue"))) (all_records (all_components attribute_fields.components) a)
 
 -- an attribute has one record
 one_of_each : (vs : List AttributeTypeAndValue) → flat_map (own_records attribute_types.meaning) vs ≡ map record_of vs

@@ -3,7 +3,7 @@ use Rattle.std.specs.Prelude.{List, [], ◌∷◌, ◌++◌, Some, codes}
 use Rattle.asn1_model.specs.Composites.{sequence_records}
 use Rattle.asn1_model.specs.Meaning.{own_records}
 use Rattle.asn1_model.specs.Records.{Record}
-use Rattle.asn1_types.specs.Words.{absent, context, in_root, lines, number, presence_mark, scalar, unconstrained, universal}
+use Rattle.asn1_types.specs.Words.{absent, context, in_root, number, presence_mark, rows, scalar, unconstrained, universal}
 use Rattle.asn1_x509.specs.contracts.algorithm_identifier.AlgorithmIdentifierAsnType.TheImpl.{ghosts as algorithms}
 use Rattle.asn1_x509.specs.contracts.name.NameAsnType.TheImpl.{ghosts as names}
 use Rattle.asn1_x509.specs.contracts.subject_public_key_info.SubjectPublicKeyInfoAsnType.TheImpl.{ghosts as keys}
@@ -25,7 +25,7 @@ use Rattle.asn1_x509.specs.declared.tbs_certificate.TbsCertificate.{TbsCertifica
 -- }
 -- A certificate of the first version: its version, unique names and extensions are absent.
 abbrev pub first_version_records : TbsCertificate → List Record
-first_version_records c = sequence_records (universal 16) (lines certificate.components) (Some (codes "TBSCertificate")) (
+first_version_records c = sequence_records (universal 16) (rows certificate.components) (Some (codes "TBSCertificate")) (
     presence_mark (absent in_root (context 0)) ∷
     scalar (universal 2) unconstrained (Some (codes "INTEGER")) (number c.serial_number) ∷
     own_records algorithms.meaning c.signature ++

@@ -7,13 +7,13 @@ ghost use Rattle.asn1_x509.specs.OpenValues.{ParametersAreAccepted};
 use asn1_dec::{Decode, DecodeError, Decoder};
 use asn1_enc::{Encode, EncodeError, EncodeFields, Encoder};
 use asn1_slots::{
-    DecodeByIndex, Decoded, Tagging, decode_sequence_naming_errors, filled, optional, required,
+    DecodeByIndex, Decoded, Tagging, decode_sequence_naming_errors, optional, required,
 };
 use asn1_types::{
     Any, AsnType, Constraints, ConstructedType, Field, FieldTable, Identifier, Tag, TypeTable,
 };
 use asn1_values::ObjectIdentifier;
-use std::alloc::Global;
+use std::alloc::{AllocError, Global};
 
 /// An algorithm, and its parameters where it has any: an open type that may be absent.
 #[derive(PartialEq, Eq, Debug, Drop)]
@@ -32,9 +32,9 @@ impl DecodeByIndex for AlgorithmIdentifier {
         optional_slot (codes "parameters") (λ v. v.parameters) (λ s. s.1)
         (untagged ⟦<Any as AsnType>⟧.meaning) ⟦<Any as PartialEq>⟧.eq ∷ [] };
 
-    fn from_slots(_alloc: Global, slots: Self::Slots) -> Result<AlgorithmIdentifier, DecodeError> {
+    fn full(_alloc: Global, slots: Self::Slots) -> Result<AlgorithmIdentifier, AllocError> {
         Ok(AlgorithmIdentifier {
-            algorithm: filled(slots.0, "algorithm")?,
+            algorithm: slots.0.unwrap(),
             parameters: slots.1,
         })
     }
@@ -122,8 +122,8 @@ impl Decode for AlgorithmIdentifier {
     fn decode_with_tag_and_constraints<D: Decoder>(
         decoder: &mut D,
         tag: Tag,
-        _constraints: &Constraints<'_>,
+        constraints: &Constraints<'_>,
     ) -> Result<AlgorithmIdentifier, DecodeError> {
-        decode_sequence_naming_errors(decoder, tag)
+        decode_sequence_naming_errors(decoder, tag, constraints)
     }
 }

@@ -5,14 +5,12 @@ ghost use Rattle.asn1_types.specs.Words.{IsWellTagged, constructed_agrees, const
 
 use asn1_dec::{Decode, DecodeError, Decoder};
 use asn1_enc::{Encode, EncodeError, EncodeFields, Encoder};
-use asn1_slots::{
-    DecodeByIndex, Decoded, Tagging, decode_sequence_naming_errors, filled, required,
-};
+use asn1_slots::{DecodeByIndex, Decoded, Tagging, decode_sequence_naming_errors, required};
 use asn1_types::{
     Any, AsnType, Constraints, ConstructedType, Field, FieldTable, Identifier, Tag, TypeTable,
 };
 use asn1_values::ObjectIdentifier;
-use std::alloc::Global;
+use std::alloc::{AllocError, Global};
 
 /// One attribute of a name, as its country.
 #[derive(PartialEq, Eq, Debug, Drop)]
@@ -31,13 +29,10 @@ impl DecodeByIndex for AttributeTypeAndValue {
         required_slot (codes "value") (λ v. v.value) (λ s. s.1)
         (untagged ⟦<Any as AsnType>⟧.meaning) ⟦<Any as PartialEq>⟧.eq ∷ [] };
 
-    fn from_slots(
-        _alloc: Global,
-        slots: Self::Slots,
-    ) -> Result<AttributeTypeAndValue, DecodeError> {
+    fn full(_alloc: Global, slots: Self::Slots) -> Result<AttributeTypeAndValue, AllocError> {
         Ok(AttributeTypeAndValue {
-            attribute: filled(slots.0, "type")?,
-            value: filled(slots.1, "value")?,
+            attribute: slots.0.unwrap(),
+            value: slots.1.unwrap(),
         })
     }
 
@@ -124,8 +119,8 @@ impl Decode for AttributeTypeAndValue {
     fn decode_with_tag_and_constraints<D: Decoder>(
         decoder: &mut D,
         tag: Tag,
-        _constraints: &Constraints<'_>,
+        constraints: &Constraints<'_>,
     ) -> Result<AttributeTypeAndValue, DecodeError> {
-        decode_sequence_naming_errors(decoder, tag)
+        decode_sequence_naming_errors(decoder, tag, constraints)
     }
 }

@@ -10,14 +10,12 @@ use crate::algorithm_identifier::AlgorithmIdentifier;
 use crate::tbs_certificate::TbsCertificate;
 use asn1_dec::{Decode, DecodeError, Decoder};
 use asn1_enc::{Encode, EncodeError, EncodeFields, Encoder};
-use asn1_slots::{
-    DecodeByIndex, Decoded, Tagging, decode_sequence_naming_errors, filled, required,
-};
+use asn1_slots::{DecodeByIndex, Decoded, Tagging, decode_sequence_naming_errors, required};
 use asn1_types::{
     AsnType, Constraints, ConstructedType, Field, FieldTable, Identifier, Tag, TypeTable,
 };
 use asn1_values::BitString;
-use std::alloc::Global;
+use std::alloc::{AllocError, Global};
 
 /// A certificate: what is signed, how, and the signature.
 #[derive(PartialEq, Eq, Debug, Drop)]
@@ -44,11 +42,11 @@ impl DecodeByIndex for Certificate {
         required_slot (codes "signatureValue") (λ v. v.signature_value) (λ s. s.2)
         (untagged ⟦<BitString as AsnType>⟧.meaning) ⟦<BitString as PartialEq>⟧.eq ∷ [] };
 
-    fn from_slots(_alloc: Global, slots: Self::Slots) -> Result<Certificate, DecodeError> {
+    fn full(_alloc: Global, slots: Self::Slots) -> Result<Certificate, AllocError> {
         Ok(Certificate {
-            tbs_certificate: filled(slots.0, "tbsCertificate")?,
-            signature_algorithm: filled(slots.1, "signatureAlgorithm")?,
-            signature_value: filled(slots.2, "signatureValue")?,
+            tbs_certificate: slots.0.unwrap(),
+            signature_algorithm: slots.1.unwrap(),
+            signature_value: slots.2.unwrap(),
         })
     }
 
@@ -145,8 +143,8 @@ impl Decode for Certificate {
     fn decode_with_tag_and_constraints<D: Decoder>(
         decoder: &mut D,
         tag: Tag,
-        _constraints: &Constraints<'_>,
+        constraints: &Constraints<'_>,
     ) -> Result<Certificate, DecodeError> {
-        decode_sequence_naming_errors(decoder, tag)
+        decode_sequence_naming_errors(decoder, tag, constraints)
     }
 }

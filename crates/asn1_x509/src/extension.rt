@@ -6,14 +6,13 @@ ghost use Rattle.asn1_types.specs.Words.{IsWellTagged, constructed_agrees, const
 use asn1_dec::{Decode, DecodeError, Decoder};
 use asn1_enc::{Encode, EncodeError, EncodeFields, Encoder};
 use asn1_slots::{
-    DecodeByIndex, Decoded, Tagging, decode_sequence_naming_errors, filled, optional, or_default,
-    required,
+    DecodeByIndex, Decoded, Tagging, decode_sequence_naming_errors, optional, or_default, required,
 };
 use asn1_types::{
     AsnType, Constraints, ConstructedType, Field, FieldTable, Identifier, Tag, TypeTable,
 };
 use asn1_values::{ObjectIdentifier, OctetString};
-use std::alloc::Global;
+use std::alloc::{AllocError, Global};
 
 /// `Extensions ::= SEQUENCE SIZE (1..MAX) OF Extension`. The caller ensures that there is at least one.
 pub type Extensions = Vec<Extension>;
@@ -39,11 +38,11 @@ impl DecodeByIndex for Extension {
         required_slot (codes "extnValue") (λ v. v.value) (λ s. s.2)
         (untagged ⟦<OctetString as AsnType>⟧.meaning) ⟦<OctetString as PartialEq>⟧.eq ∷ [] };
 
-    fn from_slots(_alloc: Global, slots: Self::Slots) -> Result<Extension, DecodeError> {
+    fn full(_alloc: Global, slots: Self::Slots) -> Result<Extension, AllocError> {
         Ok(Extension {
-            extension_id: filled(slots.0, "extnID")?,
+            extension_id: slots.0.unwrap(),
             critical: or_default(slots.1, false),
-            value: filled(slots.2, "extnValue")?,
+            value: slots.2.unwrap(),
         })
     }
 
@@ -132,8 +131,8 @@ impl Decode for Extension {
     fn decode_with_tag_and_constraints<D: Decoder>(
         decoder: &mut D,
         tag: Tag,
-        _constraints: &Constraints<'_>,
+        constraints: &Constraints<'_>,
     ) -> Result<Extension, DecodeError> {
-        decode_sequence_naming_errors(decoder, tag)
+        decode_sequence_naming_errors(decoder, tag, constraints)
     }
 }

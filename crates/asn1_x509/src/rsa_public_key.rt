@@ -5,14 +5,12 @@ ghost use Rattle.asn1_types.specs.Words.{IsWellTagged, constructed_agrees, const
 
 use asn1_dec::{Decode, DecodeError, Decoder};
 use asn1_enc::{Encode, EncodeError, EncodeFields, Encoder};
-use asn1_slots::{
-    DecodeByIndex, Decoded, Tagging, decode_sequence_naming_errors, filled, required,
-};
+use asn1_slots::{DecodeByIndex, Decoded, Tagging, decode_sequence_naming_errors, required};
 use asn1_types::{
     AsnType, Constraints, ConstructedType, Field, FieldTable, Identifier, Tag, TypeTable,
 };
 use asn1_values::Integer;
-use std::alloc::Global;
+use std::alloc::{AllocError, Global};
 
 /// A key of RSA, which is inside the bits of a public key.
 #[derive(PartialEq, Eq, Debug, Drop)]
@@ -31,10 +29,10 @@ impl DecodeByIndex for RsaPublicKey {
         required_slot (codes "publicExponent") (λ v. v.public_exponent) (λ s. s.1)
         (untagged ⟦<Integer as AsnType>⟧.meaning) ⟦<Integer as PartialEq>⟧.eq ∷ [] };
 
-    fn from_slots(_alloc: Global, slots: Self::Slots) -> Result<RsaPublicKey, DecodeError> {
+    fn full(_alloc: Global, slots: Self::Slots) -> Result<RsaPublicKey, AllocError> {
         Ok(RsaPublicKey {
-            modulus: filled(slots.0, "modulus")?,
-            public_exponent: filled(slots.1, "publicExponent")?,
+            modulus: slots.0.unwrap(),
+            public_exponent: slots.1.unwrap(),
         })
     }
 
@@ -120,8 +118,8 @@ impl Decode for RsaPublicKey {
     fn decode_with_tag_and_constraints<D: Decoder>(
         decoder: &mut D,
         tag: Tag,
-        _constraints: &Constraints<'_>,
+        constraints: &Constraints<'_>,
     ) -> Result<RsaPublicKey, DecodeError> {
-        decode_sequence_naming_errors(decoder, tag)
+        decode_sequence_naming_errors(decoder, tag, constraints)
     }
 }

@@ -8,14 +8,12 @@ ghost use Rattle.asn1_x509.specs.OpenValues.{ParametersAreAccepted};
 use crate::algorithm_identifier::AlgorithmIdentifier;
 use asn1_dec::{Decode, DecodeError, Decoder};
 use asn1_enc::{Encode, EncodeError, EncodeFields, Encoder};
-use asn1_slots::{
-    DecodeByIndex, Decoded, Tagging, decode_sequence_naming_errors, filled, required,
-};
+use asn1_slots::{DecodeByIndex, Decoded, Tagging, decode_sequence_naming_errors, required};
 use asn1_types::{
     AsnType, Constraints, ConstructedType, Field, FieldTable, Identifier, Tag, TypeTable,
 };
 use asn1_values::BitString;
-use std::alloc::Global;
+use std::alloc::{AllocError, Global};
 
 /// A value of any type, with its signature.
 #[derive(PartialEq, Eq, Debug, Drop)]
@@ -39,11 +37,11 @@ impl<T: Decode> DecodeByIndex for Signed<T> {
         required_slot (codes "encrypted") (λ v. v.encrypted) (λ s. s.2)
         (untagged ⟦<BitString as AsnType>⟧.meaning) ⟦<BitString as PartialEq>⟧.eq ∷ [] };
 
-    fn from_slots(_alloc: Global, slots: Self::Slots) -> Result<Signed<T>, DecodeError> {
+    fn full(_alloc: Global, slots: Self::Slots) -> Result<Signed<T>, AllocError> {
         Ok(Signed {
-            to_be_signed: filled(slots.0, "toBeSigned")?,
-            algorithm_identifier: filled(slots.1, "algorithmIdentifier")?,
-            encrypted: filled(slots.2, "encrypted")?,
+            to_be_signed: slots.0.unwrap(),
+            algorithm_identifier: slots.1.unwrap(),
+            encrypted: slots.2.unwrap(),
         })
     }
 
@@ -138,8 +136,8 @@ impl<T: Decode> Decode for Signed<T> {
     fn decode_with_tag_and_constraints<D: Decoder>(
         decoder: &mut D,
         tag: Tag,
-        _constraints: &Constraints<'_>,
+        constraints: &Constraints<'_>,
     ) -> Result<Signed<T>, DecodeError> {
-        decode_sequence_naming_errors(decoder, tag)
+        decode_sequence_naming_errors(decoder, tag, constraints)
     }
 }

@@ -7,14 +7,12 @@ ghost use Rattle.asn1_x509.specs.OpenValues.{ParametersAreAccepted};
 use crate::algorithm_identifier::AlgorithmIdentifier;
 use asn1_dec::{Decode, DecodeError, Decoder};
 use asn1_enc::{Encode, EncodeError, EncodeFields, Encoder};
-use asn1_slots::{
-    DecodeByIndex, Decoded, Tagging, decode_sequence_naming_errors, filled, required,
-};
+use asn1_slots::{DecodeByIndex, Decoded, Tagging, decode_sequence_naming_errors, required};
 use asn1_types::{
     AsnType, Constraints, ConstructedType, Field, FieldTable, Identifier, Tag, TypeTable,
 };
 use asn1_values::BitString;
-use std::alloc::Global;
+use std::alloc::{AllocError, Global};
 
 /// A public key, and the algorithm that it is for.
 #[derive(PartialEq, Eq, Debug, Drop)]
@@ -33,10 +31,10 @@ impl DecodeByIndex for SubjectPublicKeyInfo {
         required_slot (codes "subjectPublicKey") (λ v. v.subject_public_key) (λ s. s.1)
         (untagged ⟦<BitString as AsnType>⟧.meaning) ⟦<BitString as PartialEq>⟧.eq ∷ [] };
 
-    fn from_slots(_alloc: Global, slots: Self::Slots) -> Result<SubjectPublicKeyInfo, DecodeError> {
+    fn full(_alloc: Global, slots: Self::Slots) -> Result<SubjectPublicKeyInfo, AllocError> {
         Ok(SubjectPublicKeyInfo {
-            algorithm: filled(slots.0, "algorithm")?,
-            subject_public_key: filled(slots.1, "subjectPublicKey")?,
+            algorithm: slots.0.unwrap(),
+            subject_public_key: slots.1.unwrap(),
         })
     }
 
@@ -123,8 +121,8 @@ impl Decode for SubjectPublicKeyInfo {
     fn decode_with_tag_and_constraints<D: Decoder>(
         decoder: &mut D,
         tag: Tag,
-        _constraints: &Constraints<'_>,
+        constraints: &Constraints<'_>,
     ) -> Result<SubjectPublicKeyInfo, DecodeError> {
-        decode_sequence_naming_errors(decoder, tag)
+        decode_sequence_naming_errors(decoder, tag, constraints)
     }
 }

@@ -30,15 +30,14 @@ use crate::validity::Validity;
 use asn1_dec::{Decode, DecodeError, Decoder};
 use asn1_enc::{Encode, EncodeError, EncodeFields, Encoder, encode_explicit_optional};
 use asn1_slots::{
-    DecodeByIndex, Decoded, Tagging, decode_sequence_naming_errors, filled, optional, or_default,
-    required,
+    DecodeByIndex, Decoded, Tagging, decode_sequence_naming_errors, optional, or_default, required,
 };
 use asn1_tags::tag;
 use asn1_types::{
     AsnType, Constraints, ConstructedType, Field, FieldTable, Identifier, Tag, TypeTable,
 };
 use asn1_values::{BitString, Integer};
-use std::alloc::Global;
+use std::alloc::{AllocError, Global};
 
 /// `Version ::= INTEGER { v1(0), v2(1), v3(2) }`
 pub type Version = Integer;
@@ -117,15 +116,15 @@ impl DecodeByIndex for TbsCertificate {
         optional_slot (codes "extensions") (λ v. v.extensions) (λ s. s.9)
         (explicitly_tagged (context 3) ⟦<Extensions as AsnType>⟧.meaning) ⟦<Extensions as PartialEq>⟧.eq ∷ [] };
 
-    fn from_slots(_alloc: Global, slots: Self::Slots) -> Result<TbsCertificate, DecodeError> {
+    fn full(_alloc: Global, slots: Self::Slots) -> Result<TbsCertificate, AllocError> {
         Ok(TbsCertificate {
             version: or_default(slots.0, Integer::from_i128(0)),
-            serial_number: filled(slots.1, "serialNumber")?,
-            signature: filled(slots.2, "signature")?,
-            issuer: filled(slots.3, "issuer")?,
-            validity: filled(slots.4, "validity")?,
-            subject: filled(slots.5, "subject")?,
-            subject_public_key_info: filled(slots.6, "subjectPublicKeyInfo")?,
+            serial_number: slots.1.unwrap(),
+            signature: slots.2.unwrap(),
+            issuer: slots.3.unwrap(),
+            validity: slots.4.unwrap(),
+            subject: slots.5.unwrap(),
+            subject_public_key_info: slots.6.unwrap(),
             issuer_unique_id: slots.7,
             subject_unique_id: slots.8,
             extensions: slots.9,
@@ -256,8 +255,8 @@ impl Decode for TbsCertificate {
     fn decode_with_tag_and_constraints<D: Decoder>(
         decoder: &mut D,
         tag: Tag,
-        _constraints: &Constraints<'_>,
+        constraints: &Constraints<'_>,
     ) -> Result<TbsCertificate, DecodeError> {
-        decode_sequence_naming_errors(decoder, tag)
+        decode_sequence_naming_errors(decoder, tag, constraints)
     }
 }

@@ -6,13 +6,11 @@ ghost use Rattle.asn1_types.specs.Words.{IsWellTagged, constructed_agrees, const
 use crate::time::Time;
 use asn1_dec::{Decode, DecodeError, Decoder};
 use asn1_enc::{Encode, EncodeError, EncodeFields, Encoder};
-use asn1_slots::{
-    DecodeByIndex, Decoded, Tagging, decode_sequence_naming_errors, filled, required,
-};
+use asn1_slots::{DecodeByIndex, Decoded, Tagging, decode_sequence_naming_errors, required};
 use asn1_types::{
     AsnType, Constraints, ConstructedType, Field, FieldTable, Identifier, Tag, TypeTable,
 };
-use std::alloc::Global;
+use std::alloc::{AllocError, Global};
 
 /// From when to when a certificate is valid.
 #[derive(PartialEq, Eq, Debug, Drop)]
@@ -31,10 +29,10 @@ impl DecodeByIndex for Validity {
         required_slot (codes "notAfter") (λ v. v.not_after) (λ s. s.1)
         (untagged ⟦<Time as AsnType>⟧.meaning) ⟦<Time as PartialEq>⟧.eq ∷ [] };
 
-    fn from_slots(_alloc: Global, slots: Self::Slots) -> Result<Validity, DecodeError> {
+    fn full(_alloc: Global, slots: Self::Slots) -> Result<Validity, AllocError> {
         Ok(Validity {
-            not_before: filled(slots.0, "notBefore")?,
-            not_after: filled(slots.1, "notAfter")?,
+            not_before: slots.0.unwrap(),
+            not_after: slots.1.unwrap(),
         })
     }
 
@@ -120,8 +118,8 @@ impl Decode for Validity {
     fn decode_with_tag_and_constraints<D: Decoder>(
         decoder: &mut D,
         tag: Tag,
-        _constraints: &Constraints<'_>,
+        constraints: &Constraints<'_>,
     ) -> Result<Validity, DecodeError> {
-        decode_sequence_naming_errors(decoder, tag)
+        decode_sequence_naming_errors(decoder, tag, constraints)
     }
 }

@@ -5,15 +5,13 @@ ghost use Rattle.asn1_types.specs.Words.{IsWellTagged, constructed_agrees, const
 
 use asn1_dec::{Decode, DecodeError, Decoder};
 use asn1_enc::{Encode, EncodeError, EncodeFields, Encoder};
-use asn1_slots::{
-    DecodeByIndex, Decoded, Tagging, decode_sequence_naming_errors, filled, required,
-};
+use asn1_slots::{DecodeByIndex, Decoded, Tagging, decode_sequence_naming_errors, required};
 use asn1_tags::tag;
 use asn1_types::{
     Any, AsnType, Constraints, ConstructedType, Field, FieldTable, Identifier, Tag, TypeTable,
 };
 use asn1_values::ObjectIdentifier;
-use std::alloc::Global;
+use std::alloc::{AllocError, Global};
 
 /// A name of a kind that has a name of its own.
 #[derive(PartialEq, Eq, Debug, Drop)]
@@ -34,10 +32,10 @@ impl DecodeByIndex for AnotherName {
         required_slot (codes "value") (λ v. v.value) (λ s. s.1)
         (explicitly_tagged (context 0) ⟦<Any as AsnType>⟧.meaning) ⟦<Any as PartialEq>⟧.eq ∷ [] };
 
-    fn from_slots(_alloc: Global, slots: Self::Slots) -> Result<AnotherName, DecodeError> {
+    fn full(_alloc: Global, slots: Self::Slots) -> Result<AnotherName, AllocError> {
         Ok(AnotherName {
-            type_id: filled(slots.0, "type-id")?,
-            value: filled(slots.1, "value")?,
+            type_id: slots.0.unwrap(),
+            value: slots.1.unwrap(),
         })
     }
 
@@ -124,8 +122,8 @@ impl Decode for AnotherName {
     fn decode_with_tag_and_constraints<D: Decoder>(
         decoder: &mut D,
         tag: Tag,
-        _constraints: &Constraints<'_>,
+        constraints: &Constraints<'_>,
     ) -> Result<AnotherName, DecodeError> {
-        decode_sequence_naming_errors(decoder, tag)
+        decode_sequence_naming_errors(decoder, tag, constraints)
     }
 }

@@ -22,7 +22,7 @@ use asn1_types::{
     AsnType, Constraints, ConstructedType, Field, FieldTable, Identifier, Tag, TypeTable,
 };
 use asn1_x509::CertificateSerialNumber;
-use std::alloc::Global;
+use std::alloc::{AllocError, Global};
 
 /// The key that an authority signed with.
 #[derive(PartialEq, Eq, Debug, Drop)]
@@ -55,10 +55,7 @@ impl DecodeByIndex for AuthorityKeyIdentifier {
         optional_slot (codes "authorityCertSerialNumber") (λ v. v.authority_cert_serial_number) (λ s. s.2)
         (tagged (context 2) ⟦<CertificateSerialNumber as AsnType>⟧.meaning) ⟦<CertificateSerialNumber as PartialEq>⟧.eq ∷ [] };
 
-    fn from_slots(
-        _alloc: Global,
-        slots: Self::Slots,
-    ) -> Result<AuthorityKeyIdentifier, DecodeError> {
+    fn full(_alloc: Global, slots: Self::Slots) -> Result<AuthorityKeyIdentifier, AllocError> {
         Ok(AuthorityKeyIdentifier {
             key_identifier: slots.0,
             authority_cert_issuer: slots.1,
@@ -176,8 +173,8 @@ impl Decode for AuthorityKeyIdentifier {
     fn decode_with_tag_and_constraints<D: Decoder>(
         decoder: &mut D,
         tag: Tag,
-        _constraints: &Constraints<'_>,
+        constraints: &Constraints<'_>,
     ) -> Result<AuthorityKeyIdentifier, DecodeError> {
-        decode_sequence_naming_errors(decoder, tag)
+        decode_sequence_naming_errors(decoder, tag, constraints)
     }
 }

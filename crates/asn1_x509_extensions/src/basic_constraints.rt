@@ -12,7 +12,7 @@ use asn1_slots::{
 use asn1_types::{
     AsnType, Constraints, ConstructedType, Field, FieldTable, Identifier, Tag, TypeTable,
 };
-use std::alloc::Global;
+use std::alloc::{AllocError, Global};
 
 /// Whether a certificate is that of an authority, and how many others may follow it.
 #[derive(PartialEq, Eq, Debug, Drop)]
@@ -31,7 +31,7 @@ impl DecodeByIndex for BasicConstraints {
         optional_slot (codes "pathLenConstraint") (λ v. v.path_length) (λ s. s.1)
         (untagged ⟦<PathLength as AsnType>⟧.meaning) ⟦<PathLength as PartialEq>⟧.eq ∷ [] };
 
-    fn from_slots(_alloc: Global, slots: Self::Slots) -> Result<BasicConstraints, DecodeError> {
+    fn full(_alloc: Global, slots: Self::Slots) -> Result<BasicConstraints, AllocError> {
         Ok(BasicConstraints {
             is_authority: or_default(slots.0, false),
             path_length: slots.1,
@@ -120,8 +120,8 @@ impl Decode for BasicConstraints {
     fn decode_with_tag_and_constraints<D: Decoder>(
         decoder: &mut D,
         tag: Tag,
-        _constraints: &Constraints<'_>,
+        constraints: &Constraints<'_>,
     ) -> Result<BasicConstraints, DecodeError> {
-        decode_sequence_naming_errors(decoder, tag)
+        decode_sequence_naming_errors(decoder, tag, constraints)
     }
 }

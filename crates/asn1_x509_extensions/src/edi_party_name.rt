@@ -6,14 +6,14 @@ ghost use Rattle.asn1_types.specs.Words.{IsWellTagged, constructed_agrees, const
 use asn1_dec::{Decode, DecodeError, Decoder};
 use asn1_enc::{Encode, EncodeError, EncodeFields, Encoder};
 use asn1_slots::{
-    DecodeByIndex, Decoded, Tagging, decode_sequence_naming_errors, filled, optional, required,
+    DecodeByIndex, Decoded, Tagging, decode_sequence_naming_errors, optional, required,
 };
 use asn1_tags::tag;
 use asn1_types::{
     AsnType, Constraints, ConstructedType, Field, FieldTable, Identifier, Tag, TypeTable,
 };
 use asn1_x509::DirectoryString;
-use std::alloc::Global;
+use std::alloc::{AllocError, Global};
 
 /// A party of electronic data interchange, and perhaps who named it.
 #[derive(PartialEq, Eq, Debug, Drop)]
@@ -36,10 +36,10 @@ impl DecodeByIndex for EdiPartyName {
         required_slot (codes "partyName") (λ v. v.party_name) (λ s. s.1)
         (tagged (context 1) ⟦<DirectoryString as AsnType>⟧.meaning) ⟦<DirectoryString as PartialEq>⟧.eq ∷ [] };
 
-    fn from_slots(_alloc: Global, slots: Self::Slots) -> Result<EdiPartyName, DecodeError> {
+    fn full(_alloc: Global, slots: Self::Slots) -> Result<EdiPartyName, AllocError> {
         Ok(EdiPartyName {
             name_assigner: slots.0,
-            party_name: filled(slots.1, "partyName")?,
+            party_name: slots.1.unwrap(),
         })
     }
 
@@ -133,8 +133,8 @@ impl Decode for EdiPartyName {
     fn decode_with_tag_and_constraints<D: Decoder>(
         decoder: &mut D,
         tag: Tag,
-        _constraints: &Constraints<'_>,
+        constraints: &Constraints<'_>,
     ) -> Result<EdiPartyName, DecodeError> {
-        decode_sequence_naming_errors(decoder, tag)
+        decode_sequence_naming_errors(decoder, tag, constraints)
     }
 }

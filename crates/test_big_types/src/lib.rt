@@ -1,2 +1,22 @@
 //! Types of the sizes that modules have, with no proof of their own.
-#![tactic(auto)]
+//!
+//! | Type | What it is |
+//! |---|---|
+//! | [`Address`] | a SEQUENCE of twelve strings |
+//! | [`Consignment`] | a SEQUENCE of fifteen components, with large types, options and defaults among them |
+//! | [`Member`], [`Reach`], [`Home`], [`Standing`] | a SEQUENCE with three groups of additions, and another addition |
+#![tactic(auto, using(asn1_schema::proofs::Trees::tree_shapes))]
+
+mod address;
+mod consignment;
+mod home;
+mod member;
+mod reach;
+mod standing;
+
+pub use address::{Address, address_is_well_tagged};
+pub use consignment::{Consignment, Strings, consignment_is_well_tagged};
+pub use home::Home;
+pub use member::{Member, member_is_well_tagged};
+pub use reach::Reach;
+pub use standing::Standing;

@@ -5,11 +5,11 @@ ghost use Rattle.std.specs.Prelude.{[], ◌∷◌, codes, refl};
 
 use asn1_dec::{Decode, DecodeError, Decoder};
 use asn1_enc::{Encode, EncodeError, EncodeFields, Encoder};
-use asn1_slots::{DecodeSetByIndex, Decoded, Tagging, decode_set_by_index, decode_unique, filled};
+use asn1_slots::{DecodeSetByIndex, Decoded, Tagging, decode_set_by_index, decode_unique, missing};
 use asn1_types::{
     AsnType, Constraints, ConstructedType, Field, FieldTable, Identifier, Tag, TypeTable,
 };
-use std::alloc::Global;
+use std::alloc::{AllocError, Global};
 use std::marker::PhantomData;
 
 /// A SET with a component that takes no byte.
@@ -24,10 +24,17 @@ impl DecodeSetByIndex for Hollow {
 
     ghost layout = { required_slot (codes "nothing") (λ h. h.nothing) (λ s. s.0) (untagged ⟦<PhantomData<u8> as AsnType>⟧.meaning) ⟦<PhantomData<u8> as PartialEq>⟧.eq ∷ [] };
 
-    fn from_slots(_alloc: Global, slots: Self::Slots) -> Result<Hollow, DecodeError> {
+    fn full(_alloc: Global, slots: Self::Slots) -> Result<Hollow, AllocError> {
         Ok(Hollow {
-            nothing: filled(slots.0, "nothing")?,
+            nothing: slots.0.unwrap(),
         })
+    }
+
+    fn missing_at(index: usize, slots: &Self::Slots) -> Option<&'static str> {
+        match index {
+            0 => missing(&slots.0, "nothing"),
+            _ => None,
+        }
     }
 
     fn decode_field<D: Decoder>(index: usize, slots: &mut Self::Slots, decoder: &mut D) -> Decoded {
@@ -36,10 +43,6 @@ impl DecodeSetByIndex for Hollow {
             _ => Ok(()),
         }
     }
-
-    ghost no_group = { refl };
-
-    ghost empty_at_first = { λ slots empty. empty };
 }
 
 impl FieldTable for Hollow {
@@ -102,8 +105,8 @@ impl Decode for Hollow {
     fn decode_with_tag_and_constraints<D: Decoder>(
         decoder: &mut D,
         tag: Tag,
-        _constraints: &Constraints<'_>,
+        constraints: &Constraints<'_>,
     ) -> Result<Hollow, DecodeError> {
-        decode_set_by_index(decoder, tag)
+        decode_set_by_index(decoder, tag, constraints)
     }
 }

@@ -8,7 +8,7 @@ ghost use Rattle.asn1_model.specs.ConstraintSets.{unconstrained};
 ghost use Rattle.asn1_model.specs.Meaning.{own_records, tags};
 ghost use Rattle.asn1_model.specs.Records.{open_type, holding, set_of};
 ghost use Rattle.asn1_model.specs.Tags.{universal, context, CHOICE, every};
-ghost use Rattle.asn1_components.specs.Components.{lines};
+ghost use Rattle.asn1_components.specs.Components.{rows};
 ghost use Rattle.asn1_types.specs.Multisets.{same_counts};
 ghost use Rattle.test_types.specs.TypeExamples.{ann_under, explicit_true, instance_of_true, sequence_of_true, set_of_true_and_false};
 
@@ -75,7 +75,7 @@ fn explicit_truth(truth: &Explicit<tag::SET, bool>)
 fn instance_of_truth(instance: &InstanceOf<bool>)
     ensures { instance.now.type_id ≡ 1 ∷ 2 ∷ [] → instance.now.value ≡ true →
         own_records ⟦<InstanceOf<bool> as AsnType>⟧.meaning instance.now ≡
-        instance_of_true (lines ⟦<InstanceOf<bool> as FieldTable>⟧.components) }
+        instance_of_true (rows ⟦<InstanceOf<bool> as FieldTable>⟧.components) }
 {}
 
 /// The tags that a wrapper may have: none that means no tag, and an implicit one no open type.

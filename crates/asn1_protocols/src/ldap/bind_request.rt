@@ -7,14 +7,12 @@ ghost use Rattle.asn1_types.specs.Words.{IsWellTagged, Range, application, const
 
 use asn1_dec::{Decode, DecodeError, Decoder};
 use asn1_enc::{Encode, EncodeError, EncodeFields, Encoder};
-use asn1_slots::{
-    DecodeByIndex, Decoded, Tagging, decode_sequence_naming_errors, filled, required,
-};
+use asn1_slots::{DecodeByIndex, Decoded, Tagging, decode_sequence_naming_errors, required};
 use asn1_types::{
     AsnType, Class, Constraints, ConstructedType, Field, FieldTable, Identifier, Tag, TypeTable,
 };
 use asn1_values::{ConstrainedInteger, OctetString};
-use std::alloc::Global;
+use std::alloc::{AllocError, Global};
 
 /// `INTEGER (1..127)`
 pub type Version = ConstrainedInteger<1, 127>;
@@ -51,11 +49,11 @@ impl DecodeByIndex for BindRequest {
         required_slot (codes "simple") (λ v. v.simple) (λ s. s.2)
         (tagged (context 0) ⟦<OctetString as AsnType>⟧.meaning) ⟦<OctetString as PartialEq>⟧.eq ∷ [] };
 
-    fn from_slots(_alloc: Global, slots: Self::Slots) -> Result<BindRequest, DecodeError> {
+    fn full(_alloc: Global, slots: Self::Slots) -> Result<BindRequest, AllocError> {
         Ok(BindRequest {
-            version: filled(slots.0, "version")?,
-            name: filled(slots.1, "name")?,
-            simple: filled(slots.2, "simple")?,
+            version: slots.0.unwrap(),
+            name: slots.1.unwrap(),
+            simple: slots.2.unwrap(),
         })
     }
 
@@ -145,8 +143,8 @@ impl Decode for BindRequest {
     fn decode_with_tag_and_constraints<D: Decoder>(
         decoder: &mut D,
         tag: Tag,
-        _constraints: &Constraints<'_>,
+        constraints: &Constraints<'_>,
     ) -> Result<BindRequest, DecodeError> {
-        decode_sequence_naming_errors(decoder, tag)
+        decode_sequence_naming_errors(decoder, tag, constraints)
     }
 }

@@ -1,16 +1,16 @@
 //! `ChildInformation ::= SET { name Name, dateOfBirth [0] Date }`
-ghost use Rattle.std.specs.Prelude.{[], codes, refl, ◌∷◌, List, Bool, ℕ};
+ghost use Rattle.std.specs.Prelude.{[], codes, ◌∷◌, List, Bool, ℕ};
 ghost use Rattle.asn1_slots.specs.Slots.{required_slot, set_of_slots};
 ghost use Rattle.asn1_types.specs.Words.{IsWellTagged, constructed_agrees, constructed_type, context, explicitly_tagged, untagged};
 
 use crate::personnel::{Date, Name};
 use asn1_dec::{Decode, DecodeError, Decoder};
 use asn1_enc::{Encode, EncodeError, EncodeFields, Encoder};
-use asn1_slots::{DecodeSetByIndex, Decoded, Tagging, decode_set_by_index, decode_unique, filled};
+use asn1_slots::{DecodeSetByIndex, Decoded, Tagging, decode_set_by_index, decode_unique, missing};
 use asn1_types::{
     AsnType, Class, Constraints, ConstructedType, Field, FieldTable, Identifier, Tag, TypeTable,
 };
-use std::alloc::Global;
+use std::alloc::{AllocError, Global};
 
 /// A child: a SET of two components.
 #[derive(PartialEq, Eq, Debug, Drop)]
@@ -34,11 +34,19 @@ impl DecodeSetByIndex for ChildInformation {
         required_slot (codes "dateOfBirth") (λ v. v.date_of_birth) (λ s. s.1)
         (explicitly_tagged (context 0) ⟦<Date as AsnType>⟧.meaning) ⟦<Date as PartialEq>⟧.eq ∷ [] };
 
-    fn from_slots(_alloc: Global, slots: Self::Slots) -> Result<ChildInformation, DecodeError> {
+    fn full(_alloc: Global, slots: Self::Slots) -> Result<ChildInformation, AllocError> {
         Ok(ChildInformation {
-            name: filled(slots.0, "name")?,
-            date_of_birth: filled(slots.1, "dateOfBirth")?,
+            name: slots.0.unwrap(),
+            date_of_birth: slots.1.unwrap(),
         })
+    }
+
+    fn missing_at(index: usize, slots: &Self::Slots) -> Option<&'static str> {
+        match index {
+            0 => missing(&slots.0, "name"),
+            1 => missing(&slots.1, "dateOfBirth"),
+            _ => None,
+        }
     }
 
     fn decode_field<D: Decoder>(index: usize, slots: &mut Self::Slots, decoder: &mut D) -> Decoded {
@@ -53,10 +61,6 @@ impl DecodeSetByIndex for ChildInformation {
             _ => Ok(()),
         }
     }
-
-    ghost no_group = { refl };
-
-    ghost empty_at_first = { λ slots empty. (empty.0, empty.1) };
 }
 
 impl FieldTable for ChildInformation {
@@ -136,8 +140,8 @@ impl Decode for ChildInformation {
     fn decode_with_tag_and_constraints<D: Decoder>(
         decoder: &mut D,
         tag: Tag,
-        _constraints: &Constraints<'_>,
+        constraints: &Constraints<'_>,
     ) -> Result<ChildInformation, DecodeError> {
-        decode_set_by_index(decoder, tag)
+        decode_set_by_index(decoder, tag, constraints)
     }
 }

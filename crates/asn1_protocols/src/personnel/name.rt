@@ -5,14 +5,12 @@ ghost use Rattle.asn1_types.specs.Words.{IsWellTagged, application, constructed_
 
 use asn1_dec::{Decode, DecodeError, Decoder};
 use asn1_enc::{Encode, EncodeError, EncodeFields, Encoder};
-use asn1_slots::{
-    DecodeByIndex, Decoded, Tagging, decode_sequence_naming_errors, filled, required,
-};
+use asn1_slots::{DecodeByIndex, Decoded, Tagging, decode_sequence_naming_errors, required};
 use asn1_types::{
     AsnType, Class, Constraints, ConstructedType, Field, FieldTable, Identifier, Tag, TypeTable,
 };
 use asn1_values::VisibleString;
-use std::alloc::Global;
+use std::alloc::{AllocError, Global};
 
 /// The name of a person.
 #[derive(PartialEq, Eq, Debug, Drop)]
@@ -45,11 +43,11 @@ impl DecodeByIndex for Name {
         required_slot (codes "familyName") (λ v. v.family_name) (λ s. s.2)
         (untagged ⟦<VisibleString as AsnType>⟧.meaning) ⟦<VisibleString as PartialEq>⟧.eq ∷ [] };
 
-    fn from_slots(_alloc: Global, slots: Self::Slots) -> Result<Name, DecodeError> {
+    fn full(_alloc: Global, slots: Self::Slots) -> Result<Name, AllocError> {
         Ok(Name {
-            given_name: filled(slots.0, "givenName")?,
-            initial: filled(slots.1, "initial")?,
-            family_name: filled(slots.2, "familyName")?,
+            given_name: slots.0.unwrap(),
+            initial: slots.1.unwrap(),
+            family_name: slots.2.unwrap(),
         })
     }
 
@@ -138,8 +136,8 @@ impl Decode for Name {
     fn decode_with_tag_and_constraints<D: Decoder>(
         decoder: &mut D,
         tag: Tag,
-        _constraints: &Constraints<'_>,
+        constraints: &Constraints<'_>,
     ) -> Result<Name, DecodeError> {
-        decode_sequence_naming_errors(decoder, tag)
+        decode_sequence_naming_errors(decoder, tag, constraints)
     }
 }

@@ -11,7 +11,7 @@
 //! }
 //! EmployeeNumber ::= [APPLICATION 2] IMPLICIT INTEGER
 //! ```
-ghost use Rattle.std.specs.Prelude.{[], codes, refl, ◌∷◌, ◌≡◌, List, Bool, ℕ};
+ghost use Rattle.std.specs.Prelude.{[], codes, ◌∷◌, ◌≡◌, List, Bool, ℕ};
 ghost use Rattle.asn1_slots.specs.Slots.{empty_list_slot, required_slot, set_of_slots};
 ghost use Rattle.asn1_types.specs.Words.{IsWellTagged, application, constructed_agrees, constructed_type_under, context, explicitly_tagged, number, tagged, untagged};
 
@@ -19,13 +19,13 @@ use crate::personnel::{ChildInformation, Date, Name};
 use asn1_dec::{Decode, DecodeError, Decoder};
 use asn1_enc::{Encode, EncodeError, EncodeFields, Encoder};
 use asn1_slots::{
-    DecodeSetByIndex, Decoded, Tagging, decode_set_by_index, decode_unique, filled, or_empty,
+    DecodeSetByIndex, Decoded, Tagging, decode_set_by_index, decode_unique, missing, or_empty,
 };
 use asn1_types::{
     AsnType, Class, Constraints, ConstructedType, Field, FieldTable, Identifier, Tag, TypeTable,
 };
 use asn1_values::{Integer, VisibleString};
-use std::alloc::Global;
+use std::alloc::{AllocError, Global};
 
 /// `SEQUENCE OF ChildInformation`
 pub type Children = Vec<ChildInformation>;
@@ -101,15 +101,26 @@ impl DecodeSetByIndex for PersonnelRecord {
         (tagged (context 3) ⟦<Children as AsnType>⟧.meaning) ⟦<ChildInformation as PartialEq>⟧.eq
         ⟦<Children as PartialEq>⟧.eq ∷ [] };
 
-    fn from_slots(alloc: Global, slots: Self::Slots) -> Result<PersonnelRecord, DecodeError> {
+    fn full(alloc: Global, slots: Self::Slots) -> Result<PersonnelRecord, AllocError> {
         Ok(PersonnelRecord {
-            name: filled(slots.0, "name")?,
-            title: filled(slots.1, "title")?,
-            number: filled(slots.2, "number")?,
-            date_of_hire: filled(slots.3, "dateOfHire")?,
-            name_of_spouse: filled(slots.4, "nameOfSpouse")?,
+            name: slots.0.unwrap(),
+            title: slots.1.unwrap(),
+            number: slots.2.unwrap(),
+            date_of_hire: slots.3.unwrap(),
+            name_of_spouse: slots.4.unwrap(),
             children: or_empty(alloc, slots.5),
         })
+    }
+
+    fn missing_at(index: usize, slots: &Self::Slots) -> Option<&'static str> {
+        match index {
+            0 => missing(&slots.0, "name"),
+            1 => missing(&slots.1, "title"),
+            2 => missing(&slots.2, "number"),
+            3 => missing(&slots.3, "dateOfHire"),
+            4 => missing(&slots.4, "nameOfSpouse"),
+            _ => None,
+        }
     }
 
     fn decode_field<D: Decoder>(index: usize, slots: &mut Self::Slots, decoder: &mut D) -> Decoded {
@@ -138,10 +149,6 @@ impl DecodeSetByIndex for PersonnelRecord {
             _ => Ok(()),
         }
     }
-
-    ghost no_group = { refl };
-
-    ghost empty_at_first = { λ slots empty. (empty.0, (empty.1, (empty.2, (empty.3, (empty.4, empty.5))))) };
 }
 
 impl FieldTable for PersonnelRecord {
@@ -238,8 +245,8 @@ impl Decode for PersonnelRecord {
     fn decode_with_tag_and_constraints<D: Decoder>(
         decoder: &mut D,
         tag: Tag,
-        _constraints: &Constraints<'_>,
+        constraints: &Constraints<'_>,
     ) -> Result<PersonnelRecord, DecodeError> {
-        decode_set_by_index(decoder, tag)
+        decode_set_by_index(decoder, tag, constraints)
     }
 }

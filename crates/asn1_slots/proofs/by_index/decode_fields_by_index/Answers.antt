@@ -2,5 +2,5 @@ use Rattle.asn1_slots.proofs.ReadByIndex.{made}
 use Rattle.asn1_slots.proofs.by_index.decode_fields_by_index.Goals as goal
 
 pub returns-in-Ok-clause-read : goal.returns-in-Ok-clause-read
-returns-in-Ok-clause-read g c = λ all v rest outer can of_type valid ends at.
-    made g.D.Decoder.reader g.C.DecodeByIndex.layout g.C.PartialEq.eq v _ _ _ _ _ _ (c.in-Ok.ensures.read all v rest outer can of_type valid ends at) c.from_slots.ensures.made
+returns-in-Ok-clause-read g c = λ v rest outer can of_type valid ends at.
+    made g.D.Decoder.reader g.C.DecodeByIndex.layout g.C.PartialEq.eq v _ _ _ _ _ _ (c.in-Ok.ensures.read v rest outer can of_type valid ends at) c.value_of_slots.ensures.made

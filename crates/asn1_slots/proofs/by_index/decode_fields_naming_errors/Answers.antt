@@ -1,14 +1,11 @@
-use Rattle.asn1_slots.proofs.NamedErrors.{fails_alike, of_slots}
+use Rattle.asn1_slots.proofs.NamedErrors.{fails_alike}
 use Rattle.asn1_slots.proofs.ReadByIndex.{made}
 use Rattle.asn1_slots.proofs.by_index.decode_fields_naming_errors.Goals as goal
 
 pub returns-in-Ok-clause-read : goal.returns-in-Ok-clause-read
-returns-in-Ok-clause-read g c = λ all v rest outer can of_type valid ends at.
-    made g.D.Decoder.reader g.C.DecodeByIndex.layout g.C.PartialEq.eq v _ _ _ _ _ _ (c.in-Ok.ensures.read all v rest outer can of_type valid ends at) c.from_slots.ensures.made
-
-pub returns-in-Ok-clause-named : goal.returns-in-Ok-clause-named
-returns-in-Ok-clause-named g c = of_slots g.C.DecodeByIndex.layout g.C.PartialEq.eq _ c.from_slots.result c.from_slots.ensures.made c.from_slots.ensures.missing
+returns-in-Ok-clause-read g c = λ v rest outer can of_type valid ends at.
+    made g.D.Decoder.reader g.C.DecodeByIndex.layout g.C.PartialEq.eq v _ _ _ _ _ _ (c.in-Ok.ensures.read v rest outer can of_type valid ends at) c.value_of_slots.ensures.made
 
 pub returns-in-Err-clause-read : goal.returns-in-Err-clause-read
-returns-in-Err-clause-read g c = λ all v rest outer can of_type valid ends at.
-    fails_alike _ _ _ _ c.in_component.ensures.same (c.in-Err.ensures.read all v rest outer can of_type valid ends at)
+returns-in-Err-clause-read g c = λ v rest outer can of_type valid ends at.
+    fails_alike _ _ _ _ c.in_component.ensures.same (c.in-Err.ensures.read v rest outer can of_type valid ends at)

@@ -5,7 +5,7 @@ use Rattle.asn1_components.specs.Following.{EndsApart}
 use Rattle.asn1_laws.specs.Reading.{Outside}
 use Rattle.asn1_model.specs.Records.{Record}
 use Rattle.asn1_slots.proofs.ReadByIndex.{ReadUpTo}
-use Rattle.asn1_slots.specs.Slots.{AreSlotsOf}
+use Rattle.asn1_slots.proofs.FilledSlots.{AreFilledBefore}
 use Rattle.asn1_slots.proofs.by_index.read_slots.Given as goal
 
 abbrev pub invariant-loop-index : goal.invariant-loop-index
@@ -14,7 +14,8 @@ invariant-loop-index g l =
     let cs = all_components g.C.FieldTable.components in
     record {
       same_depth : R.depth_left l.decoder ≡ R.depth_left l.fn.decoder;
-      way : AreSlotsOf cs g.C.DecodeByIndex.layout → (v : _) (rest : List Record) (outer : Outside) → CanBeInSequence cs → EachIsOfType cs v → EachIsValid cs R.accepts v → EndsApart cs rest →
+      filled : AreFilledBefore g.C.DecodeByIndex.layout l.index l.slots;
+      way : (v : _) (rest : List Record) (outer : Outside) → CanBeInSequence cs → EachIsOfType cs v → EachIsValid cs R.accepts v → EndsApart cs rest →
           R.remains l.fn.decoder (all_records cs v ++ rest, outer) →
           ReadUpTo R cs g.C.DecodeByIndex.layout l.index l.fn.decoder l.decoder l.slots v rest outer;
     }

@@ -5,22 +5,22 @@ use Rattle.asn1_laws.proofs.ReadingSetScopes.{inside_not_read, is_read, not_clos
 use Rattle.asn1_slots.proofs.set_by_index.read_components.Goals as goal
 
 pub returns-in_err-slots-clause-read : goal.returns-in_err-slots-clause-read
-returns-in_err-slots-clause-read g c = λ all.
+returns-in_err-slots-clause-read g c =
     let p = err_from_is_err_and c.from_residual-in_err-slots.result c.from_residual-in_err-slots.ensures.1 in
-    rw (p.1, p.2) (inside_not_read g.D.Decoder.reader c.args.tag g.S.FieldTable.components g.S.PartialEq.eq _ _ c.args.decoder.now c.args.decoder.now _ c.in_ok-bound.ensures.read c.in_ok-bound.ensures.takes_depth.one_less (c.in_err-slots.ensures.read all))
+    rw (p.1, p.2) (inside_not_read g.D.Decoder.reader c.args.tag g.S.FieldTable.components g.S.PartialEq.eq _ _ c.args.decoder.now c.args.decoder.now _ c.in_ok-bound.ensures.read c.in_ok-bound.ensures.takes_depth.one_less (c.in_err-slots.ensures.read))
 
 pub returns-in-Err-clause-read : goal.returns-in-Err-clause-read
-returns-in-Err-clause-read g c = λ all.
+returns-in-Err-clause-read g c =
     rw c.refuse.ensures.same (not_made g.D.Decoder.reader c.args.tag g.S.FieldTable.components g.S.PartialEq.eq _ _ _ c.args.decoder.now _ c.in_ok-bound.ensures.read
-    c.in_ok-slots.slots (λ v s. HoldBefore g.S.DecodeSetByIndex.layout (length g.S.DecodeSetByIndex.layout) s v) (c.in_ok-slots.ensures.read all) c.in-Err.ensures.made)
+    c.in_ok-slots.slots (λ v s. HoldBefore g.S.DecodeSetByIndex.layout (length g.S.DecodeSetByIndex.layout) s v) (c.in_ok-slots.ensures.read) c.in-Err.ensures.made)
 
 pub returns-in_err-close-clause-read : goal.returns-in_err-close-clause-read
-returns-in_err-close-clause-read g c = λ all.
+returns-in_err-close-clause-read g c =
     let p = err_from_is_err_and c.from_residual-in_err-close.result c.from_residual-in_err-close.ensures.1 in
     rw (p.1, p.2) (not_closed g.D.Decoder.reader c.args.tag g.S.FieldTable.components g.S.PartialEq.eq _ _ _ c.args.decoder.now _ c.in_ok-bound.ensures.read
-    c.in_ok-slots.slots (λ v s. HoldBefore g.S.DecodeSetByIndex.layout (length g.S.DecodeSetByIndex.layout) s v) (c.in_ok-slots.ensures.read all) c.in_err-close.ensures.read)
+    c.in_ok-slots.slots (λ v s. HoldBefore g.S.DecodeSetByIndex.layout (length g.S.DecodeSetByIndex.layout) s v) (c.in_ok-slots.ensures.read) c.in_err-close.ensures.read)
 
 pub returns-clause-read : goal.returns-clause-read
-returns-clause-read g c = λ all.
+returns-clause-read g c =
     is_read g.D.Decoder.reader c.args.tag g.S.FieldTable.components g.S.PartialEq.eq _ _ _ _ _ c.in_ok-bound.ensures.read
-    c.in_ok-slots.slots (λ v s. HoldBefore g.S.DecodeSetByIndex.layout (length g.S.DecodeSetByIndex.layout) s v) (c.in_ok-slots.ensures.read all) _ c.in_ok-bound.ensures.takes_depth.one_less c.in-Ok.ensures.made c.in_ok-close.ensures.read
+    c.in_ok-slots.slots (λ v s. HoldBefore g.S.DecodeSetByIndex.layout (length g.S.DecodeSetByIndex.layout) s v) (c.in_ok-slots.ensures.read) _ c.in_ok-bound.ensures.takes_depth.one_less c.in-Ok.ensures.made c.in_ok-close.ensures.read
