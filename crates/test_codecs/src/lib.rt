@@ -11,9 +11,12 @@
 //! | `recoding` | a value that goes from one codec to another |
 //! | `der_buffers` | what a buffer of DER sorts and rejects |
 //! | `der_decoder` | the order of a SET's elements, presence by the next tag, and long contents |
+//! | `big_types` | types of many components, through DER |
 //! | `price` | the first type of docs/USING.md, through packed bytes and DER |
 #![tactic(auto)]
 
+#[cfg(test)]
+mod big_types;
 #[cfg(test)]
 mod calls;
 #[cfg(test)]
