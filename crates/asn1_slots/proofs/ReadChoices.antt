@@ -1,5 +1,5 @@
 -- How a CHOICE is read by the index of its alternative.
-use Rattle.std.proofs.Common.{◌≡◌, ℕ, zero, suc, Bool, true, List, [], ◌∷◌, Result, Ok, Err, inl, inr, ◌∙◌, subst}
+use Rattle.std.proofs.Common.{◌≡◌, ◌<◌, ◌+◌, arith, length, ℕ, zero, suc, Bool, true, List, [], ◌∷◌, Result, Ok, Err, inl, inr, ◌∙◌, subst}
 use Rattle.std.specs.Prelude.{⊤}
 use Rattle.asn1_components.specs.Alternatives.{Alternative, CanBeChosen, Each, HaveDistinctTags, OneOf, chosen, chosen_meaning, trees_of}
 use Rattle.asn1_components.specs.ChosenTags.{LacksTag}
@@ -27,6 +27,12 @@ pub its_index : (alts : List Alternative) (x : OneOf alts) (t : Tag) → Each Ca
 its_index [] x t can has = absurd x
 its_index (a ∷ alts) (inl w) t can has = leaf_has a.type.tree t can.0.1 has
 its_index (a ∷ alts) (inr x) t can has = its_index alts x t can.1 has
+
+-- an index of a tag is within the cases
+pub is_within : {V : Type 0} (hs : List (Case V)) (index : ℕ) (t : Tag) → BeginsAt (trees_of (alternatives_of hs)) index t → index < length hs
+is_within [] index t at = absurd at
+is_within (h ∷ hs) zero t at = omega arith
+is_within (h ∷ hs) (suc index) t at = let less = is_within hs index t at in omega (arith, less)
 
 -- this alternative is chosen
 abbrev pub IsAt : (alts : List Alternative) → OneOf alts → ℕ → Type 0
@@ -97,4 +103,4 @@ module _ {D V : Type 0} (R : Reader D) (eq : V → V → Bool) (old new : D) (v 
   reads_chosen hs case_of index (Ok u) made t distinct can has at of_type valid reads =
       has_read u hs (case_of v) (case_of u) index (made v) (made u) (only_index (alternatives_of hs) (case_of v) index t distinct can has at) can of_type valid reads
   reads_chosen hs case_of index (Err e) made t distinct can has at of_type valid reads =
-      has_failed e hs (case_of v) index (only_index (alternatives_of hs) (case_of v) index t distinct can has at) can of_type valid reads
+      has_failed e hs (case_of v) index (only_index (alternatives_of hs) (case_of v) index t distinct can has at) can of_type valid (reads (is_within hs index t at))

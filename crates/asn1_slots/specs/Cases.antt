@@ -1,5 +1,5 @@
 -- The cases of a CHOICE: its alternatives, each with the values that are made of it.
-use Rattle.std.specs.Prelude.{◌≡◌, ℕ, zero, suc, ⊤, Bool, true, List, [], ◌∷◌, drop, take, Result, Ok, Err}
+use Rattle.std.specs.Prelude.{◌≡◌, ◌<◌, ℕ, zero, suc, ⊤, Bool, true, List, [], ◌∷◌, drop, length, take, Result, Ok, Err}
 use Rattle.std.proofs.Common.{inl, inr}
 use Rattle.asn1_components.specs.Alternatives.{Alternative, Alternatives, OneOf, alternative, all_of, closed, extensible, trees_of}
 use Rattle.asn1_laws.specs.Reading.{Reader}
@@ -59,11 +59,12 @@ module _ {V : Type 0} where
   FailsAt R (h ∷ hs) zero old new e = ReadsValueOf R h.type h.eq old new (Err e)
   FailsAt R (h ∷ hs) (suc index) old new e = FailsAt R hs index old new e
 
-  -- the call reads the alternative at this index
+  -- The call reads the alternative at this index. Where there is none it answers no value.
   abbrev pub ReadsCaseAt : {D : Type 0} → Reader D → (cases : List (Case V)) →
       (V → OneOf (alternatives_of cases)) → ℕ → D → D → Result V DecodeError → Type 0
   ReadsCaseAt R cases case_of index old new (Ok v) = HasReadAt R cases index old new (case_of v)
-  ReadsCaseAt R cases case_of index old new (Err e) = FailsAt R cases index old new e
+  ReadsCaseAt R cases case_of index old new (Err e) =
+      index < length cases → FailsAt R cases index old new e
 
   -- The value is made of the chosen alternative, and is equal to what is made of an equal one.
   abbrev pub IsMade : (V → V → Bool) → (cases : List (Case V)) → OneOf (alternatives_of cases) →

@@ -79,6 +79,9 @@ pub fn from_tag_by_index<T: DecodeChoiceByIndex + ChoiceType, D: Decoder>(
     ensures read { When (are_of_cases T.alternatives T.cases) (ReadsAlternative D.reader tag
         (choice_of_cases T.cases) T.case_of T.eq decoder.old decoder.new result) }
     ensures unknown { Each (LacksTag tag) (all_of T.alternatives) →
+        IsErrAnd result (λ e. reason e ≢ no_memory →
+        reason e ≡ no_valid_choice (unwrap_or T.meaning.name [])) }
+    ensures takes_no_memory { Each (LacksTag tag) (all_of T.alternatives) →
         IsErrAnd result (λ e. reason e ≡ no_valid_choice (unwrap_or T.meaning.name [])) }
     ensures same_depth { OnOk result (D.reader.depth_left decoder.new ≡
         D.reader.depth_left decoder.old) }
