@@ -7,7 +7,6 @@ pub use Rattle.asn1_fields.proofs as field_lemmas
 pub use Rattle.asn1_model.proofs as model_lemmas
 pub use Rattle.asn1_open.proofs as open_value_lemmas
 pub use Rattle.asn1_ranges.proofs as range_lemmas
-pub use Rattle.asn1_slots.proofs as slot_lemmas
 pub use Rattle.asn1_rules.proofs as rule_lemmas
 pub use Rattle.asn1_tags.proofs as tag_lemmas
 pub use Rattle.asn1_types.proofs as type_lemmas

@@ -12,7 +12,7 @@
 //! too. The crate re-exports each public name of the crates below, but the macro `tag!` of `asn1_tags`. It also re-exports each
 //! crate under one name: `values`, `tags`, `ranges`, `bounds`, `model`, `fields`,
 //! `components`, `types`, `codec_laws`, `enc`, `dec`, `slots`, `open_values` and `rules`. The definitions have the same names in
-//! `specs/Lib.antt`, and the lemmas have theirs in `proofs/Lib.antt`, as `slot_lemmas`. `laws` has the laws of this crate itself.
+//! `specs/Lib.antt`, and the lemmas have theirs in `proofs/Lib.antt`, as `law_lemmas`. `laws` has the laws of this crate itself.
 //! `Rattle.asn1_schema.specs.Words` has the words for the meaning of a type. `asn1_user_types` has types of each kind that name this
 //! crate alone.
 #![tactic(auto)]
