@@ -12,7 +12,8 @@ examples/certificates.
 
 Then it prints a line for each certificate, read and written: how many go in a second, how many by each form of plain Rust, and the
 ratios of the times; and the instructions for one, if valgrind is there. The time is that of the processor, the best of seven, less what
-it takes to start. The last lines are of all four together. Where Debian's librust-x509-cert-dev is there (it stands on
+it takes to start. Two lines are of all four together. The last ones have the instructions of canonical reading beside those of reading
+and of writing. Where Debian's librust-x509-cert-dev is there (it stands on
 librust-der-dev), its rate and the ratio to it are a last part of each line, and else a line says that it could not be built.
 """
 import glob
@@ -112,7 +113,7 @@ def instructions(words, path):
 
 def arguments(action, times):
     """The arguments by which a program does this as many times."""
-    return [str(times), "0"] if action == "read" else ["0", str(times)]
+    return [str(times) if action == other else "0" for other in ("read", "written", "read_canonical")]
 
 
 def microseconds(programs, action, path):
@@ -153,6 +154,15 @@ def line(what, costs, counts, certificates):
     print(text, flush=True)
 
 
+def count_canonical(program):
+    """Prints the instructions of canonical reading of each certificate, and those of reading and of writing it."""
+    for path in CERTIFICATES:
+        counts = {action: steps(program, action, path) for action in ("read", "written", "read_canonical")}
+        ratio = counts["read_canonical"] / counts["read"]
+        text = ", ".join(f"{action} {count:.0f}" for action, count in counts.items())
+        print(f"{os.path.basename(path)}: {text} instructions, {ratio:.2f} times those of reading", flush=True)
+
+
 def main():
     ours = os.path.abspath(sys.argv[1]) if len(sys.argv) > 1 else build_program()
     with tempfile.TemporaryDirectory() as folder:
@@ -171,6 +181,8 @@ def main():
                 all_costs = [total + cost for total, cost in zip(all_costs, costs)]
                 all_counts = [total + count for total, count in zip(all_counts, counts)]
             line(f"all, {action}", all_costs, all_counts, len(CERTIFICATES))
+        if shutil.which("valgrind"):
+            count_canonical(ours)
 
 
 main()

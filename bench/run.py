@@ -6,6 +6,7 @@ with the codecs over bytes, of which measure_codecs is the program, or with cert
     python3 bench/run.py --plain
     python3 bench/run.py --codecs
     python3 bench/run.py --codecs --values
+    python3 bench/run.py --codecs --canonical
     python3 bench/run.py --stack
     python3 bench/run.py --damage SECONDS
     python3 bench/run.py --growths
@@ -22,7 +23,8 @@ MB a second, the instructions for each byte, if valgrind is there, and the peak 
 runs out, as the codecs do, and of plain Rust that aborts then, with the ratio of the times. The time is that of the processor, the
 best of five, less what it takes to make the values. With --values it prints the instructions for each value of a list of 1000 and for
 each node of a chain of 200, those of plain Rust, and how many times as many. Reading a Badge in packed form is compared a third time,
-with plain Rust that makes a table of the tags of its CHOICE.
+with plain Rust that makes a table of the tags of its CHOICE. With --canonical it prints the instructions for each of these values of
+reading, of writing, and of canonical reading.
 
 The next prints for each type that holds itself how many nested scopes a stack of 8 MiB holds in writing, reading and dropping.
 The one after it damages the bytes of a value of each sample type for this long, by one seed after another. Then it refuses each
@@ -265,6 +267,17 @@ def count_job(folder, plain, job):
     print(f"{job[2]}, {job[0]}, {job[1]}: {ours:.0f}; plain Rust, {beside}", flush=True)
 
 
+def count_canonical():
+    """Prints the instructions of canonical reading for each value, and those of reading and of writing it."""
+    with tempfile.TemporaryDirectory() as folder:
+        for codec in CODECS:
+            for name, (count,) in COUNTED.items():
+                jobs = {action: [SPEED_PROGRAM, codec, action, name, str(count)] for action in ("read", "write", "canonical")}
+                counts = {action: cost(instructions_of, folder, words, 1) / count for action, words in jobs.items()}
+                text = ", ".join(f"{action} {steps:.0f}" for action, steps in counts.items())
+                print(f"{name}, {codec}: {text}; {counts['canonical'] / counts['read']:.2f} times reading", flush=True)
+
+
 def reaches(request, step):
     """Whether a request gets past a step on a stack of 8 MiB."""
     limit = lambda: resource.setrlimit(resource.RLIMIT_STACK, (8 << 20, 8 << 20))
@@ -399,6 +412,8 @@ def main():
         measure_certificates()
     if "--codecs" in sys.argv:
         build(SPEED)
+        if "--canonical" in sys.argv:
+            return count_canonical()
         return count_instructions() if "--values" in sys.argv else compare_codecs()
     if {"--stack", "--damage", "--growths", "--long"} & set(sys.argv):
         build(TRIALS)

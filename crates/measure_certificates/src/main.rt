@@ -1,23 +1,27 @@
 //! Reads a certificate and writes it again, over and over: what `bench/certificates.py` measures.
 //!
-//! Its DER comes on standard input. The first argument says how often it is read, the second how often it is written; then it is
-//! read and written once more. It writes how many bytes were written at last, and their checksum, or why there are none.
+//! Its DER comes on standard input. The first argument says how often it is read, the second how often it is written, and the third how
+//! often it is read by `read_canonical`; then it is read and written once more. It writes how many bytes were written at last, and their
+//! checksum, or why there are none.
 #![tactic(auto)]
 
 mod repeated;
 
-use repeated::repeated;
+use repeated::{Counts, repeated};
 use std::env;
 use std::io::{self, Read};
 
 fn main(rt: HostRuntime) -> io::Result<()> {
     let mut words = env::args(&rt)?;
     let _program = words.next();
-    let reads = number(words.next());
-    let writes = number(words.next());
+    let counts = Counts {
+        reads: number(words.next()),
+        writes: number(words.next()),
+        canonical_reads: number(words.next()),
+    };
     let mut input = Vec::new(rt.alloc());
     rt.reader().read_to_end(&mut input)?;
-    match repeated(rt.alloc(), &input, reads, writes) {
+    match repeated(rt.alloc(), &input, counts) {
         Ok(bytes) => println!(rt; "{} bytes, checksum {}", bytes.len(), checksum(&bytes)),
         Err(failure) => println!(rt; "{failure}"),
     }

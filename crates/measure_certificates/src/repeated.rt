@@ -6,7 +6,7 @@ ghost use Rattle.asn1_model.specs.Meaning.{own_records};
 use asn1_dec::DecodeError;
 use asn1_der::DerRules;
 use asn1_enc::EncodeError;
-use asn1_rules::Rules;
+use asn1_rules::{CanonicalError, Rules, read_canonical};
 use asn1_types::AsnType;
 use asn1_x509::Certificate;
 use std::alloc::Global;
@@ -24,23 +24,30 @@ pub(crate) enum Failure {
     /// The certificate was read, and is not written again.
     #[error("not written: {0}")]
     NotWritten(EncodeError),
+    /// The bytes are not read by `read_canonical`.
+    #[error("not read: {0}")]
+    NotCanonical(CanonicalError),
+}
+
+/// How often a certificate is read, written, and read by `read_canonical`.
+#[derive(Clone, Copy, Debug)]
+pub(crate) struct Counts {
+    pub(crate) reads: u32,
+    pub(crate) writes: u32,
+    pub(crate) canonical_reads: u32,
 }
 
 /// Reads a certificate and writes it again, each as often as is asked and then once more, and answers the bytes that were
 /// written at last: the DER of a certificate.
-pub(crate) fn repeated(
-    alloc: Global,
-    input: &Vec<u8>,
-    reads: u32,
-    writes: u32,
-) -> Result<Vec<u8>, Failure>
+pub(crate) fn repeated(alloc: Global, input: &Vec<u8>, counts: Counts) -> Result<Vec<u8>, Failure>
     ensures { IfOk result (λ bytes. (c : Certificate)
         × Carries bytes.items (own_records ⟦<Certificate as AsnType>⟧.meaning c)) }
 {
     let rules = DerRules::new(alloc);
-    read_times(&rules, input, reads)?;
+    read_times(&rules, input, counts.reads)?;
+    read_canonical_times(&rules, input, counts.canonical_reads)?;
     let certificate = read(&rules, input)?;
-    write_times(&rules, &certificate, writes)?;
+    write_times(&rules, &certificate, counts.writes)?;
     written(&rules, &certificate)
 }
 
@@ -48,6 +55,17 @@ pub(crate) fn repeated(
 fn read_times(rules: &DerRules, input: &Vec<u8>, times: u32) -> Result<(), Failure> {
     for _time in 0..times {
         let _certificate = read(rules, input)?;
+    }
+    Ok(())
+}
+
+/// Reads a certificate by `read_canonical` this many times.
+fn read_canonical_times(rules: &DerRules, input: &Vec<u8>, times: u32) -> Result<(), Failure> {
+    for _time in 0..times {
+        match read_canonical::<Certificate, DerRules>(rules, input, MAX_DEPTH) {
+            Ok(_certificate) => {}
+            Err(error) => return Err(Failure::NotCanonical(error)),
+        }
     }
     Ok(())
 }

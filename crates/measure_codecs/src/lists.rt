@@ -3,7 +3,7 @@ use crate::numbered::{Numbered, list};
 use crate::request::Request;
 use asn1_dec::Decode;
 use asn1_enc::Encode;
-use asn1_rules::Rules;
+use asn1_rules::{CanonicalError, Rules, read_canonical};
 use asn1_samples::{Badge, Person, Profile};
 use std::alloc::Global;
 use std::io;
@@ -74,6 +74,7 @@ fn repeated<T: Encode + Decode, R: Rules<Output = Vec<u8>>>(
     for _time in 0..request.number(4) {
         match request.word(1) {
             "read" => is_read::<T, R>(rules, &bytes)?,
+            "canonical" => is_canonical::<T, R>(rules, &bytes)?,
             _ => is_written(rules, value)?,
         }
     }
@@ -106,6 +107,19 @@ fn is_read<T: Decode, R: Rules<Output = Vec<u8>>>(
     match rules.read_value::<T>(bytes, usize::MAX) {
         Ok(_) => Ok(()),
         Err(error) => Err(Failure::of_reading(error)),
+    }
+}
+
+/// Whether a value is read of the very bytes that writing it makes.
+fn is_canonical<T: Encode + Decode, R: Rules<Output = Vec<u8>>>(
+    rules: &R,
+    bytes: &Vec<u8>,
+) -> Result<(), Failure> {
+    match read_canonical::<T, R>(rules, bytes, usize::MAX) {
+        Ok(_) => Ok(()),
+        Err(CanonicalError::Read(error)) => Err(Failure::of_reading(error)),
+        Err(CanonicalError::Write(error)) => Err(Failure::of_writing(error)),
+        Err(CanonicalError::NotCanonical { at: _ }) => Err(Failure::Another),
     }
 }
 

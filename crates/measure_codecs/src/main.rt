@@ -5,6 +5,7 @@
 //! |---|---|---|
 //! | `packed write LIST COUNT TIMES` | writes a list of this many values this many times | the number of its bytes, and their checksum |
 //! | `packed read LIST COUNT TIMES` | writes the same list once, and reads it this many times | the same |
+//! | `packed canonical LIST COUNT TIMES` | writes the same list once, and reads it by `read_canonical` this many times | the same |
 //! | `append TOTAL SIZE WHEN` | appends this many bytes in pieces of this size, and takes blocks of 1000 of them | the number of blocks |
 //!
 //! `LIST` is `person`, `profile` or `badge`, or `node` for a chain of `COUNT` nodes, which is written and read as a list is.
