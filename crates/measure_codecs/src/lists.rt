@@ -3,7 +3,7 @@ use crate::numbered::{Numbered, list};
 use crate::request::Request;
 use asn1_dec::Decode;
 use asn1_enc::Encode;
-use asn1_rules::{CanonicalError, Rules, read_canonical};
+use asn1_rules::{Rules, read_canonical};
 use asn1_samples::{Badge, Person, Profile};
 use std::alloc::Global;
 use std::io;
@@ -117,9 +117,7 @@ fn is_canonical<T: Encode + Decode, R: Rules<Output = Vec<u8>>>(
 ) -> Result<(), Failure> {
     match read_canonical::<T, R>(rules, bytes, usize::MAX) {
         Ok(_) => Ok(()),
-        Err(CanonicalError::Read(error)) => Err(Failure::of_reading(error)),
-        Err(CanonicalError::Write(error)) => Err(Failure::of_writing(error)),
-        Err(CanonicalError::NotCanonical { at: _ }) => Err(Failure::Another),
+        Err(error) => Err(Failure::of_canonical_reading(error)),
     }
 }
 

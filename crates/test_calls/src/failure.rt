@@ -2,10 +2,12 @@
 ghost use Rattle.test_calls.specs.declared.failure.Failure.TheVariants.{Another, Memory, NotRead, NotWritten};
 ghost use Rattle.asn1_laws.specs.declared.decode_error.DecodeError.TheVariants as reading;
 ghost use Rattle.asn1_laws.specs.declared.encode_error.EncodeError.TheVariants as writing;
-ghost use Rattle.std.specs.Prelude.{◌≡◌, ◌≢◌};
+ghost use Rattle.asn1_rules.specs.declared.canonical.CanonicalError.TheVariants as canonical;
+ghost use Rattle.std.specs.Prelude.{◌≡◌, ◌≢◌, ℕ};
 
 use asn1_dec::DecodeError;
 use asn1_enc::EncodeError;
+use asn1_rules::CanonicalError;
 use std::alloc::AllocError;
 
 /// Why a case of a codec fails.
@@ -43,6 +45,19 @@ impl Failure {
         match error {
             DecodeError::Memory => Failure::Memory,
             other => Failure::NotRead(other),
+        }
+    }
+
+    /// Why a case fails whose output was not read as what is written again.
+    pub fn of_canonical_reading(error: CanonicalError) -> Failure
+        ensures no_memory_to_read { error ≡ canonical.Read reading.Memory → result ≡ Memory }
+        ensures no_memory_to_write { error ≡ canonical.Write writing.Memory → result ≡ Memory }
+        ensures other_bytes { (at : ℕ) → error ≡ canonical.NotCanonical at → result ≡ Another }
+    {
+        match error {
+            CanonicalError::Read(error) => Failure::of_reading(error),
+            CanonicalError::Write(error) => Failure::of_writing(error),
+            CanonicalError::NotCanonical { at: _ } => Failure::Another,
         }
     }
 }

@@ -9,11 +9,12 @@ use asn1_rules::{FrontReader, Pieces, read_pieces, write_list};
 use asn1_tagform::TagRules;
 use test_calls::{Codec, Failure, is_same};
 
-/// Whether a value comes back, is written in a list, and comes out of two pieces.
+/// Whether a value comes back, also as what is written again, is written in a list, and comes out of two pieces.
 pub(crate) fn try_growths<T: Encode + Decode>(
     trial: &Trial<'_>,
     value: T,
 ) -> Result<Report, Failure> {
+    is_canonical(trial, &value)?;
     let values = twice(trial, value)?;
     let bytes = list_of(trial, &values)?;
     are_one_after_another(trial, &values, &bytes)?;
@@ -32,6 +33,18 @@ pub(crate) fn try_pieces<T: Encode + Decode>(
         come_out_of_pieces(trial, &values, &bytes, position)?;
     }
     Ok(Report::ComesBack)
+}
+
+/// Whether a value is read back if writing it makes the same bytes.
+fn is_canonical<T: Encode + Decode>(trial: &Trial<'_>, value: &T) -> Result<(), Failure> {
+    let bytes = trial.written(value)?;
+    match trial
+        .codec
+        .read_canonical::<T>(trial.alloc, &bytes, trial.depth)
+    {
+        Ok(back) => is_same(&back, value),
+        Err(error) => Err(Failure::of_canonical_reading(error)),
+    }
 }
 
 /// A list of a value and of what comes back of it, which has to be the same.

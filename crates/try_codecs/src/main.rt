@@ -4,7 +4,7 @@
 //! | Words | Work | Answer |
 //! |---|---|---|
 //! | `damage SEED` | the bytes of the value are damaged, 300 times, and read; what is read is written and read again | `comes back` |
-//! | `growths -` | the value is written and read, alone, in a list, and out of two pieces | `comes back`, or `no memory` |
+//! | `growths -` | the value is written and read, alone, by `read_canonical`, in a list, and out of two pieces | `comes back`, or `no memory` |
 //! | `pieces -` | two values come out of two pieces, wherever their bytes are cut | `comes back` |
 //! | `begun -` | each beginning of the bytes is read | the number of beginnings that are too short, which all have to be |
 //! | `changed -` | each byte of the bytes is replaced by each byte; what is read has to be written as these bytes | the places at which not one byte alone makes a value, with the number of those bytes |
