@@ -1,7 +1,7 @@
 //! `Hollow ::= SET { nothing NULL }`, whose component is written as nothing.
 ghost use Rattle.asn1_slots.specs.Slots.{required_slot, set_of_slots};
 ghost use Rattle.asn1_types.specs.Words.{constructed_agrees, constructed_type, untagged};
-ghost use Rattle.std.specs.Prelude.{[], ◌∷◌, codes, refl};
+ghost use Rattle.std.specs.Prelude.{[], ◌∷◌, codes};
 
 use asn1_dec::{Decode, DecodeError, Decoder};
 use asn1_enc::{Encode, EncodeError, EncodeFields, Encoder};
