@@ -362,8 +362,8 @@ pub trait Decoder: Sized {
         self.decode_string::<u16, Bmp>(tag, constraints)
     }
 
-    /// A value of an ENUMERATED type, by its number. So it keeps the contract of [`Decode`] for the type, under whatever
-    /// constraints (`value`, `after_reading`).
+    /// A value of an ENUMERATED type, by its number. So it keeps the contract of [`Decode`] for the type: the value is read under no
+    /// constraints (`value`), and the decoder is left as reading under whatever constraints leaves it (`after_reading`).
     #[inline(always)]
     final fn decode_enumerated<E: Enumerated>(&mut self, tag: Tag) -> Result<E, DecodeError>
         ensures read { ReadsContent reader tag unconstrained

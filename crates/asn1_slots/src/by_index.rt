@@ -88,7 +88,7 @@ fn value_of_slots<C: DecodeByIndex>(alloc: Global, slots: C::Slots) -> Result<C,
 }
 
 /// Reads all components, with errors as they are: what [`asn1_dec::DecodeFields::decode_fields`] of a SEQUENCE or a group of
-/// additions calls. The layout is that of the type's components. A success leaves the depth as it was (`same_depth`). An error of a
+/// additions calls. It requires that the layout is that of the type's components. A success leaves the depth as it was (`same_depth`). An error of a
 /// component is answered as its call answers it, without a name; that it is the same is tested.
 #[inline(always)]
 pub fn decode_fields_by_index<C: DecodeByIndex + FieldTable, D: Decoder>(
@@ -144,9 +144,9 @@ fn read_sequence<S: DecodeByIndex + FieldTable, D: Decoder>(
     Ok(value)
 }
 
-/// Reads a SEQUENCE, by its components, one after another, and answers an error of a component with its name. The layout is that of
-/// the type's components. So the call keeps the contract of [`asn1_dec::Decode`] (`read`, `after_reading`), under whatever
-/// constraints. The error is [`DecodeError::Depth`] if no depth is left, before anything but `Failed` (`depth_first`). An error
+/// Reads a SEQUENCE, by its components, one after another, and answers an error of a component with its name. It requires that the
+/// layout is that of the type's components, and that these are of a SEQUENCE. It reads the components under the tag
+/// (`components`), and keeps the contract of [`asn1_dec::Decode`] under whatever constraints (`read`, `after_reading`). The error is [`DecodeError::Depth`] if no depth is left, before anything but `Failed` (`depth_first`). An error
 /// makes the decoder failed, a failed decoder answers [`DecodeError::Failed`], and a success keeps the depth left (`keeps_depth`).
 /// A type whose errors stay as they are implements `decode_fields` of [`asn1_dec::DecodeFields`] by [`decode_fields_by_index`],
 /// and is read by [`Decoder::decode_sequence`].
@@ -161,6 +161,8 @@ pub fn decode_sequence_naming_errors<S: DecodeByIndex + ConstructedType, D: Deco
 ) -> Result<S, DecodeError>
     requires laid_out { IsLayoutOf S.components S.layout }
     requires kind { S.components.kind ≡ is_sequence }
+    ensures components { ReadsComponents D.reader is_sequence tag S.components S.eq decoder.old
+        decoder.new result }
     ensures read { ReadsValue D.reader S.meaning S.eq tag (constraint_set constraints.now)
         decoder.old decoder.new result }
     ensures after_reading { AfterReading D.reader S.meaning tag (constraint_set constraints.now)

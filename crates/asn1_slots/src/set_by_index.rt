@@ -182,9 +182,9 @@ fn read_components<S: DecodeSetByIndex + FieldTable, D: Decoder>(
     Ok(value)
 }
 
-/// Reads a SET, by its components, in whatever order they come. The layout is that of the type's components, none of which is a
-/// group, and the slots are empty at first. So the call keeps the contract of [`asn1_dec::Decode`] (`read`, `after_reading`), under
-/// whatever constraints. The error is [`DecodeError::Depth`] if no depth is left, before anything but `Failed` (`depth_first`). An
+/// Reads a SET, by its components, in whatever order they come. It requires that the layout is that of the type's components,
+/// which are of a SET and none of which is a group, and that the slots are empty at first. It reads the components under the tag
+/// (`components`), and keeps the contract of [`asn1_dec::Decode`] under whatever constraints (`read`, `after_reading`). The error is [`DecodeError::Depth`] if no depth is left, before anything but `Failed` (`depth_first`). An
 /// error makes the decoder failed, a failed decoder answers [`DecodeError::Failed`], and a success keeps the depth left
 /// (`keeps_depth`).
 ///
@@ -202,6 +202,8 @@ pub fn decode_set_by_index<S: DecodeSetByIndex + ConstructedType, D: Decoder>(
     requires kind { S.components.kind ≡ is_set }
     requires no_group { has_no_group S.layout ≡ true }
     requires empty_at_first { (s : S.Slots) → S.Slots.Default.is_default s → AreEmpty S.layout s }
+    ensures components { ReadsComponents D.reader is_set tag S.components S.eq decoder.old
+        decoder.new result }
     ensures read { ReadsValue D.reader S.meaning S.eq tag (constraint_set constraints.now)
         decoder.old decoder.new result }
     ensures after_reading { AfterReading D.reader S.meaning tag (constraint_set constraints.now)
