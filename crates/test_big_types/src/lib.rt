@@ -5,18 +5,24 @@
 //! | [`Address`] | a SEQUENCE of twelve strings |
 //! | [`Consignment`] | a SEQUENCE of fifteen components, with large types, options and defaults among them |
 //! | [`Member`], [`Reach`], [`Home`], [`Standing`] | a SEQUENCE with three groups of additions, and another addition |
+//! | [`Measurement`] | a CHOICE of 25 alternatives |
+//! | [`Element`] | an ENUMERATED of 46 items |
 #![tactic(auto, using(asn1_schema::proofs::Trees::tree_shapes))]
 
 mod address;
 mod consignment;
+mod element;
 mod home;
+mod measurement;
 mod member;
 mod reach;
 mod standing;
 
 pub use address::{Address, address_is_well_tagged};
 pub use consignment::{Consignment, Strings, consignment_is_well_tagged};
+pub use element::{Element, element_is_well_tagged};
 pub use home::Home;
+pub use measurement::{Measurement, measurement_is_well_tagged};
 pub use member::{Member, member_is_well_tagged};
 pub use reach::Reach;
 pub use standing::Standing;

@@ -1,4 +1,4 @@
-//! Types of many components, through DER: the bytes are those of X.690, written by another program.
+//! Types of many components, alternatives and items, through DER: the bytes are those of X.690, written by another program.
 use crate::cases::assert_bytes;
 use asn1_dec::Decode;
 use asn1_der::DerRules;
@@ -6,7 +6,7 @@ use asn1_enc::Encode;
 use asn1_rules::Rules;
 use std::alloc::Global;
 use std::process::Abort;
-use test_big_types::{Address, Consignment, Member};
+use test_big_types::{Address, Consignment, Element, Measurement, Member};
 
 /// An address with three empty strings.
 const ADDRESS: &[u8] = &[
@@ -69,4 +69,14 @@ fn types_of_many_components_come_back(rt: HostRuntime) {
     assert_comes_back::<Consignment>(&rt, alloc, WHOLE_CONSIGNMENT);
     assert_comes_back::<Member>(&rt, alloc, MEMBER);
     assert_comes_back::<Member>(&rt, alloc, MEMBER_OF_ONE_GROUP);
+}
+
+#[test]
+fn types_of_many_alternatives_and_items_come_back(rt: HostRuntime) {
+    let alloc = rt.alloc();
+    assert_comes_back::<Measurement>(&rt, alloc, &[0x80, 0x01, 0x15]);
+    assert_comes_back::<Measurement>(&rt, alloc, &[0x8d, 0x01, 0xff]);
+    assert_comes_back::<Measurement>(&rt, alloc, &[0x98, 0x03, 0x2a, 0x86, 0x48]);
+    assert_comes_back::<Element>(&rt, alloc, &[0x0a, 0x01, 0x01]);
+    assert_comes_back::<Element>(&rt, alloc, &[0x0a, 0x01, 0x2e]);
 }

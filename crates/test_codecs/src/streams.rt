@@ -149,13 +149,7 @@ fn assert_read_wherever_cut(rt: &impl Abort, alloc: Global, persons: &[Person]) 
 fn assert_read_of_der_wherever_cut(rt: &impl Abort, alloc: Global, persons: &[Person]) {
     let bytes = write_list(alloc, &DerRules::new(alloc), persons, 1).expect(rt, "memory");
     for cut in 0..=bytes.len() {
-        assert_read(
-            rt,
-            alloc,
-            DerReader::new(alloc, 1),
-            persons,
-            (&bytes, cut),
-        );
+        assert_read(rt, alloc, DerReader::new(alloc, 1), persons, (&bytes, cut));
     }
 }
 
