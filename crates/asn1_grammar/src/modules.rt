@@ -1,0 +1,187 @@
+//! Modules.
+use crate::assignments::{parse_assignment, skip_assignment};
+use crate::cursor::Cursor;
+use crate::error::{Expected, Fault, Owner, SyntaxError};
+use crate::parsed::MAX_DEPTH;
+use crate::values::parse_value;
+use asn1_notation::{Assignment, Exports, Import, Module, Span, TagDefault, Value};
+use asn1_tokens::TokenKind;
+
+// The parts of a module before its exports.
+#[derive(Drop)]
+struct Header {
+    name: Span,
+    identifier: Option<Value>,
+    tagging: TagDefault,
+    is_extensible: bool,
+}
+
+/// Reads a module. Errors in its definitions are added to the list, and the definitions left out.
+pub(crate) fn parse_module(
+    cursor: &mut Cursor<'_>,
+    errors: &mut Vec<SyntaxError>,
+) -> Result<Module, Fault> {
+    let header = parse_header(cursor)?;
+    let exports = exports(cursor)?;
+    let imports = imports(cursor)?;
+    let assignments = assignments(cursor, errors)?;
+    if !cursor.accept_word(b"END") {
+        return Err(cursor.expected_after(Expected::Definition, Owner::Module, header.name));
+    }
+    let Header {
+        name,
+        identifier,
+        tagging,
+        is_extensible,
+    } = header;
+    Ok(Module {
+        name,
+        identifier,
+        tagging,
+        is_extensible,
+        exports,
+        imports,
+        assignments,
+    })
+}
+
+// Reads a module up to BEGIN.
+fn parse_header(cursor: &mut Cursor<'_>) -> Result<Header, Fault> {
+    let name = cursor.type_name(Expected::ModuleName)?;
+    let identifier = module_identifier(cursor)?;
+    if !cursor.accept_word(b"DEFINITIONS") {
+        return Err(cursor.expected_after(Expected::Definitions, Owner::Module, name));
+    }
+    let tagging = tag_default(cursor)?;
+    let is_extensible = cursor.accept_word(b"EXTENSIBILITY");
+    if is_extensible {
+        cursor.expect_word(b"IMPLIED", Expected::Implied)?;
+    }
+    cursor.expect_symbol(b"::=", Expected::Assignment)?;
+    cursor.expect_word(b"BEGIN", Expected::Begin)?;
+    Ok(Header {
+        name,
+        identifier,
+        tagging,
+        is_extensible,
+    })
+}
+
+// Reads the object identifier of a module, if there is one.
+fn module_identifier(cursor: &mut Cursor<'_>) -> Result<Option<Value>, Fault> {
+    if !cursor.sees_symbol(b"{") {
+        return Ok(None);
+    }
+    let value = parse_value(cursor, MAX_DEPTH)?;
+    Ok(Some(value))
+}
+
+// Reads how types are tagged.
+fn tag_default(cursor: &mut Cursor<'_>) -> Result<TagDefault, Fault> {
+    let tagging = if cursor.accept_word(b"EXPLICIT") {
+        TagDefault::Explicit
+    } else if cursor.accept_word(b"IMPLICIT") {
+        TagDefault::Implicit
+    } else if cursor.accept_word(b"AUTOMATIC") {
+        TagDefault::Automatic
+    } else {
+        return Ok(TagDefault::Explicit);
+    };
+    cursor.expect_word(b"TAGS", Expected::Tags)?;
+    Ok(tagging)
+}
+
+// Reads the names that other modules may use.
+fn exports(cursor: &mut Cursor<'_>) -> Result<Exports, Fault> {
+    if !cursor.accept_word(b"EXPORTS") {
+        return Ok(Exports::All);
+    }
+    if cursor.accept_word(b"ALL") {
+        cursor.expect_symbol(b";", Expected::Semicolon)?;
+        return Ok(Exports::All);
+    }
+    let names = names(cursor)?;
+    cursor.expect_symbol(b";", Expected::SemicolonOrComma)?;
+    Ok(Exports::Names(names))
+}
+
+// Reads names between commas, up to another token. There may be none.
+fn names(cursor: &mut Cursor<'_>) -> Result<Vec<Span>, Fault> {
+    let mut names = Vec::new(cursor.alloc());
+    if cursor.sees_symbol(b";") {
+        return Ok(names);
+    }
+    for _ in 0..cursor.len() {
+        let name = any_name(cursor)?;
+        names.push(name)?;
+        if !cursor.accept_symbol(b",") {
+            return Ok(names);
+        }
+    }
+    Ok(names)
+}
+
+// Reads the name of a type or of a value.
+fn any_name(cursor: &mut Cursor<'_>) -> Result<Span, Fault> {
+    let name = if cursor.sees_kind_after(0, TokenKind::TypeReference) {
+        cursor.type_name(Expected::AnyName)?
+    } else {
+        cursor.identifier(Expected::AnyName)?
+    };
+    if cursor.accept_symbol(b"{") {
+        cursor.expect_symbol(b"}", Expected::CloseBrace)?;
+    }
+    Ok(name)
+}
+
+// Reads the names of other modules.
+fn imports(cursor: &mut Cursor<'_>) -> Result<Vec<Import>, Fault> {
+    let mut imports = Vec::new(cursor.alloc());
+    if !cursor.accept_word(b"IMPORTS") {
+        return Ok(imports);
+    }
+    for _ in 0..cursor.len() {
+        if cursor.accept_symbol(b";") {
+            return Ok(imports);
+        }
+        let import = import(cursor)?;
+        imports.push(import)?;
+    }
+    Err(cursor.expected(Expected::Semicolon))
+}
+
+// Reads the names of one module.
+fn import(cursor: &mut Cursor<'_>) -> Result<Import, Fault> {
+    let names = names(cursor)?;
+    cursor.expect_word(b"FROM", Expected::CommaOrFrom)?;
+    let module = cursor.type_name(Expected::ModuleName)?;
+    let identifier = module_identifier(cursor)?;
+    Ok(Import {
+        names,
+        module,
+        identifier,
+    })
+}
+
+// Reads the definitions of a module.
+fn assignments(
+    cursor: &mut Cursor<'_>,
+    errors: &mut Vec<SyntaxError>,
+) -> Result<Vec<Assignment>, Fault> {
+    let mut assignments = Vec::new(cursor.alloc());
+    for _ in 0..cursor.len() {
+        if cursor.is_at_end() || cursor.sees_word(b"END") {
+            return Ok(assignments);
+        }
+        let first = cursor.index();
+        match parse_assignment(cursor) {
+            Ok(assignment) => assignments.push(assignment)?,
+            Err(Fault::Memory) => return Err(Fault::Memory),
+            Err(Fault::Syntax(error)) => {
+                errors.push(error)?;
+                skip_assignment(cursor, first);
+            }
+        }
+    }
+    Ok(assignments)
+}

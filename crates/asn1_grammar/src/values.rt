@@ -1,0 +1,139 @@
+//! Values.
+use crate::cursor::{Cursor, span_of};
+use crate::error::{Cause, Construct, Expected, Fault};
+use asn1_notation::{ListItem, Value, ValueKind};
+use asn1_tokens::TokenKind;
+
+/// Reads a value, with at most so many braces and colons inside it.
+#[cycle(values)]
+pub(crate) fn parse_value(cursor: &mut Cursor<'_>, depth: usize) -> Result<Value, Fault> {
+    let Some(depth) = depth.checked_sub(1) else {
+        return Err(cursor.fault(Cause::TooDeep));
+    };
+    let start = cursor.start();
+    let kind = if cursor.accept_symbol(b"{") {
+        list(cursor, depth)?
+    } else if cursor.sees_kind_after(0, TokenKind::Identifier)
+        && cursor.sees_after(1, TokenKind::Symbol, b":")
+    {
+        alternative(cursor, depth)?
+    } else {
+        plain_value(cursor)?
+    };
+    Ok(Value { start, kind })
+}
+
+// Reads an alternative of a CHOICE.
+#[cycle(values)]
+fn alternative(cursor: &mut Cursor<'_>, depth: usize) -> Result<ValueKind, Fault> {
+    let name = cursor.identifier(Expected::AlternativeName)?;
+    cursor.skip();
+    let value = parse_value(cursor, depth)?;
+    let value = Box::new(cursor.alloc(), value)?;
+    Ok(ValueKind::Alternative(name, value))
+}
+
+// Reads a list up to the brace that closes it.
+#[cycle(values)]
+fn list(cursor: &mut Cursor<'_>, depth: usize) -> Result<ValueKind, Fault> {
+    let mut items = Vec::new(cursor.alloc());
+    if cursor.accept_symbol(b"}") {
+        return Ok(ValueKind::List(items));
+    }
+    for _ in 0..cursor.len() {
+        let item = list_item(cursor, depth)?;
+        items.push(item)?;
+        if cursor.accept_symbol(b"}") {
+            return Ok(ValueKind::List(items));
+        }
+        cursor.expect_symbol(b",", Expected::CloseBraceOrComma)?;
+    }
+    Err(cursor.expected(Expected::CloseBrace))
+}
+
+// Reads the values of an item of a list.
+#[cycle(values)]
+fn list_item(cursor: &mut Cursor<'_>, depth: usize) -> Result<ListItem, Fault> {
+    let mut values = Vec::new(cursor.alloc());
+    for _ in 0..cursor.len() {
+        let value = listed_value(cursor, depth)?;
+        values.push(value)?;
+        if cursor.is_at_end() || cursor.sees_symbol(b"}") || cursor.sees_symbol(b",") {
+            return Ok(ListItem { values });
+        }
+    }
+    Err(cursor.expected(Expected::CloseBraceOrComma))
+}
+
+// Reads a value of a list, or an arc of an object identifier with its name and its number.
+#[cycle(values)]
+fn listed_value(cursor: &mut Cursor<'_>, depth: usize) -> Result<Value, Fault> {
+    if cursor.sees_kind_after(0, TokenKind::Identifier)
+        && cursor.sees_after(1, TokenKind::Symbol, b"(")
+    {
+        arc(cursor)
+    } else {
+        parse_value(cursor, depth)
+    }
+}
+
+// Reads an arc with its name and its number.
+fn arc(cursor: &mut Cursor<'_>) -> Result<Value, Fault> {
+    let name = cursor.identifier(Expected::ArcName)?;
+    cursor.skip();
+    let number = cursor.number_name(Expected::Number)?;
+    cursor.expect_symbol(b")", Expected::CloseParenthesis)?;
+    Ok(Value {
+        start: name.start,
+        kind: ValueKind::Arc(name, number),
+    })
+}
+
+// Reads a value that holds no other.
+fn plain_value(cursor: &mut Cursor<'_>) -> Result<ValueKind, Fault> {
+    let Some(token) = cursor.peek() else {
+        return Err(cursor.expected(Expected::Value));
+    };
+    match token.kind {
+        TokenKind::ReservedWord => word_value(cursor),
+        TokenKind::Identifier | TokenKind::TypeReference => {
+            let reference = cursor.value_reference(Expected::Value)?;
+            Ok(ValueKind::Reference(reference))
+        }
+        TokenKind::Number | TokenKind::Symbol => {
+            let number = cursor.number(Expected::Value)?;
+            Ok(ValueKind::Number(number))
+        }
+        TokenKind::BinaryString => Ok(text_value(cursor, ValueKind::Binary(span_of(token)))),
+        TokenKind::HexString => Ok(text_value(cursor, ValueKind::Hex(span_of(token)))),
+        TokenKind::CharacterString => Ok(text_value(cursor, ValueKind::Text(span_of(token)))),
+    }
+}
+
+// Reads a token that is the value.
+fn text_value(cursor: &mut Cursor<'_>, value: ValueKind) -> ValueKind {
+    cursor.skip();
+    value
+}
+
+// Reads a value that is a reserved word.
+fn word_value(cursor: &mut Cursor<'_>) -> Result<ValueKind, Fault> {
+    if cursor.accept_word(b"TRUE") {
+        Ok(ValueKind::Boolean(true))
+    } else if cursor.accept_word(b"FALSE") {
+        Ok(ValueKind::Boolean(false))
+    } else if cursor.accept_word(b"NULL") {
+        Ok(ValueKind::Null)
+    } else if begins_real(cursor) {
+        Err(cursor.not_taken(Construct::RealValue))
+    } else {
+        Err(cursor.expected(Expected::Value))
+    }
+}
+
+// Whether a value of REAL is next that is a reserved word.
+fn begins_real(cursor: &Cursor<'_>) -> bool {
+    cursor.sees_word(b"PLUS-INFINITY")
+        || cursor.sees_word(b"MINUS-INFINITY")
+        || cursor.sees_word(b"NOT-A-NUMBER")
+}

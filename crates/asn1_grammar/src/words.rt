@@ -1,0 +1,62 @@
+//! Tables of words.
+use crate::error::Construct;
+use asn1_notation::StringKind;
+
+// The names of strings and useful types.
+const STRINGS: &[(&[u8], StringKind)] = &[
+    (b"UTF8String", StringKind::Utf8),
+    (b"NumericString", StringKind::Numeric),
+    (b"PrintableString", StringKind::Printable),
+    (b"TeletexString", StringKind::Teletex),
+    (b"T61String", StringKind::Teletex),
+    (b"VideotexString", StringKind::Videotex),
+    (b"IA5String", StringKind::Ia5),
+    (b"GraphicString", StringKind::Graphic),
+    (b"VisibleString", StringKind::Visible),
+    (b"ISO646String", StringKind::Visible),
+    (b"GeneralString", StringKind::General),
+    (b"UniversalString", StringKind::Universal),
+    (b"BMPString", StringKind::Bmp),
+    (b"UTCTime", StringKind::UtcTime),
+    (b"GeneralizedTime", StringKind::GeneralizedTime),
+    (b"ObjectDescriptor", StringKind::ObjectDescriptor),
+];
+
+// The words with which types begin that are not taken, and the names of these types.
+const NOT_TAKEN: &[(&[u8], Construct)] = &[
+    (b"REAL", Construct::Real),
+    (b"EXTERNAL", Construct::External),
+    (b"EMBEDDED", Construct::EmbeddedPdv),
+    (b"CHARACTER", Construct::CharacterString),
+    (b"RELATIVE-OID", Construct::RelativeOid),
+    (b"OID-IRI", Construct::OidIri),
+    (b"RELATIVE-OID-IRI", Construct::RelativeOidIri),
+    (b"INSTANCE", Construct::InstanceOf),
+    (b"TYPE-IDENTIFIER", Construct::Class),
+    (b"ABSTRACT-SYNTAX", Construct::Class),
+    (b"TIME", Construct::Time),
+    (b"DATE", Construct::Time),
+    (b"DATE-TIME", Construct::Time),
+    (b"TIME-OF-DAY", Construct::Time),
+    (b"DURATION", Construct::Time),
+];
+
+/// The kind of string with this name.
+pub(crate) fn string_kind(word: &[u8]) -> Option<StringKind> {
+    for entry in STRINGS {
+        if entry.0 == word {
+            return Some(entry.1);
+        }
+    }
+    None
+}
+
+/// The name of the type that begins with this word, and is not taken.
+pub(crate) fn not_taken(word: &[u8]) -> Option<Construct> {
+    for entry in NOT_TAKEN {
+        if entry.0 == word {
+            return Some(entry.1);
+        }
+    }
+    None
+}
