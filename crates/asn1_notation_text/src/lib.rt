@@ -1,7 +1,8 @@
 //! The notation of X.680 as text.
 //!
-//! The calls append the text of a tree of [`asn1_notation`] to a [`Printer`], which knows the source that the tree was read from. Reading the text gives the tree again, with other offsets:
-//! parentheses are put round every part of a constraint. Comments and the exceptions of extension markers (`!`) are not in
+//! The calls append the text of a tree of [`asn1_notation`] to a [`Printer`], which knows the source that the tree was read from.
+//! The text is meant to be read as the same tree, with other offsets, so parentheses are put round every part of a constraint; no
+//! contract covers that. Comments and the exceptions of extension markers (`!`) are not in
 //! the tree, and not in the text.
 //!
 //! A call fails only if memory runs out.
