@@ -147,14 +147,9 @@ fn leaves_count_at_any_depth(rt: HostRuntime) {
 }
 
 #[test]
-fn trees_are_searched_at_any_depth(rt: HostRuntime) {
+fn leaves_are_distinct_at_any_depth(rt: HostRuntime) {
     assert_that(&rt, TagTree::is_unique_set(DISTINCT), "distinct");
     assert_that(&rt, !TagTree::is_unique_set(COUSINS), "cousins");
-    let tag = Tag::new_context(2);
-    let position = TagTree::leaf_position(&tag, DISTINCT);
-    assert_that(&rt, position == Some(5), "the sixth leaf");
-    let none = TagTree::leaf_position(&tag, COUSINS);
-    assert_that(&rt, none.is_none(), "no leaf");
 }
 
 const NOTHING_BELOW: &[TagTree<'static>] = &[leaf!(Universal 3), TagTree::Choice(C1_AND_NOTHING)];
