@@ -1,0 +1,51 @@
+use Rattle.std.proofs.Common.{◌<◌, arith, length, subst}
+use Rattle.asn1_certificate_rules.proofs.DeparturePositions.{at_position, from_inside, moved, none_found}
+use Rattle.asn1_certificate_rules.specs.Departures.{Departs, behind, here, in_header}
+use Rattle.asn1_der_items.proofs.TrailingBytes.{element_at-shorter, parts_fit}
+use Rattle.asn1_der_items.specs.Elements.{element_of}
+use Rattle.asn1_certificate_rules.proofs.departures.+departures.Goals as goal
+
+pub first_departure-returns-in_default : goal.first_departure-returns-in_default
+first_departure-returns-in_default t c =
+    let none = none_found c.loop-left.left.now c.in_default.ensures.found in
+    let d = c.in_ok-broken_header.field-0 in
+    moved c.after.result c.args.depth c.args.part c.args.bytes.now _ d c.after.ensures
+    (c.loop-left.invariant.departures d.rule d.position
+    (in_header c.args.depth c.loop-left.place c.loop-left.left.now d.rule d.position none c.in_ok-broken_header.ensures))
+
+pub first_departure-overflow_sub-header : goal.first_departure-overflow_sub-header
+first_departure-overflow_sub-header t c = omega (arith, parts_fit c.loop-left.left.now (element_of c.in-Ok.element) c.in-Ok.ensures.only)
+
+pub first_departure-overflow_sub-header-in-loop-left : goal.first_departure-overflow_sub-header-in-loop-left
+first_departure-overflow_sub-header-in-loop-left t c = omega (arith, parts_fit c.loop-left.left.now (element_of c.in-Ok.element) c.in-Ok.ensures.only)
+
+pub first_departure-returns-in-Some : goal.first_departure-returns-in-Some
+first_departure-returns-in-Some t c =
+    let d = c.in-Some.departure in
+    moved c.after-in-Some.result c.args.depth c.args.part c.args.bytes.now _ d c.after-in-Some.ensures
+    (c.loop-left.invariant.departures d.rule d.position
+    (here c.args.depth c.loop-left.place c.loop-left.left.now (element_of c.in-Ok.element) d.rule d.position c.in-Ok.ensures.only c.in-Some.ensures))
+
+pub first_departure-returns-in-Some-departure_inside : goal.first_departure-returns-in-Some-departure_inside
+first_departure-returns-in-Some-departure_inside t c =
+    let d = c.in-Some-departure_inside.departure in
+    moved c.after-in-Some-departure_inside.result c.args.depth c.args.part c.args.bytes.now _ d c.after-in-Some-departure_inside.ensures
+    (at_position c.args.depth c.args.part c.args.bytes.now d.rule _ _ (omega arith)
+    (c.loop-left.invariant.departures d.rule _
+    (from_inside c.args.depth c.loop-left.place c.loop-left.left.now (element_of c.in-Ok.element) d.rule d.position c.in-Ok.ensures.only
+    c.in-Some-departure_inside.ensures)))
+
+pub first_departure-loop-left-smaller : goal.first_departure-loop-left-smaller
+first_departure-loop-left-smaller t c = element_at-shorter c.loop-left.left.now (element_of c.in-Ok.element) c.in-Ok.ensures.only
+
+pub first_departure-loop-left-preserved : goal.first_departure-loop-left-preserved
+first_departure-loop-left-preserved t c =
+    let e = element_of c.in-Ok.element in
+    let at = c.in-Ok.ensures.only in
+    let shorter : length c.in-Ok.element.rest.now < length c.loop-left.left.now = element_at-shorter c.loop-left.left.now e at in
+    record {
+      fits = omega (arith, c.loop-left.invariant.fits, shorter);
+      departures = λ rule position departs. at_position c.args.depth c.args.part c.args.bytes.now rule _ _ (omega (arith, c.loop-left.invariant.fits, shorter))
+          (c.loop-left.invariant.departures rule _ (behind c.args.depth c.loop-left.place c.loop-left.left.now e rule position at
+          (subst (λ part. Departs c.args.depth part c.in-Ok.element.rest.now rule position) c.behind-place.ensures departs)));
+    }

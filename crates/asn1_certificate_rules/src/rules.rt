@@ -1,0 +1,147 @@
+//! The rule that an element breaks.
+ghost use Rattle.std.specs.Prelude.{◌≡◌, IfSome, ℕ, false, true};
+ghost use Rattle.asn1_certificate_rules.specs.Rules.{BreaksRule, IsDefault, IsFalse};
+ghost use Rattle.asn1_der_items.specs.Elements.{element_of};
+
+use crate::contents::{ends_with_zero, has_unused_bit, is_other_true, is_padded};
+use crate::departures::Departure;
+use crate::notation::Part;
+use crate::objects::padded_arc;
+use crate::rule::Rule;
+use crate::sets::out_of_order;
+use crate::strings::is_string;
+use crate::times::{is_generalized_time, is_utc_time};
+use asn1_der_items::Element;
+use asn1_tags::Tag;
+
+/// The rule that an element breaks by itself, at a position in its octets, of which this many are before its contents octets.
+pub(crate) fn broken_rule(part: Part, header: usize, element: Element<'_>) -> Option<Departure>
+    ensures { IfSome result (λ d.
+        BreaksRule part header (element_of element.entry) d.rule d.position) }
+{
+    if is_default(part, element) {
+        return Some(Departure {
+            rule: Rule::Default,
+            position: 0,
+        });
+    }
+    if element.constructed {
+        return broken_by_constructed(part, header, element);
+    }
+    broken_by_primitive(part, header, element)
+}
+
+/// Whether a component has its DEFAULT value.
+fn is_default(part: Part, element: Element<'_>) -> bool
+    ensures { result ≡ true → IsDefault part (element_of element.entry) }
+{
+    match part {
+        Part::Version => {
+            element.constructed
+                && element.tag == Tag::new_context(0)
+                && element.contents == [2, 1, 0].as_slice()
+        }
+        Part::ExtensionBody(_) => is_false(element),
+        Part::Authority => is_false(element),
+        _ => false,
+    }
+}
+
+/// Whether an element is a FALSE.
+fn is_false(element: Element<'_>) -> bool
+    ensures { result ≡ true → IsFalse (element_of element.entry) }
+{
+    !element.constructed && element.tag == Tag::BOOL && element.contents == [0].as_slice()
+}
+
+/// The rule that a constructed element breaks.
+fn broken_by_constructed(part: Part, header: usize, element: Element<'_>) -> Option<Departure>
+    requires { element.constructed ≡ true }
+    ensures { IfSome result (λ d.
+        BreaksRule part header (element_of element.entry) d.rule d.position) }
+{
+    if is_string(element.tag) {
+        return Some(Departure {
+            rule: Rule::ConstructedString,
+            position: 0,
+        });
+    }
+    if element.tag == Tag::SET {
+        let index = out_of_order(element.contents)?;
+        return Some(Departure {
+            rule: Rule::SetOrder,
+            position: header.checked_add(index)?,
+        });
+    }
+    None
+}
+
+/// The rule that a primitive element breaks.
+fn broken_by_primitive(part: Part, header: usize, element: Element<'_>) -> Option<Departure>
+    requires { element.constructed ≡ false }
+    ensures { IfSome result (λ d.
+        BreaksRule part header (element_of element.entry) d.rule d.position) }
+{
+    if element.tag == Tag::BIT_STRING {
+        return broken_by_bits(part, header, element);
+    }
+    if element.tag == Tag::OBJECT_IDENTIFIER {
+        let index = padded_arc(element.contents)?;
+        return Some(Departure {
+            rule: Rule::PaddedArc,
+            position: header.checked_add(index)?,
+        });
+    }
+    let rule = broken_by_contents(element)?;
+    Some(Departure {
+        rule,
+        position: header,
+    })
+}
+
+/// The rule that a BIT STRING breaks.
+fn broken_by_bits(part: Part, header: usize, element: Element<'_>) -> Option<Departure>
+    requires primitive { element.constructed ≡ false }
+    requires bits { element.tag ≡ Tag.BIT_STRING }
+    ensures { IfSome result (λ d.
+        BreaksRule part header (element_of element.entry) d.rule d.position) }
+{
+    let position = header.checked_add(element.contents.len().saturating_sub(1))?;
+    if has_unused_bit(element.contents) {
+        return Some(Departure {
+            rule: Rule::UnusedBit,
+            position,
+        });
+    }
+    if part == Part::KeyUsage && ends_with_zero(element.contents) {
+        return Some(Departure {
+            rule: Rule::TrailingZero,
+            position,
+        });
+    }
+    None
+}
+
+/// The rule that the contents octets of another primitive element break, at the first of them.
+fn broken_by_contents(element: Element<'_>) -> Option<Rule>
+    requires { element.constructed ≡ false }
+    ensures { (part : Part) (header : ℕ) → IfSome result (λ rule.
+        BreaksRule part header (element_of element.entry) rule header) }
+{
+    if element.tag == Tag::BOOL && is_other_true(element.contents) {
+        return Some(Rule::OtherTrue);
+    }
+    if element.tag == Tag::INTEGER && is_padded(element.contents) {
+        return Some(Rule::PaddedInteger);
+    }
+    if element.tag == Tag::ENUMERATED && is_padded(element.contents) {
+        return Some(Rule::PaddedInteger);
+    }
+    if element.tag == Tag::UTC_TIME && !is_utc_time(element.contents) {
+        return Some(Rule::UtcTime);
+    }
+    if element.tag == Tag::GENERALIZED_TIME && !is_generalized_time(element.contents) {
+        return Some(Rule::GeneralizedTime);
+    }
+    None
+}
