@@ -1,8 +1,23 @@
 //! Certificates for tests, made by hand.
+use asn1_certificate_input::{Options, OutputFormat};
 use asn1_der_items::{begin_element, end_element};
 use asn1_tags::Tag;
 use std::alloc::Global;
 use std::process::Abort;
+
+/// Asks for a report, whatever the octets are.
+pub(crate) const REPORT: Options = Options {
+    format: OutputFormat::Report,
+    is_strict: false,
+    follows: false,
+};
+
+/// Asks for the DER of a certificate.
+pub(crate) const DER: Options = Options {
+    format: OutputFormat::Der,
+    is_strict: false,
+    follows: false,
+};
 
 /// A name without parts.
 pub(crate) const NO_NAME: &[u8] = &[0x30, 0];

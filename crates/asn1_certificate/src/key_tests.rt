@@ -1,21 +1,21 @@
 //! Reports of public keys, with known sizes and without; the octets were made by hand.
-use crate::certificates::{NO_NAME, least_certificate, sequence};
-use asn1_certificate_input::{OutputFormat, output_of};
+use crate::certificates::{NO_NAME, REPORT, least_certificate, sequence};
+use asn1_certificate_input::shown_of;
 use std::alloc::Global;
 use std::process::Abort;
 
 /// Asserts the line on a key.
-fn assert_key(rt: &impl Abort, alloc: Global, key: &[u8], shown: &str) {
+fn assert_key(rt: &impl Abort, alloc: Global, key: &[u8], expected: &str) {
     let input = least_certificate(rt, alloc, NO_NAME, NO_NAME, key);
-    let Ok(lines) = output_of(alloc, OutputFormat::Report, input) else {
+    let Ok(shown) = shown_of(alloc, REPORT, &input) else {
         rt.panic("not shown");
     };
-    let text = String::from_utf8(lines).expect(rt, "text");
+    let text = String::from_utf8(shown.bytes).expect(rt, "text");
     let line = text
         .as_str()
         .lines()
         .find(|line| line.starts_with("public key:"));
-    assert!(rt; line == Some(shown));
+    assert!(rt; line == Some(expected));
 }
 
 /// A key of RSA (RFC 3279, 2.3.1) with this element as its BIT STRING.

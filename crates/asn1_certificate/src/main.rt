@@ -1,28 +1,59 @@
-//! Shows a certificate: reads its DER, or a text with it in base64, from standard input, and writes a report of it to standard
-//! output.
+//! Shows certificates: reads their DER, or texts with them in base64, from files or standard input, and writes a report of each to
+//! standard output.
 //!
-//! It writes the text of a report (`report_text` of `asn1_certificate_text`), which is the report of a certificate
-//! (`report_of` of `asn1_certificate_reader`). The program ends with 0 if it has shown one, with 1 if the input has none or
-//! one that is refused, and with 2 if memory runs out or reading or writing fails; the reason is then on standard error, with the
-//! position of the byte if one is known. With the argument `--der` it writes the DER of the certificate instead of a report: the
-//! octets that were read, or nothing if these are not its DER. The contract of `run` of `asn1_certificate_input` covers the output
-//! and the statuses 0 and 1. The stored run shows a certificate.
+//! It writes the texts of reports (`report_text` of `asn1_certificate_text`), which are the reports of the certificates
+//! (`report_of` of `asn1_certificate_reader`), in the order of the inputs and with an empty line between two. A certificate
+//! that departs from DER is shown, and a warning on standard error names the rule of X.690 and the position of the byte.
+//!
+//! | Argument | Effect |
+//! |---|---|
+//! | `FILE`.. | reads these files, or standard input for `-` or if there is none |
+//! | `--strict` | refuses a certificate that departs from DER |
+//! | `--der` | writes the DER of a certificate instead of a report: the octets that were read, or nothing if these are not its DER |
+//! | `--help` | writes the usage |
+//!
+//! The program ends with 0 if each certificate was shown, with 1 if an input or a certificate was refused, and with 2 if the arguments
+//! are none of these, a file was not read, memory ran out, or reading or writing failed; the reasons are on standard error. The
+//! contract of `run` of `asn1_certificate_input` covers the output of one input, and the statuses 0 and 1. The stored run shows a
+//! certificate.
 #![tactic(auto)]
 
 mod arguments;
 #[cfg(test)]
 mod certificates;
 #[cfg(test)]
+mod departure_tests;
+#[cfg(test)]
 mod key_tests;
 #[cfg(test)]
 mod refusal_tests;
+mod sources;
 #[cfg(test)]
 mod text_tests;
 
-use asn1_certificate_input::{Outcome, run};
-use std::io;
+use std::env;
+use std::process::ExitCode;
 
-fn main(rt: HostRuntime) -> Outcome {
-    let format = arguments::requested_format(&rt);
-    run(rt.alloc(), format, &mut rt.reader(), &mut io::writer(&rt))
+fn main(rt: HostRuntime) -> ExitCode {
+    let alloc = rt.alloc();
+    let words: Vec<String> = match env::args(&rt).map(|words| words.collect(alloc)) {
+        Ok(Ok(words)) => words,
+        _ => {
+            let _ = eprintln!(&rt; "error: the arguments were not read");
+            return ExitCode::from(2);
+        }
+    };
+    let matches = match arguments::matches_of(alloc, words.as_slice()) {
+        Ok(matches) => matches,
+        Err(error) => {
+            let _ = error.print(&rt);
+            return ExitCode::from(error.exit_code() as u8);
+        }
+    };
+    let options = arguments::options_of(&matches);
+    let status = match matches.get_strs("FILE") {
+        Some(names) if !names.is_empty() => sources::show_files(&rt, options, names),
+        _ => sources::show_input(&rt, options),
+    };
+    ExitCode::from(status)
 }

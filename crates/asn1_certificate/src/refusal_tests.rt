@@ -1,6 +1,6 @@
 //! Values that no name can have, bad parameters of algorithms, and reports of values that are not of their type.
-use crate::certificates::{NO_KEY, NO_NAME, least_certificate};
-use asn1_certificate_input::{InputError, OutputFormat, output_of};
+use crate::certificates::{DER, NO_KEY, NO_NAME, REPORT, least_certificate};
+use asn1_certificate_input::{InputError, shown_of};
 use asn1_certificate_reader::{
     MAX_DEPTH, NameFault, ParameterType, ValueFault, bad_parameters, first_name_fault,
 };
@@ -133,7 +133,7 @@ const fn certificate(inside: u8, key: u8, beside: u8) -> [u8; 71] {
 /// The reason for which a certificate is refused.
 fn refusal(rt: &impl Abort, alloc: Global, certificate: &[u8]) -> Option<InputError> {
     let input = Vec::from_slice(alloc, certificate).expect(rt, "memory");
-    output_of(alloc, OutputFormat::Der, input).err()
+    shown_of(alloc, DER, &input).err()
 }
 
 /// The position of the parameters of an algorithm for which a certificate is refused, if they have to be a BOOLEAN.
@@ -214,8 +214,10 @@ fn positions_are_those_of_each_path(rt: HostRuntime) {
 /// Asserts that the common name of the issuer of a certificate is shown as this text.
 fn assert_shown(rt: &impl Abort, alloc: Global, value: [u8; 6], expected: &str) {
     let input = of_names(rt, alloc, value, UTF8);
-    let bytes = output_of(alloc, OutputFormat::Report, input).expect(rt, "a certificate");
-    let text = str::from_utf8(&bytes).expect(rt, "a text");
+    let Ok(shown) = shown_of(alloc, REPORT, &input) else {
+        rt.panic("not shown");
+    };
+    let text = str::from_utf8(&shown.bytes).expect(rt, "a text");
     assert!(rt; text.contains(expected));
 }
 
@@ -255,17 +257,17 @@ fn a_default_that_is_there_is_shown_and_not_written(rt: HostRuntime) {
     let refused = refusal(&rt, alloc, &first_version);
     assert!(rt; matches!(refused, Some(InputError::OtherDer)));
     let input = Vec::from_slice(alloc, &first_version).expect(&rt, "memory");
-    assert!(rt; output_of(alloc, OutputFormat::Report, input).is_ok());
+    assert!(rt; shown_of(alloc, REPORT, &input).is_ok());
 }
 
 #[test]
 fn a_value_that_is_not_of_its_type_is_shown_as_octets(rt: HostRuntime) {
     let alloc = rt.alloc();
     let input = Vec::from_slice(alloc, &certificate(0, 0, 0)).expect(&rt, "memory");
-    let Ok(lines) = output_of(alloc, OutputFormat::Report, input) else {
+    let Ok(shown) = shown_of(alloc, REPORT, &input) else {
         rt.panic("not shown");
     };
-    let text = String::from_utf8(lines).expect(&rt, "text");
+    let text = String::from_utf8(shown.bytes).expect(&rt, "text");
     assert!(rt;
         text.as_str()
             .ends_with("extension keyUsage: (not of its type) 00\n")

@@ -1,7 +1,7 @@
 //! Texts that others wrote: OpenSSL's, and those of the standards.
 use asn1_certificate_text::{
-    Moment, PemError, bit_length, curve_of, is_pem, object_named, pem_octets, push_address,
-    push_escaped, push_octets, push_usages,
+    Moment, PemCertificate, PemError, bit_length, certificates_in, curve_of, is_pem, object_named,
+    push_address, push_escaped, push_octets, push_usages,
 };
 use std::alloc::Global;
 use std::process::Abort;
@@ -153,54 +153,44 @@ fn objects_have_names(rt: HostRuntime) {
     assert!(rt; curve_of(&[1, 2, 840, 10045, 3, 1, 7]).map(|curve| curve.bits) == Some(256));
 }
 
-/// Asserts that a text has this certificate between the two lines.
-fn assert_pem(rt: &impl Abort, alloc: Global, text: &[u8], expected: Result<&[u8], PemError>) {
-    match (pem_octets(alloc, text), expected) {
-        (Ok(octets), Ok(expected)) => assert_eq!(rt; octets.as_slice(), expected),
-        (Err(error), Err(expected)) => assert_eq!(rt; error, expected),
+/// Asserts that a text has this certificate at an index.
+fn assert_pem(rt: &impl Abort, found: &[PemCertificate], index: usize, expected: &[u8]) {
+    match found.get(index) {
+        Some(PemCertificate::Octets(octets)) => assert_eq!(rt; octets.as_slice(), expected),
+        _ => assert!(rt; false),
+    }
+}
+
+/// Asserts that the first certificate of a text has no octets for this reason.
+fn assert_refused(rt: &impl Abort, alloc: Global, text: &[u8], expected: PemError) {
+    let found = certificates_in(alloc, text).expect(rt, "memory");
+    match found.first() {
+        Some(PemCertificate::Refused(error)) => assert!(rt; *error == expected),
         _ => assert!(rt; false),
     }
 }
 
 #[test]
-fn texts_have_certificates(rt: HostRuntime) {
-    let alloc = rt.alloc();
-    let whole = b"x\n-----BEGIN CERTIFICATE-----\r\nMAMC\r\n AQE=\n-----END CERTIFICATE-----\n";
-    assert!(rt; is_pem(whole) && !is_pem(&[0x30, 3, 2, 1, 1]));
-    assert_pem(&rt, alloc, whole, Ok(&[0x30, 3, 2, 1, 1]));
-    assert_pem(
-        &rt,
-        alloc,
-        b"-----BEGIN CERTIFICATE----------END CERTIFICATE-----",
-        Ok(&[]),
-    );
-    assert_pem(&rt, alloc, b"-----BEGIN X-----", Err(PemError::NoBegin));
-    assert_pem(
-        &rt,
-        alloc,
-        b"-----BEGIN CERTIFICATE-----\nMA==\n",
-        Err(PemError::NoEnd(27)),
-    );
-    assert_pem(
-        &rt,
-        alloc,
-        b"-----BEGIN CERTIFICATE-----\nMA%=\n-----END CERTIFICATE-----",
-        Err(PemError::BadSymbol(30)),
-    );
-    assert_pem(
-        &rt,
-        alloc,
-        b"-----BEGIN CERTIFICATE-----\nMAMCA\n-----END CERTIFICATE-----",
-        Err(PemError::NotWhole(34)),
-    );
+fn texts_have_certificates_in_their_order(rt: HostRuntime) {
+    let text =
+        b"x\n-----BEGIN CERTIFICATE-----\r\nMAMC\r\n AQE=\n-----END CERTIFICATE-----\n-----BEGIN X-----\n-----BEGIN CERTIFICATE----------END CERTIFICATE----------BEGIN CERTIFICATE-----\nAQE=\n-----END CERTIFICATE-----\n";
+    assert!(rt; is_pem(text) && !is_pem(&[0x30, 3, 2, 1, 1]));
+    let found = certificates_in(rt.alloc(), text).expect(&rt, "memory");
+    assert!(rt; found.len() == 3);
+    assert_pem(&rt, found.as_slice(), 0, &[0x30, 3, 2, 1, 1]);
+    assert_pem(&rt, found.as_slice(), 1, &[]);
+    assert_pem(&rt, found.as_slice(), 2, &[1, 1]);
 }
 
 #[test]
-fn the_first_certificate_of_a_text_is_read(rt: HostRuntime) {
-    assert_pem(
-        &rt,
-        rt.alloc(),
-        b"-----BEGIN CERTIFICATE-----\nMAMC\n-----END CERTIFICATE-----\n-----BEGIN CERTIFICATE-----\nAQE=\n-----END CERTIFICATE-----\n",
-        Ok(&[0x30, 3, 2]),
-    );
+fn texts_without_certificates_are_refused(rt: HostRuntime) {
+    let alloc = rt.alloc();
+    let none = certificates_in(alloc, b"-----BEGIN X-----").expect(&rt, "memory");
+    assert!(rt; none.is_empty());
+    let no_end = b"-----BEGIN CERTIFICATE-----\nMA==\n";
+    assert_refused(&rt, alloc, no_end, PemError::NoEnd(27));
+    let no_symbol = b"-----BEGIN CERTIFICATE-----\nMA%=\n-----END CERTIFICATE-----";
+    assert_refused(&rt, alloc, no_symbol, PemError::BadSymbol(30));
+    let cut = b"-----BEGIN CERTIFICATE-----\nMAMCA\n-----END CERTIFICATE-----";
+    assert_refused(&rt, alloc, cut, PemError::NotWhole(34));
 }

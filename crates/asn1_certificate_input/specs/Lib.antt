@@ -1,3 +1,6 @@
+pub mod Answers
+pub mod Certificates
+pub mod Departures
 pub mod Inputs
 pub mod Positions
 pub mod Refused

@@ -1,10 +1,16 @@
--- The output of the program.
-use Rattle.std.specs.Prelude.{◌≡◌, ℕ, List, None, Option}
-use Rattle.std.specs.Io.KnownBytes.{Appends, Consumes}
-use Rattle.asn1_certificate_input.specs.Inputs.{IsCertificateOf, records_of}
+-- The output for a certificate.
+use Rattle.std.specs.Prelude.{◌≡◌, ◌||◌, ℕ, Bool, List, [], ◌∷◌, None, Option, false, if◌then◌else◌, true}
+use Rattle.asn1_certificate_input.specs.Certificates.{IsReadOf, records_of}
+use Rattle.asn1_certificate_input.specs.Departures.{AnswersDeparture}
+use Rattle.asn1_certificate_input.specs.declared.departure.FromDer.{FromDer}
+use Rattle.asn1_certificate_input.specs.declared.options.Options.{Options}
+use Rattle.asn1_certificate_input.specs.declared.options.OutputFormat.{OutputFormat}
+use Rattle.asn1_certificate_input.specs.declared.options.OutputFormat.TheVariants.{Der, Report as AsReport}
 use Rattle.asn1_certificate_reader.specs.NameFaults.{AnswersName}
 use Rattle.asn1_certificate_reader.specs.Reports.{IsReportOf}
 use Rattle.asn1_certificate_text.specs.Reports.{report_text}
+use Rattle.asn1_certificate_text.specs.declared.pem.PemCertificate.{PemCertificate}
+use Rattle.asn1_certificate_text.specs.declared.pem.PemCertificate.TheVariants.{Octets, Refused}
 use Rattle.asn1_certificate_text.specs.declared.report.Report.{Report}
 use Rattle.asn1_der.specs.Format.{Carries, der_format}
 use Rattle.asn1_x509.specs.declared.certificate.Certificate.{Certificate}
@@ -20,26 +26,36 @@ pub record AreLinesOf (certificate : Certificate) (bytes : List ℕ) : Type 0 wh
   pub of : IsReportOf der_format certificate report
   pub are : bytes ≡ report_text report
 
--- the lines of a report of the certificate of an input
-pub record AreLinesOfInput (input bytes : List ℕ) : Type 0 where
-  pub octets : List ℕ
-  pub certificate : Certificate
-  pub read : IsCertificateOf input octets certificate
-  pub names : HasGoodNames certificate
-  pub are : AreLinesOf certificate bytes
+-- the bytes are the lines of a report of the certificate, or the octets that it was read of, which are then its DER
+abbrev pub AreBytesOf : OutputFormat → List ℕ → Certificate → List ℕ → Type 0
+AreBytesOf AsReport octets certificate bytes = AreLinesOf certificate bytes
+AreBytesOf Der octets certificate bytes = (bytes ≡ octets) × Carries bytes (records_of certificate)
 
--- the octets of an input, which are the DER of the certificate that they were read as
-pub record IsDerOfInput (input bytes : List ℕ) : Type 0 where
+-- The octets were read as a certificate, whose bytes these are, and depart from its DER in this way or not at all; and not at all where
+-- such certificates are refused.
+pub record IsShown (options : Options) (octets bytes : List ℕ) (departure : Option FromDer) : Type 0 where
   pub certificate : Certificate
-  pub read : IsCertificateOf input bytes certificate
+  pub read : IsReadOf octets certificate
   pub names : HasGoodNames certificate
-  pub carries : Carries bytes (records_of certificate)
+  pub are : AreBytesOf options.format octets certificate bytes
+  pub departs : AnswersDeparture octets certificate departure
+  pub strict : options.is_strict ≡ true → departure ≡ None
 
--- A call that reads an input, and writes bytes that are of it by this relation: what remains to be read and what has been written,
--- each before and after it.
-pub record Converts (IsOfInput : List ℕ → List ℕ → Type 0) (remaining_before remaining contents_before contents : Option (List ℕ)) : Type 0 where
-  pub input : List ℕ
-  pub bytes : List ℕ
-  pub read : Consumes remaining_before remaining input
-  pub are_of_input : IsOfInput input bytes
-  pub written : Appends contents_before contents bytes
+-- the same of a certificate of an input, which has octets
+abbrev pub IsShownOf : Options → PemCertificate → List ℕ → Option FromDer → Type 0
+IsShownOf options (Octets octets) bytes departure = IsShown options octets.items bytes departure
+IsShownOf options (Refused error) bytes departure = ⊥
+
+-- whether there are bytes
+abbrev pub are_some : List ℕ → Bool
+are_some [] = false
+are_some (byte ∷ bytes) = true
+
+-- the same of bytes that were written, in this format, where others were before
+abbrev pub is_separated : OutputFormat → Bool → List ℕ → Bool
+is_separated AsReport follows bytes = follows || are_some bytes
+is_separated Der follows bytes = false
+
+-- what is between bytes that were shown and those of the next certificate: an empty line between two reports
+abbrev pub separator : Options → List ℕ → List ℕ
+separator options bytes = if is_separated options.format options.follows bytes then 10 ∷ [] else []

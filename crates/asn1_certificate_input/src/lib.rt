@@ -1,30 +1,46 @@
-//! The certificate that an input has, as a program writes it, or why it has none.
+//! The certificates that an input has, as a program writes them, or why it has none.
 //!
 //! | Item | What it is |
 //! |---|---|
-//! | [`run`], [`Outcome`] | writes the certificate that a reader gives, and the end of the program |
-//! | [`output_of`], [`InputError`] | the output for an input, or the reason that there is none |
-//! | [`OutputFormat`], [`format_of`] | the format in which a certificate is written |
+//! | [`run`], [`Outcome`] | writes the certificates that a reader gives, and the end of the run |
+//! | [`output_of`], [`Output`], [`Message`], [`Notice`] | the output for an input, with its warnings and refusals |
+//! | [`shown_of`], [`Shown`] | the output for one certificate |
+//! | [`InputError`], [`FromDer`] | why there is no output, and how octets depart from DER |
+//! | [`Options`], [`OutputFormat`] | what a user asks for |
 //!
-//! An input is the DER of a certificate, or a text with it in base64. As a report it is for a person to read
-//! (`report_of` of `asn1_certificate_reader` and `report_text` of `asn1_certificate_text`), and as DER the octets that were read.
+//! An input is the DER of a certificate, or a text with certificates in base64. As a report a certificate is for a person to read
+//! (`report_of` of `asn1_certificate_reader` and `report_text` of `asn1_certificate_text`), and as DER it is the octets that were read.
 //!
 //! The contracts promise:
 //!
-//! - The output is that of the certificate of the input (`AreLinesOfInput` and `IsDerOfInput` of `specs/Shown.antt`): an input
-//!   that is one element is its own octets, and the octets are read as the valid certificate whose DER they are, if there is one
-//!   (`IsCertificateOf` of `specs/Inputs.antt`).
-//! - The error is a true reason for which an input is refused (`IsRefusalOfInput` of `specs/Refused.antt`). For a value in a name, and
-//!   for parameters, its position is the one to which their path leads in the octets (`specs/Positions.antt`).
-//!   The status is 1 if the input is refused, and 2 if memory runs out or reading or writing fails (`status_after`).
+//! - The output is that of the certificates of the input, in their order, but for those that are refused (`AnswersInput` of
+//!   `specs/Answers.antt`). An input has the certificates between the lines of a text, or is one itself (`AreCertificatesOf` of
+//!   `specs/Inputs.antt`).
+//! - A certificate is shown as its lines or its DER (`IsShown` of `specs/Shown.antt`): its octets are read as the valid certificate
+//!   whose DER they are, if there is one (`IsReadOf` of `specs/Certificates.antt`).
+//! - With `is_strict` the octets of each certificate that is shown are the very octets that writing a certificate makes (`canonical` of
+//!   `IsShown`). Without, no departure is answered only of such octets, and a departure that is answered is one: the octets break
+//!   this rule at this position, or differ there from what is written (`AnswersDeparture` of `specs/Departures.antt`).
+//! - An error is a true reason for which a certificate or an input is refused (`IsRefusalOf` and `IsRefusalOfInput` of
+//!   `specs/Refused.antt`). For a value in a name, and for parameters, its position is the one to which their path leads in the octets
+//!   (`specs/Positions.antt`).
+//! - The status is 0 if nothing is refused, 1 if something is, and else 2 (`converts` of [`run`]).
 #![tactic(auto)]
 
+mod certificate;
+mod departure;
+mod error;
+mod inputs;
 mod open_types;
+mod options;
 mod outcome;
 mod output;
-mod output_format;
 mod positions;
+mod reading;
 
+pub use certificate::{Shown, shown_of};
+pub use departure::FromDer;
+pub use error::InputError;
+pub use options::{Options, OutputFormat};
 pub use outcome::{Outcome, run};
-pub use output::{InputError, output_of};
-pub use output_format::{OutputFormat, format_of};
+pub use output::{Message, Notice, Output, output_of};

@@ -2,9 +2,9 @@
 ghost use Rattle.std.specs.Prelude.{IfErr, OnOk};
 ghost use Rattle.asn1_certificate_input.specs.Refused.{IsRefusalOfCertificate};
 ghost use Rattle.asn1_certificate_input.specs.Shown.{HasGoodNames};
+ghost use Rattle.asn1_certificate_input.specs.declared.options.OutputFormat.{OutputFormat};
 
-use crate::output::InputError;
-use crate::output_format::OutputFormat;
+use crate::error::InputError;
 use crate::positions::{
     ISSUER, SUBJECT, position_of_key_parameters, position_of_parameters_beside,
     position_of_signed_parameters, position_of_value,

@@ -1,139 +1,118 @@
-//! The end of the program.
-ghost use Rattle.std.specs.Prelude.{◌≡◌, ◌↔◌, IfErr, IsOk, OnOk};
+//! The end of a run over one input.
+ghost use Rattle.std.specs.Prelude.{◌≡◌, ◌<◌, ◌==◌, IfErr, IfOk, MatchResult, OnOk};
 ghost use Rattle.std.specs.Io.KnownBytes.{Appends, IsAtEnd};
-ghost use Rattle.asn1_certificate_input.specs.Refused.{IsFailure, IsRefused, status_after};
-ghost use Rattle.asn1_certificate_input.specs.Shown.{AreLinesOfInput, Converts, IsDerOfInput};
+ghost use Rattle.asn1_certificate_input.specs.Answers.{AnswersInput, Converts};
 ghost use Rattle.asn1_certificate_input.specs.declared.outcome.Failure.TheVariants.{Writing};
 
-use crate::output::{InputError, output_of};
-use crate::output_format::OutputFormat;
+use crate::options::Options;
+use crate::output::{Message, Output, output_of};
 use std::alloc::Global;
-use std::fmt;
 use std::io::{Eprint, Read, Write};
-use std::process::{ExitCode, Termination};
 use thiserror::Error;
 
-/// The reason that there is no output.
+/// The reason that an input was not read to its end, or its output not written.
 #[derive(Clone, Copy, Debug, Drop, Error)]
 pub(crate) enum Failure {
-    /// The input is refused, or memory ran out.
-    #[error("{0}")]
-    NoOutput(InputError),
     /// The input was not read to its end.
     #[error("reading failed")]
     Reading,
     /// The output was not written.
     #[error("writing failed")]
     Writing,
+    /// There was no memory.
+    #[error("no memory")]
+    Memory,
 }
 
-impl Failure {
-    /// The status of the program after it.
-    fn status(&self) -> u8
-        ensures { result ≡ status_after self.now }
-    {
-        match self {
-            Failure::NoOutput(InputError::Memory) => 2,
-            Failure::NoOutput(_) => 1,
-            Failure::Reading => 2,
-            Failure::Writing => 2,
-        }
-    }
-}
-
-/// The end of the program: its status, and the text that `{}` prints on standard error.
-#[derive(Clone, Copy)]
+/// The end of a run over one input: its status, and what it tells on standard error.
+#[derive(Drop)]
 pub struct Outcome {
-    /// 0 if a certificate was written, 1 if the input is refused, and 2 if memory ran out, or reading or writing failed.
+    /// 0 if each certificate was written, 1 if the input or a certificate of it is refused, and 2 if memory ran out, or reading or
+    /// writing failed.
     pub status: u8,
+    /// Whether a certificate was written.
+    pub has_output: bool,
+    messages: Vec<Message>,
     failure: Option<Failure>,
 }
 
 impl Outcome {
-    /// The end of the program after this answer.
-    fn of(answer: Result<(), Failure>) -> Outcome
-        ensures written { (result.status ≡ 0) ↔ IsOk answer }
-        ensures failed { IfErr answer (λ failure. result.status ≡ status_after failure) }
+    /// The end of a run after this answer.
+    fn of(alloc: Global, answer: Result<Output, Failure>) -> Outcome
+        ensures { MatchResult answer
+            (λ output. output.is_refused ≡ (result.status == 1)) (λ _. result.status ≡ 2) }
     {
         match answer {
-            Ok(()) => Outcome {
-                status: 0,
+            Ok(output) => Outcome {
+                status: u8::from(output.is_refused),
+                has_output: !output.bytes.is_empty(),
+                messages: output.messages,
                 failure: None,
             },
             Err(failure) => Outcome {
-                status: failure.status(),
+                status: 2,
+                has_output: false,
+                messages: Vec::new(alloc),
                 failure: Some(failure),
             },
         }
     }
-}
 
-impl fmt::Display for Outcome {
-    fn fmt<W: fmt::Write>(&self, f: &mut fmt::Formatter<W>) -> fmt::Result {
-        match self.failure {
-            Some(failure) => writeln!(f, "{failure}"),
-            None => Ok(()),
+    /// Prints a line on standard error for each warning, refusal and failure, behind the name of the input if it has one.
+    pub fn tell<R: Eprint>(&self, rt: &R, source: Option<&str>) {
+        for message in &self.messages {
+            let _ = match source {
+                Some(name) => eprintln!(rt; "{name}: {message}"),
+                None => eprintln!(rt; "{message}"),
+            };
+        }
+        if let Some(failure) = self.failure {
+            let _ = match source {
+                Some(name) => eprintln!(rt; "{name}: error: {failure}"),
+                None => eprintln!(rt; "error: {failure}"),
+            };
         }
     }
 }
 
-/// The answer of `main`: the text is printed, and the process ends with the status.
-impl Termination for Outcome {
-    ghost use Rattle.std.specs.Process.{exit_status};
-
-    fn report<R: Eprint>(self, rt: &R) -> ExitCode
-        ensures { exit_status result ≡ self.status }
-    {
-        let _ = rt.eprint(self);
-        ExitCode::from(self.status)
-    }
-}
-
-/// Writes the certificate that the reader gives in a format, and answers the end of the program.
+/// Writes the certificates that the reader gives, as the options ask for them, and answers the end of the run.
 pub fn run<R: Read, W: Write>(
     alloc: Global,
-    format: OutputFormat,
+    options: Options,
     reader: &mut R,
     writer: &mut W,
 ) -> Outcome
-    ensures read { result.status ≡ 0 → IsAtEnd (R.remaining reader.new) }
-    ensures report { format ≡ OutputFormat.Report → result.status ≡ 0 → Converts AreLinesOfInput
+    ensures read { result.status < 2 → IsAtEnd (R.remaining reader.new) }
+    ensures converts { result.status < 2 → Converts
+        (λ input bytes. AnswersInput options input bytes (result.status == 1))
         (R.remaining reader.old) (R.remaining reader.new)
         (W.contents writer.old) (W.contents writer.new) }
-    ensures der { format ≡ OutputFormat.Der → result.status ≡ 0 → Converts IsDerOfInput
-        (R.remaining reader.old) (R.remaining reader.new)
-        (W.contents writer.old) (W.contents writer.new) }
-    ensures refused { result.status ≡ 1 →
-        IsRefused format (R.remaining reader.old) (R.remaining reader.new) }
 {
-    Outcome::of(convert(alloc, format, reader, writer))
+    Outcome::of(alloc, convert(alloc, options, reader, writer))
 }
 
-/// Writes the certificate that the reader gives in a format.
+/// Writes the certificates that the reader gives.
 fn convert<R: Read, W: Write>(
     alloc: Global,
-    format: OutputFormat,
+    options: Options,
     reader: &mut R,
     writer: &mut W,
-) -> Result<(), Failure>
-    ensures read { OnOk result (IsAtEnd (R.remaining reader.new)) }
-    ensures report { format ≡ OutputFormat.Report → OnOk result (Converts AreLinesOfInput
+) -> Result<Output, Failure>
+    ensures read { IfOk result (λ _. IsAtEnd (R.remaining reader.new)) }
+    ensures converts { IfOk result (λ output. Converts
+        (λ input bytes. AnswersInput options input bytes output.is_refused)
         (R.remaining reader.old) (R.remaining reader.new)
         (W.contents writer.old) (W.contents writer.new)) }
-    ensures der { format ≡ OutputFormat.Der → OnOk result (Converts IsDerOfInput
-        (R.remaining reader.old) (R.remaining reader.new)
-        (W.contents writer.old) (W.contents writer.new)) }
-    ensures failed { IfErr result
-        (IsFailure format (R.remaining reader.old) (R.remaining reader.new)) }
 {
     let mut input = Vec::new(alloc);
     if reader.read_to_end(&mut input).is_err() {
         return Err(Failure::Reading);
     }
-    match output_of(alloc, format, input) {
-        Ok(bytes) => write_bytes(bytes.as_slice(), writer),
-        Err(error) => Err(Failure::NoOutput(error)),
-    }
+    let Ok(output) = output_of(alloc, options, input) else {
+        return Err(Failure::Memory);
+    };
+    write_bytes(output.bytes.as_slice(), writer)?;
+    Ok(output)
 }
 
 /// Writes bytes, and flushes the writer.

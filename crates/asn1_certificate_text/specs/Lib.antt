@@ -12,6 +12,7 @@ pub mod Numbers
 pub mod Objects
 pub mod Octets
 pub mod Pem
+pub mod PemLines
 pub mod PemRefusals
 pub mod Registry
 pub mod Reports

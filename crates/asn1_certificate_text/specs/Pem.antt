@@ -1,54 +1,30 @@
--- A certificate in a text (RFC 7468, 2 and 5).
-use Rattle.std.specs.Prelude.{◌≡◌, ◌+◌, ◌⊎◌, ℕ, Bool, not, List, None, Ok, Some, codes, drop, filter, length, take}
-use Rattle.std.specs.Char.{is_ascii_whitespace}
+-- The certificates of a text (RFC 7468, 2 and 5).
+use Rattle.std.specs.Prelude.{◌≡◌, ◌+◌, ℕ, ⊤, List, [], ◌∷◌, Ok, drop, filter, length}
 use Rattle.base64.specs.Engines.{standard}
 use Rattle.base64.specs.GeneralPurpose.{decode_of}
-use Rattle.memchr.specs.Find.{FindsNeedle}
+use Rattle.asn1_certificate_text.specs.PemLines.{EnclosesAt, HasNoBegin, HasNoEnd, end_line, is_symbol}
+use Rattle.asn1_certificate_text.specs.PemRefusals.{IsAboutBase64}
+use Rattle.asn1_certificate_text.specs.declared.pem.PemCertificate.{PemCertificate}
+use Rattle.asn1_certificate_text.specs.declared.pem.PemCertificate.TheVariants.{Octets, Refused}
+use Rattle.asn1_certificate_text.specs.declared.pem.PemError.TheVariants.{NoEnd}
 
--- the line before a certificate, found by its text anywhere in a line
-abbrev pub begin_line : List ℕ
-begin_line = codes "-----BEGIN CERTIFICATE-----"
+-- The octets are those that the base64 of a body encodes, or the error is about that base64. The body begins at `start` in the text.
+abbrev pub IsFound : ℕ → List ℕ → PemCertificate → Type 0
+IsFound start body (Octets octets) = decode_of standard (filter is_symbol body) ≡ Ok octets.items
+IsFound start body (Refused error) = IsAboutBase64 start body error
 
--- the line after one
-abbrev pub end_line : List ℕ
-end_line = codes "-----END CERTIFICATE-----"
+-- The certificates of a text from a position on, of which this is the rest: none where no line is before one, a last one where no line
+-- ends it, or the first and those after the line that ends it.
+pub data AreCertificatesFrom : ℕ → List ℕ → List PemCertificate → Type 0 where
+  no_more : (start : ℕ) (rest : List ℕ) → HasNoBegin rest → AreCertificatesFrom start rest []
+  no_end : (start : ℕ) (rest : List ℕ) (end : ℕ) → HasNoEnd rest end → AreCertificatesFrom start rest (Refused (NoEnd (start + end)) ∷ [])
+  one_more : (start : ℕ) (rest : List ℕ) (begin : ℕ) (body : List ℕ) (first : PemCertificate) (others : List PemCertificate) →
+      EnclosesAt rest begin body → IsFound (start + begin) body first →
+      AreCertificatesFrom (start + (begin + length body + length end_line)) (drop (begin + length body + length end_line) rest) others →
+      AreCertificatesFrom start rest (first ∷ others)
 
--- a byte that is no white space
-abbrev pub is_symbol : ℕ → Bool
-is_symbol byte = not (is_ascii_whitespace byte)
-
--- there is no line before a certificate
-abbrev pub HasNoBegin : List ℕ → Type 0
-HasNoBegin text = FindsNeedle text begin_line 0 None
-
--- there is such a line, and the first begins at this position
-pub record HasBegin (text : List ℕ) : Type 0 where
-  pub position : ℕ
-  pub found : FindsNeedle text begin_line 0 (Some position)
-
--- the first line before a certificate ends at `start`
-pub record BeginsAt (text : List ℕ) (start : ℕ) : Type 0 where
-  pub position : ℕ
-  pub found : FindsNeedle text begin_line 0 (Some position)
-  pub after : start ≡ position + length begin_line
-
--- The body begins at the end of the first line before a certificate, and ends at the next line after one.
-pub record EnclosesAt (text : List ℕ) (start : ℕ) (body : List ℕ) : Type 0 where
-  pub begins : BeginsAt text start
-  pub ends : FindsNeedle (drop start text) end_line 0 (Some (length body))
-  pub between : body ≡ take (length body) (drop start text)
-
--- the body is between the first line before a certificate and the next line after one
-pub record Encloses (text body : List ℕ) : Type 0 where
-  pub start : ℕ
-  pub at_start : EnclosesAt text start body
-
--- the octets are those that the base64 between these two lines encodes
-pub record HoldsCertificate (text octets : List ℕ) : Type 0 where
-  pub body : List ℕ
-  pub encloses : Encloses text body
-  pub says : decode_of standard (filter is_symbol body) ≡ Ok octets
-
--- the octets are those of the certificate in a text, or the input itself, which is no text with a certificate
-abbrev pub AreOctetsOfText : List ℕ → List ℕ → Type 0
-AreOctetsOfText input octets = HoldsCertificate input octets ⊎ (HasNoBegin input × (octets ≡ input))
+-- both have the same octets, or none
+abbrev pub TellSameOctets : PemCertificate → PemCertificate → Type 0
+TellSameOctets (Octets a) (Octets b) = a.items ≡ b.items
+TellSameOctets (Refused a) (Refused b) = ⊤
+TellSameOctets _ _ = ⊥

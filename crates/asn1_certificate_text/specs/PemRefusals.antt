@@ -1,13 +1,12 @@
--- The reasons for which a text has no certificate, and the byte of the text that an error names.
-use Rattle.std.specs.Prelude.{◌≡◌, ◌+◌, ◌<◌, ⊤, ℕ, List, Option, None, Some, Err, IsTrue, drop, filter, length, slice_index, take}
+-- The reasons for which base64 in a text encodes no octets, and the byte of the text that an error names.
+use Rattle.std.specs.Prelude.{◌≡◌, ◌+◌, ◌<◌, ℕ, List, Option, None, Some, Err, IsTrue, filter, length, slice_index, take}
 use Rattle.base64.specs.Engines.{standard}
 use Rattle.base64.specs.GeneralPurpose.{decode_of}
 use Rattle.base64.specs.declared.decode.DecodeError.{DecodeError}
 use Rattle.base64.specs.declared.decode.DecodeError.TheVariants.{InvalidByte, InvalidLength, InvalidLastSymbol, InvalidPadding}
-use Rattle.memchr.specs.Find.{FindsNeedle}
 use Rattle.asn1_certificate_text.specs.declared.pem.PemError.{PemError}
-use Rattle.asn1_certificate_text.specs.declared.pem.PemError.TheVariants.{NoBegin, NoEnd, BadSymbol, NotWhole, Memory}
-use Rattle.asn1_certificate_text.specs.Pem.{BeginsAt, EnclosesAt, HasNoBegin, end_line, is_symbol}
+use Rattle.asn1_certificate_text.specs.declared.pem.PemError.TheVariants.{NoEnd, BadSymbol, NotWhole}
+use Rattle.asn1_certificate_text.specs.PemLines.{is_symbol}
 
 -- The body has a symbol at this position, and this many before it.
 pub record IsPositionOfSymbol (body : List ℕ) (before position : ℕ) : Type 0 where
@@ -41,36 +40,6 @@ pub record IsNotWhole (start : ℕ) (body : List ℕ) (position : ℕ) : Type 0 
 
 -- the error is about the base64 in a body, which begins at `start` in the text
 abbrev pub IsAboutBase64 : ℕ → List ℕ → PemError → Type 0
-IsAboutBase64 start body NoBegin = ⊥
 IsAboutBase64 start body (NoEnd end) = ⊥
 IsAboutBase64 start body (BadSymbol position) = HasBadSymbol start body position
 IsAboutBase64 start body (NotWhole position) = IsNotWhole start body position
-IsAboutBase64 start body Memory = ⊥
-
--- the same, or there was no memory
-abbrev pub IsRefusalOfBody : ℕ → List ℕ → PemError → Type 0
-IsRefusalOfBody start body NoBegin = ⊥
-IsRefusalOfBody start body (NoEnd end) = ⊥
-IsRefusalOfBody start body (BadSymbol position) = HasBadSymbol start body position
-IsRefusalOfBody start body (NotWhole position) = IsNotWhole start body position
-IsRefusalOfBody start body Memory = ⊤
-
--- the error is about the base64 between the two lines
-pub record HoldsNoBase64 (text : List ℕ) (error : PemError) : Type 0 where
-  pub start : ℕ
-  pub body : List ℕ
-  pub encloses : EnclosesAt text start body
-  pub refused : IsAboutBase64 start body error
-
--- the first line before a certificate ends at `start`, and no line after it ends one
-pub record HasNoEnd (text : List ℕ) (start : ℕ) : Type 0 where
-  pub begins : BeginsAt text start
-  pub never_ends : FindsNeedle (drop start text) end_line 0 None
-
--- there is no line before a certificate or none after it, or what is between them is no base64, or there was no memory
-abbrev pub IsRefusal : List ℕ → PemError → Type 0
-IsRefusal text NoBegin = HasNoBegin text
-IsRefusal text (NoEnd start) = HasNoEnd text start
-IsRefusal text (BadSymbol position) = HoldsNoBase64 text (BadSymbol position)
-IsRefusal text (NotWhole position) = HoldsNoBase64 text (NotWhole position)
-IsRefusal text Memory = ⊤

@@ -1,18 +1,21 @@
-//! Laws that no other contract states: a text determines the octets of its first certificate, and derives compare contents.
+//! Laws that no other contract states: a text determines the octets of its certificates, and derives compare contents.
+ghost use Rattle.std.specs.List.{AllZip};
 ghost use Rattle.std.specs.Prelude.{◌≡◌, ◌↔◌, ℕ, IsTrue, List};
-ghost use Rattle.asn1_certificate_text.specs.Pem.{HoldsCertificate};
+ghost use Rattle.asn1_certificate_text.specs.Pem.{AreCertificatesFrom, TellSameOctets};
 ghost use Rattle.asn1_certificate_text.specs.declared.moment.Moment.{Moment};
 ghost use Rattle.asn1_certificate_text.specs.declared.registry.Curve.{Curve};
 ghost use Rattle.asn1_certificate_text.specs.declared.registry.NamedObject.{NamedObject};
+ghost use Rattle.asn1_certificate_text.specs.declared.pem.PemCertificate.{PemCertificate};
 ghost use Rattle.asn1_certificate_text.specs.declared.pem.PemError.{PemError};
 
 use crate::moment::Moment;
 use crate::pem::PemError;
 use crate::registry::{Curve, NamedObject};
 
-/// The octets of the first certificate in a text are determined by the text.
-pub fn texts_tell_their_first_certificate()
-    ensures { (text a b : List ℕ) → HoldsCertificate text a → HoldsCertificate text b → a ≡ b }
+/// The number of certificates in a text, and the octets of each, are determined by the text.
+pub fn texts_tell_their_certificates()
+    ensures { (text : List ℕ) (a b : List PemCertificate) → AreCertificatesFrom 0 text a →
+        AreCertificatesFrom 0 text b → AllZip TellSameOctets a b }
 {}
 
 /// Two moments are equal if and only if their numbers are, two errors if and only if they are the same, and clones are

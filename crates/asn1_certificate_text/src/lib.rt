@@ -15,7 +15,7 @@
 //! | [`push_octets`], [`push_digits`] | octets in hexadecimal, with colons and without |
 //! | [`push_address`] | an IP address |
 //! | [`bit_length`], [`push_usages`] | the size of a number, and the usages of a key |
-//! | [`is_pem`], [`pem_octets`], [`certificate_octets`], [`PemError`] | a certificate between two lines, in base64 (RFC 7468) |
+//! | [`is_pem`], [`certificates_in`], [`PemCertificate`], [`PemError`] | certificates between two lines, in base64 (RFC 7468) |
 //!
 //! The contracts promise:
 //!
@@ -29,11 +29,11 @@
 //! - An object is found by its arcs if and only if a row of the table has these (`found`, `missing`), and has the name of
 //!   such a row (`listed`, over `object_names` and `curve_sizes` of `specs/Registry.antt`). The rows themselves are data: no clause
 //!   compares them with the standards.
-//! - The octets of a text with a certificate are those that its base64 encodes, between the first line before a certificate and
-//!   the next line after one, white space left out (`HoldsCertificate` of `specs/Pem.antt`). The text determines them
-//!   (`texts_tell_their_first_certificate` of [`laws`]).
-//! - An error names a byte of the text: the end of the first line before a certificate, if no line follows that ends one; the symbol
-//!   that base64 refuses; or the end of base64 that is not whole (`IsRefusal` of `specs/PemRefusals.antt`).
+//! - The certificates of a text are found in their order, each between a line before one and the next line after one, and its octets
+//!   are those that the base64 between encodes, white space left out (`AreCertificatesFrom` of `specs/Pem.antt`). The text
+//!   determines them (`texts_tell_their_certificates` of [`laws`]).
+//! - An error names a byte of the text: the end of the line before a certificate, if no line follows that ends one; the symbol that
+//!   base64 refuses; or the end of base64 that is not whole (`IsAboutBase64` of `specs/PemRefusals.antt`).
 //! - Equality of moments and errors compares their contents (`derives_keep_what_a_value_is` of [`laws`]).
 //!
 //! The functions that append fail only if memory runs out, and may then have appended a part.
@@ -69,7 +69,7 @@ pub use name::{Attribute, AttributeValue, NamePart, ShownName};
 pub use number::{OctetNumber, Version};
 pub use object::Object;
 pub use octets::{push_digits, push_octets};
-pub use pem::{PemError, certificate_octets, is_pem, pem_octets};
+pub use pem::{PemCertificate, PemError, certificates_in, is_pem};
 pub use registry::{Curve, NamedObject, curve_of, object_named};
 pub use report::{Report, report_text};
 pub use time::ShownTime;

@@ -1,10 +1,10 @@
-//! A certificate in a text (RFC 7468).
-ghost use Rattle.std.specs.Prelude.{◌≡◌, ◌+◌, ◌<◌, ◌≤◌, ◌^◌, Err, IfErr, IfOk, Ok, false, filter, length, true};
+//! The certificates of a text (RFC 7468).
+ghost use Rattle.std.specs.Prelude.{◌≡◌, ◌+◌, ◌<◌, ◌≤◌, ◌^◌, Err, IfOk, false, filter, length, true};
 ghost use Rattle.base64.specs.Engines.{standard};
 ghost use Rattle.base64.specs.GeneralPurpose.{decode_of};
-ghost use Rattle.asn1_certificate_text.specs.Pem.{AreOctetsOfText, EnclosesAt, HasBegin, HasNoBegin, HoldsCertificate, is_symbol};
-ghost use Rattle.asn1_certificate_text.specs.declared.pem.PemError.TheVariants.{Memory};
-ghost use Rattle.asn1_certificate_text.specs.PemRefusals.{IsAboutBase64, IsPositionOfSymbol, IsRefusal, IsRefusalOfBody};
+ghost use Rattle.asn1_certificate_text.specs.Pem.{AreCertificatesFrom, IsFound};
+ghost use Rattle.asn1_certificate_text.specs.PemLines.{HasBegin, HasNoBegin, is_symbol};
+ghost use Rattle.asn1_certificate_text.specs.PemRefusals.{IsAboutBase64, IsPositionOfSymbol};
 
 use base64::engine::general_purpose::STANDARD;
 use base64::{DecodeAllocError, DecodeError};
@@ -18,13 +18,19 @@ const BEGIN: &[u8] = b"-----BEGIN CERTIFICATE-----";
 /// The line after it.
 const END: &[u8] = b"-----END CERTIFICATE-----";
 
-/// The reasons for which a text has no certificate. Positions are those of bytes in the text, from 0.
+/// A certificate of a text.
+#[derive(Debug, Drop)]
+pub enum PemCertificate {
+    /// The octets that its base64 encodes.
+    Octets(Vec<u8>),
+    /// The reason that there are none.
+    Refused(PemError),
+}
+
+/// The reasons for which a certificate of a text has no octets. Positions are those of bytes in the text, from 0.
 #[derive(Clone, Copy, Debug, Drop, PartialEq, Eq, Error)]
 pub enum PemError {
-    /// There is no line before a certificate.
-    #[error("there is no line -----BEGIN CERTIFICATE-----")]
-    NoBegin,
-    /// The first line before a certificate ends at this position, and no line after it ends one.
+    /// The line before it ends at this position, and no line after it ends one.
     #[error("there is no line -----END CERTIFICATE----- after byte {0}")]
     NoEnd(usize),
     /// base64 refuses the symbol at this position.
@@ -33,17 +39,6 @@ pub enum PemError {
     /// The base64 that ends at this position is not whole.
     #[error("the base64 before byte {0} is not whole")]
     NotWhole(usize),
-    /// There was no memory.
-    #[error("no memory")]
-    Memory,
-}
-
-impl From<AllocError> for PemError {
-    ghost from_gives = { λ _ e. e ≡ Memory };
-
-    fn from(_refused: AllocError) -> PemError {
-        PemError::Memory
-    }
 }
 
 /// Whether there is a line before a certificate.
@@ -57,64 +52,41 @@ pub fn is_pem(input: &[u8]) -> bool
     }
 }
 
-/// The octets of an input: those of the first certificate in a text, and any other input as it is.
+/// The certificates of a text, each between a line before one and the next line after one, in their order. White space in the base64 is
+/// left out. The text after the last line after a certificate has none if it has no line before one.
 ///
 /// # Errors
-/// Those of [`pem_octets`], if there is a line before a certificate.
-pub fn certificate_octets(alloc: Global, input: Vec<u8>) -> Result<Vec<u8>, PemError>
-    ensures read { IfOk result (λ octets. AreOctetsOfText input.items octets.items) }
-    ensures refused { IfErr result (IsRefusal input.items) }
+/// [`AllocError`], if memory runs out.
+pub fn certificates_in(alloc: Global, text: &[u8]) -> Result<Vec<PemCertificate>, AllocError>
+    ensures { IfOk result (λ found. AreCertificatesFrom 0 text.now found.items) }
 {
-    if is_pem(input.as_slice()) {
-        pem_octets(alloc, input.as_slice())
-    } else {
-        Ok(input)
+    let mut found = Vec::new(alloc);
+    let mut start = 0;
+    while let Some(begin) = memmem::find(&text[start..], BEGIN) {
+        let place = start + begin + BEGIN.len();
+        let rest = &text[place..];
+        let Some(size) = memmem::find(rest, END) else {
+            found.push(PemCertificate::Refused(PemError::NoEnd(place)))?;
+            return Ok(found);
+        };
+        found.push(certificate_of(alloc, place, &rest[..size])?)?;
+        start = place + size + END.len();
     }
+    Ok(found)
 }
 
-/// The octets of the first certificate in a text. White space in its base64 is left out.
-///
-/// # Errors
-/// Each but [`PemError::Memory`] names a byte of the text.
-pub fn pem_octets(alloc: Global, text: &[u8]) -> Result<Vec<u8>, PemError>
-    ensures read { IfOk result (λ octets. HoldsCertificate text.now octets.items) }
-    ensures refused { IfErr result (IsRefusal text.now) }
-{
-    match enclosed(text) {
-        Ok((start, body)) => body_octets(alloc, start, body),
-        Err(error) => Err(error),
-    }
-}
-
-/// The text between the first line before a certificate and the next line after one, and the position where it begins.
-fn enclosed(text: &[u8]) -> Result<(usize, &[u8]), PemError>
-    ensures found { IfOk result (λ found. EnclosesAt text.now found.0 found.1.now) }
-    ensures fits { IfOk result (λ found. found.0 + length found.1.now < 2 ^ 64) }
-    ensures refused { IfErr result (IsRefusal text.now) }
-{
-    let Some(begin) = memmem::find(text, BEGIN) else {
-        return Err(PemError::NoBegin);
-    };
-    let start = begin + BEGIN.len();
-    let rest = &text[start..];
-    let Some(length) = memmem::find(rest, END) else {
-        return Err(PemError::NoEnd(start));
-    };
-    Ok((start, &rest[..length]))
-}
-
-/// The octets that the base64 in a body encodes. The body begins at `start` in the text.
-fn body_octets(alloc: Global, start: usize, body: &[u8]) -> Result<Vec<u8>, PemError>
+/// The certificate whose base64 is this body, which begins at `start` in the text.
+fn certificate_of(alloc: Global, start: usize, body: &[u8]) -> Result<PemCertificate, AllocError>
     requires { start + length body.now < 2 ^ 64 }
-    ensures read { IfOk result (λ octets. decode_of standard (filter is_symbol body.now) ≡
-        Ok octets.items) }
-    ensures refused { IfErr result (IsRefusalOfBody start body.now) }
+    ensures { IfOk result (IsFound start body.now) }
 {
     let symbols = symbols_of(alloc, body)?;
     match STANDARD.decode(alloc, symbols.as_slice()) {
-        Ok(octets) => Ok(octets),
-        Err(DecodeAllocError::OutOfMemory) => Err(PemError::Memory),
-        Err(DecodeAllocError::DecodeError(error)) => Err(error_at(start, body, error)),
+        Ok(octets) => Ok(PemCertificate::Octets(octets)),
+        Err(DecodeAllocError::OutOfMemory) => Err(AllocError),
+        Err(DecodeAllocError::DecodeError(error)) => {
+            Ok(PemCertificate::Refused(error_at(start, body, error)))
+        }
     }
 }
 

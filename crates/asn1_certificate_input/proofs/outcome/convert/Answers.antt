@@ -1,5 +1,4 @@
 use Rattle.std.proofs.Common.{◌≡◌, List, Option, [], subst, ℕ}
-use Rattle.std.proofs.lemmas.Result.{on_ok_weaker}
 use Rattle.std.specs.Io.{appended_bytes}
 use Rattle.std.specs.Io.KnownBytes.{Appends, Consumes}
 use Rattle.asn1_certificate_input.proofs.outcome.convert.Goals as goal
@@ -8,28 +7,11 @@ use Rattle.asn1_certificate_input.proofs.outcome.convert.Goals as goal
 all_given : (before after : List ℕ) (old new : Option (List ℕ)) → before ≡ [] → Consumes old new (appended_bytes before after) → Consumes old new after
 all_given before after old new none given = subst (λ b. Consumes old new (appended_bytes b after)) none given
 
-pub returns-in-Ok-clause-report : goal.returns-in-Ok-clause-report
-returns-in-Ok-clause-report g c = λ asked.
-    let shown = c.in-Ok.ensures.report asked in
-    on_ok_weaker c.write_bytes.result
-    (λ written. record {
-      input = c.read_to_end.new.buf.items;
-      bytes = c.in-Ok.bytes.items;
-      read = all_given c.new-input.result.items c.read_to_end.new.buf.items (g.R.Read.remaining c.args.reader.now) (g.R.Read.remaining c.read_to_end.new.self) c.new-input.ensures.items c.read_to_end.ensures.none_lost;
-      are_of_input = shown;
-      written = subst (Appends (g.W.Write.contents c.args.writer.now) (g.W.Write.contents c.write_bytes.new.writer)) c.as_slice.ensures.value written;
-    })
-    c.write_bytes.ensures.written
-
-pub returns-in-Ok-clause-der : goal.returns-in-Ok-clause-der
-returns-in-Ok-clause-der g c = λ asked.
-    let shown = c.in-Ok.ensures.der asked in
-    on_ok_weaker c.write_bytes.result
-    (λ written. record {
-      input = c.read_to_end.new.buf.items;
-      bytes = c.in-Ok.bytes.items;
-      read = all_given c.new-input.result.items c.read_to_end.new.buf.items (g.R.Read.remaining c.args.reader.now) (g.R.Read.remaining c.read_to_end.new.self) c.new-input.ensures.items c.read_to_end.ensures.none_lost;
-      are_of_input = shown;
-      written = subst (Appends (g.W.Write.contents c.args.writer.now) (g.W.Write.contents c.write_bytes.new.writer)) c.as_slice.ensures.value written;
-    })
-    c.write_bytes.ensures.written
+pub returns-clause-converts : goal.returns-clause-converts
+returns-clause-converts g c = record {
+  input = c.read_to_end.new.buf.items;
+  bytes = c.in-Ok.output.bytes.items;
+  read = all_given c.new-input.result.items c.read_to_end.new.buf.items (g.R.Read.remaining c.args.reader.now) (g.R.Read.remaining c.read_to_end.new.self) c.new-input.ensures.items c.read_to_end.ensures.none_lost;
+  are_of_input = c.in-Ok.ensures;
+  written = subst (Appends (g.W.Write.contents c.args.writer.now) (g.W.Write.contents c.write_bytes.new.writer)) c.as_slice.ensures.value c.in_ok-write_bytes.ensures.written;
+}

@@ -1,6 +1,6 @@
 use Rattle.std.proofs.Common.{ap, filter, refl}
 use Rattle.asn1_certificate_text.proofs.Base64.{symbol_is_inside}
-use Rattle.asn1_certificate_text.specs.Pem.{is_symbol}
+use Rattle.asn1_certificate_text.specs.PemLines.{is_symbol}
 use Rattle.asn1_certificate_text.specs.PemRefusals.{symbol_of}
 use Rattle.asn1_certificate_text.proofs.pem.error_at.Goals as goal
 

@@ -1,5 +1,5 @@
 use Rattle.std.proofs.Common.{◌≡◌, ◌+◌, filter, length, take}
-use Rattle.asn1_certificate_text.specs.Pem.{is_symbol}
+use Rattle.asn1_certificate_text.specs.PemLines.{is_symbol}
 use Rattle.asn1_certificate_text.proofs.pem.position_of_symbol.Given as goal
 
 -- the symbols that were passed, and those that are still to pass

@@ -1,5 +1,5 @@
 use Rattle.std.proofs.Common.{ap, ◌∙◌}
-use Rattle.asn1_certificate_input.proofs.output.lines_of.Goals as goal
+use Rattle.asn1_certificate_input.proofs.certificate.lines_of.Goals as goal
 
 pub returns-clause-shown : goal.returns-clause-shown
 returns-clause-shown c = record {

@@ -1,0 +1,43 @@
+-- How the octets of a certificate depart from its DER.
+use Rattle.std.specs.Prelude.{ℕ, List, None, Option, Some}
+use Rattle.asn1_certificate_input.specs.Certificates.{IsReadOf, records_of}
+use Rattle.asn1_certificate_input.specs.declared.departure.FromDer.{FromDer}
+use Rattle.asn1_certificate_input.specs.declared.departure.FromDer.TheVariants.{Breaks, Differs, IsNotWritten}
+use Rattle.asn1_certificate_rules.specs.Departures.{Departs}
+use Rattle.asn1_certificate_rules.specs.declared.notation.Part.TheVariants as part
+use Rattle.asn1_der.specs.Format.{der_format}
+use Rattle.asn1_laws.specs.declared.encode_error.EncodeError.{EncodeError}
+use Rattle.asn1_rules.specs.CanonicalReading.{IsFirstDifference, IsWrittenAs}
+use Rattle.asn1_rules.specs.Rules as rules
+use Rattle.asn1_x509.specs.contracts.certificate.CertificateAsnType.TheImpl.{ghosts as certificates}
+use Rattle.asn1_x509.specs.declared.certificate.Certificate.{Certificate}
+
+-- The octets are those that writing this certificate makes, nested in 64 scopes at most.
+abbrev pub AreDerAsWritten : List ℕ → Certificate → Type 0
+AreDerAsWritten octets certificate = IsWrittenAs der_format certificates.meaning 64 certificate octets
+
+-- A certificate that the octets are read as is written as other octets, which first differ from these at this position.
+pub record IsWrittenOtherwise (octets : List ℕ) (position : ℕ) : Type 0 where
+  pub certificate : Certificate
+  pub written : List ℕ
+  pub read : IsReadOf octets certificate
+  pub as_written : AreDerAsWritten written certificate
+  pub first : IsFirstDifference octets written position
+
+-- A certificate that the octets are read as is not written.
+pub record IsReadAndNotWritten (octets : List ℕ) (error : EncodeError) : Type 0 where
+  pub certificate : Certificate
+  pub read : IsReadOf octets certificate
+  pub not_written : rules.IsNotWritten der_format (records_of certificate) 64 error
+
+-- how octets differ from what a certificate is written as, if they do
+abbrev pub AnswersDifference : List ℕ → Certificate → Option FromDer → Type 0
+AnswersDifference octets certificate None = AreDerAsWritten octets certificate
+AnswersDifference octets certificate (Some (Breaks departure)) = ⊥
+AnswersDifference octets certificate (Some (Differs position)) = IsWrittenOtherwise octets position
+AnswersDifference octets certificate (Some (IsNotWritten error)) = IsReadAndNotWritten octets error
+
+-- The same, or a rule of DER that the octets break where the notation of a certificate has this part.
+abbrev pub AnswersDeparture : List ℕ → Certificate → Option FromDer → Type 0
+AnswersDeparture octets certificate (Some (Breaks departure)) = Departs 64 part.Certificate octets departure.rule departure.position
+AnswersDeparture octets certificate difference = AnswersDifference octets certificate difference

@@ -1,0 +1,51 @@
+//! The certificates of an input.
+ghost use Rattle.std.specs.Prelude.{◌≡◌, IfErr, IfOk, false, true};
+ghost use Rattle.asn1_certificate_input.specs.Inputs.{AreCertificatesOf, IsAlone, IsNoText, IsText};
+ghost use Rattle.asn1_certificate_input.specs.Refused.{IsRefusalOfInput};
+
+use crate::error::InputError;
+use crate::reading::end_of_certificate;
+use asn1_certificate_text::{PemCertificate, certificates_in, is_pem};
+use asn1_der_items::is_one_element;
+use std::alloc::{AllocError, Global};
+
+/// The octet with which a SEQUENCE begins, and so a certificate.
+const SEQUENCE: u8 = 0x30;
+
+/// The certificates of an input. An input that is one element, or begins with a certificate, is DER. Of others a text with a line before
+/// a certificate has the certificates between these lines, and any other is DER if it begins as a SEQUENCE does.
+pub(crate) fn certificates_of(
+    alloc: Global,
+    input: Vec<u8>,
+) -> Result<Vec<PemCertificate>, InputError>
+    ensures found { IfOk result (λ found. AreCertificatesOf input.items found.items) }
+    ensures refused { IfErr result (IsRefusalOfInput input.items) }
+{
+    if is_text(alloc, input.as_slice())? {
+        return Ok(certificates_in(alloc, input.as_slice())?);
+    }
+    if input.first() != Some(&SEQUENCE) {
+        return Err(InputError::Neither);
+    }
+    Ok(alone(alloc, input)?)
+}
+
+/// The certificates of an input that is one itself.
+fn alone(alloc: Global, octets: Vec<u8>) -> Result<Vec<PemCertificate>, AllocError>
+    ensures { IfOk result (λ found. IsAlone octets.items found.items) }
+{
+    let mut certificates = Vec::new(alloc);
+    certificates.push(PemCertificate::Octets(octets))?;
+    Ok(certificates)
+}
+
+/// Whether an input is a text with certificates.
+fn is_text(alloc: Global, input: &[u8]) -> Result<bool, AllocError>
+    ensures text { IfOk result (λ text. text ≡ true → IsText input.now) }
+    ensures no_text { IfOk result (λ text. text ≡ false → IsNoText input.now) }
+{
+    if is_one_element(input) || !is_pem(input) {
+        return Ok(false);
+    }
+    Ok(end_of_certificate(alloc, input)?.is_none())
+}

@@ -1,0 +1,137 @@
+//! The certificate that octets are read as.
+ghost use Rattle.std.specs.Prelude.{◌≡◌, IfErr, IfOk, IfSome, Some};
+ghost use Rattle.asn1_certificate_input.specs.Certificates.{AreOfNoCertificate, IsFollowed, IsReadOf};
+ghost use Rattle.asn1_certificate_input.specs.Departures.{AnswersDifference};
+ghost use Rattle.asn1_certificate_input.specs.Refused.{IsRefusalOfOctets};
+ghost use Rattle.asn1_certificate_rules.specs.Departures.{Departs};
+
+use crate::departure::FromDer;
+use crate::error::InputError;
+use asn1_certificate_reader::MAX_DEPTH;
+use asn1_certificate_rules::{Departure, Part, Rule, first_departure};
+use asn1_dec::{Decode, DecodeError};
+use asn1_der::{DerDecoder, DerRules};
+use asn1_der_items::{find_element, first_fault};
+use asn1_enc::EncodeError;
+use asn1_rules::{CanonicalError, Rules, read_canonical};
+use asn1_x509::{Certificate, certificate_is_well_tagged};
+use std::alloc::{AllocError, Global};
+
+/// A certificate that was read, and how its octets differ from what it is written as.
+#[derive(Drop)]
+pub(crate) struct ReadCertificate {
+    pub(crate) certificate: Certificate,
+    pub(crate) difference: Option<FromDer>,
+}
+
+/// The certificate that octets are read as.
+pub(crate) fn read(alloc: Global, octets: &Vec<u8>) -> Result<ReadCertificate, InputError>
+    ensures read { IfOk result (λ read. IsReadOf octets.now.items read.certificate) }
+    ensures difference { IfOk result (λ read.
+        AnswersDifference octets.now.items read.certificate read.difference) }
+    ensures refused { IfErr result (IsRefusalOfOctets octets.now.items) }
+{
+    certificate_is_well_tagged();
+    match read_canonical(&DerRules::new(alloc), octets, MAX_DEPTH) {
+        Ok(certificate) => Ok(ReadCertificate {
+            certificate,
+            difference: None,
+        }),
+        Err(CanonicalError::NotCanonical { at }) => {
+            read_again(alloc, octets, FromDer::Differs(at))
+        }
+        Err(CanonicalError::Write(EncodeError::Memory)) => Err(InputError::Memory),
+        Err(CanonicalError::Write(error)) => {
+            read_again(alloc, octets, FromDer::IsNotWritten(error))
+        }
+        Err(CanonicalError::Read(DecodeError::Memory)) => Err(InputError::Memory),
+        Err(CanonicalError::Read(error)) => Err(refusal(alloc, octets.as_slice(), error)),
+    }
+}
+
+/// The certificate that octets are read as, which differ in this way from what it is written as.
+fn read_again(
+    alloc: Global,
+    octets: &Vec<u8>,
+    difference: FromDer,
+) -> Result<ReadCertificate, InputError>
+    ensures read { IfOk result (λ read. IsReadOf octets.now.items read.certificate) }
+    ensures difference { IfOk result (λ read. read.difference ≡ Some difference) }
+    ensures refused { IfErr result (IsRefusalOfOctets octets.now.items) }
+{
+    certificate_is_well_tagged();
+    match DerRules::new(alloc).read_value(octets, MAX_DEPTH) {
+        Ok(certificate) => Ok(ReadCertificate {
+            certificate,
+            difference: Some(difference),
+        }),
+        Err(DecodeError::Memory) => Err(InputError::Memory),
+        Err(error) => Err(refusal(alloc, octets.as_slice(), error)),
+    }
+}
+
+/// The reason for which octets are not read: trailing bytes behind a certificate, a rule of DER that they break before the position up to
+/// which they were read, the first position at which an element is due and none begins, or else that position.
+fn refusal(alloc: Global, octets: &[u8], error: DecodeError) -> InputError
+    ensures { AreOfNoCertificate octets.now → IsRefusalOfOctets octets.now result }
+{
+    match end_of_certificate(alloc, octets) {
+        Ok(Some(end)) => return InputError::TrailingBytes(end),
+        Ok(None) => {}
+        Err(_) => return InputError::Memory,
+    }
+    if let Some(position) = first_fault(octets, MAX_DEPTH) {
+        return match departure_before(octets, octets.len()) {
+            Some(departure) => InputError::NotDer(departure),
+            None => InputError::NoElement(position, error),
+        };
+    }
+    let position = read_up_to(alloc, octets);
+    if let Some(departure) = departure_before(octets, position) {
+        return InputError::NotDer(departure);
+    }
+    match error {
+        DecodeError::FieldError { name, .. } => InputError::BadComponent(position, name),
+        _ => InputError::NoCertificate(position, error),
+    }
+}
+
+/// The first rule of DER that octets break, if its position is before this one. It is the reason for which they are not read, unless it
+/// is of a time, whose form is not looked at in reading.
+fn departure_before(octets: &[u8], end: usize) -> Option<Departure>
+    ensures { IfSome result (λ d. Departs 64 Part.Other octets.now d.rule d.position) }
+{
+    let departure = first_departure(octets, Part::Other, MAX_DEPTH)?;
+    match departure.rule {
+        Rule::UtcTime | Rule::GeneralizedTime => None,
+        _ if departure.position < end => Some(departure),
+        _ => None,
+    }
+}
+
+/// The position at which the certificate ends with which octets begin, if bytes follow it.
+pub(crate) fn end_of_certificate(alloc: Global, octets: &[u8]) -> Result<Option<usize>, AllocError>
+    ensures { IfOk result (λ end. IfSome end (IsFollowed octets.now)) }
+{
+    let Ok(element) = find_element(octets) else {
+        return Ok(None);
+    };
+    if element.rest.is_empty() {
+        return Ok(None);
+    }
+    let end = octets.len() - element.rest.len();
+    let own = Vec::from_slice(alloc, &octets[..end])?;
+    let read: Result<Certificate, DecodeError> = DerRules::new(alloc).read_value(&own, MAX_DEPTH);
+    match read {
+        Ok(_) => Ok(Some(end)),
+        Err(DecodeError::Memory) => Err(AllocError),
+        Err(_) => Ok(None),
+    }
+}
+
+/// The position up to which octets are read as a certificate, with an element that is refused.
+fn read_up_to(alloc: Global, octets: &[u8]) -> usize {
+    let mut decoder = DerDecoder::new(alloc, octets, MAX_DEPTH);
+    let _ = Certificate::decode(&mut decoder);
+    octets.len().saturating_sub(decoder.unread())
+}
