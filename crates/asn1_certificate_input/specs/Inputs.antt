@@ -1,5 +1,5 @@
 -- The certificates of an input.
-use Rattle.std.specs.Prelude.{◌≡◌, ◌≢◌, ◌⊎◌, ⊤, ℕ, List, [], ◌∷◌, Vec, false, true}
+use Rattle.std.specs.Prelude.{◌≡◌, ◌≢◌, ◌⊎◌, ℕ, List, [], ◌∷◌, Some, Vec, false, slice_get, true}
 use Rattle.std.specs.declared.alloc.Global.{Global}
 use Rattle.asn1_certificate_input.specs.Certificates.{IsFollowed}
 use Rattle.asn1_certificate_text.specs.Pem.{AreCertificatesFrom}
@@ -19,8 +19,7 @@ IsNoText input = (is_one_element input ≡ true) ⊎ (HasNoBegin input ⊎ ((end
 
 -- no SEQUENCE begins the input, by its first octet
 abbrev pub BeginsNoSequence : List ℕ → Type 0
-BeginsNoSequence [] = ⊤
-BeginsNoSequence (o ∷ octets) = o ≢ 48
+BeginsNoSequence input = slice_get input 0 ≢ Some 48
 
 -- The certificate of an input is the input itself.
 pub record IsAlone (input : List ℕ) (found : List PemCertificate) : Type 0 where

@@ -1,8 +1,8 @@
 //! One certificate, as a user sees it.
 ghost use Rattle.std.specs.Prelude.{◌≡◌, IfErr, IfOk, List, None, OnOk, true, ℕ};
-ghost use Rattle.asn1_certificate_input.specs.Certificates.{records_of};
-ghost use Rattle.asn1_certificate_input.specs.Departures.{AnswersDeparture};
-ghost use Rattle.asn1_certificate_input.specs.Refused.{IsRefusal, IsRefusalOfCertificate, IsStrictRefusal};
+ghost use Rattle.asn1_certificate_input.specs.Certificates.{IsReadOf, records_of};
+ghost use Rattle.asn1_certificate_input.specs.Departures.{AnswersDeparture, AnswersDifference};
+ghost use Rattle.asn1_certificate_input.specs.Refused.{IsRefusal, IsRefusalOfCertificate, IsStrictRefusal, RefusesCertificate};
 ghost use Rattle.asn1_certificate_input.specs.Shown.{AreBytesOf, AreLinesOf, IsShown};
 ghost use Rattle.asn1_certificate_input.specs.declared.error.InputError.TheVariants.{Memory};
 ghost use Rattle.asn1_der.specs.Format.{Carries};
@@ -35,14 +35,27 @@ pub fn shown_of(alloc: Global, options: Options, octets: &Vec<u8>) -> Result<Sho
         IsShown options octets.now.items shown.bytes.items shown.departure) }
     ensures refused { IfErr result (IsRefusal options octets.now.items) }
 {
-    let ReadCertificate {
-        certificate,
-        difference,
-    } = read(alloc, octets)?;
-    check_open_types(alloc, octets.as_slice(), &certificate)?;
-    let departure = departure_of(octets.as_slice(), difference);
+    let read = read(alloc, octets)?;
+    shown_as(alloc, options, octets, &read)
+}
+
+/// A certificate, which was read of these octets, as the options ask for it.
+fn shown_as(
+    alloc: Global,
+    options: Options,
+    octets: &Vec<u8>,
+    read: &ReadCertificate,
+) -> Result<Shown, InputError>
+    requires read { IsReadOf octets.now.items read.now.certificate }
+    requires difference { AnswersDifference octets.now.items read.now.certificate read.now.difference }
+    ensures shown { IfOk result (λ shown.
+        IsShown options octets.now.items shown.bytes.items shown.departure) }
+    ensures refused { IfErr result (RefusesCertificate options octets.now.items) }
+{
+    check_open_types(alloc, octets.as_slice(), &read.certificate)?;
+    let departure = departure_of(octets.as_slice(), read.difference);
     check_departure(options, departure)?;
-    let bytes = bytes_of(alloc, options.format, octets, &certificate)?;
+    let bytes = bytes_of(alloc, options.format, octets, &read.certificate)?;
     Ok(Shown { bytes, departure })
 }
 

@@ -1,6 +1,6 @@
 //! The certificates of an input.
 ghost use Rattle.std.specs.Prelude.{◌≡◌, IfErr, IfOk, false, true};
-ghost use Rattle.asn1_certificate_input.specs.Inputs.{AreCertificatesOf, IsAlone, IsNoText, IsText};
+ghost use Rattle.asn1_certificate_input.specs.Inputs.{AreCertificatesOf, BeginsNoSequence, IsAlone, IsNoText, IsText};
 ghost use Rattle.asn1_certificate_input.specs.Refused.{IsRefusalOfInput};
 
 use crate::error::InputError;
@@ -24,10 +24,20 @@ pub(crate) fn certificates_of(
     if is_text(alloc, input.as_slice())? {
         return Ok(certificates_in(alloc, input.as_slice())?);
     }
-    if input.first() != Some(&SEQUENCE) {
+    if !begins_sequence(input.as_slice()) {
         return Err(InputError::Neither);
     }
     Ok(alone(alloc, input)?)
+}
+
+/// Whether an input begins as a SEQUENCE does.
+fn begins_sequence(input: &[u8]) -> bool
+    ensures { result ≡ false → BeginsNoSequence input.now }
+{
+    match input.first() {
+        Some(first) => *first == SEQUENCE,
+        None => false,
+    }
 }
 
 /// The certificates of an input that is one itself.
@@ -44,7 +54,10 @@ fn is_text(alloc: Global, input: &[u8]) -> Result<bool, AllocError>
     ensures text { IfOk result (λ text. text ≡ true → IsText input.now) }
     ensures no_text { IfOk result (λ text. text ≡ false → IsNoText input.now) }
 {
-    if is_one_element(input) || !is_pem(input) {
+    if is_one_element(input) {
+        return Ok(false);
+    }
+    if !is_pem(input) {
         return Ok(false);
     }
     Ok(end_of_certificate(alloc, input)?.is_none())

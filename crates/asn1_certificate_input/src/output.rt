@@ -1,5 +1,5 @@
 //! The output for an input.
-ghost use Rattle.std.specs.Prelude.{◌≡◌, ◌≢◌, ◌++◌, [], IfErr, IfOk, OnOk, false, true};
+ghost use Rattle.std.specs.Prelude.{◌≡◌, ◌≢◌, ◌++◌, ◌∷◌, [], IfErr, IfOk, List, OnOk, false, true};
 ghost use Rattle.asn1_certificate_input.specs.Answers.{AnswersInput, AreAnswers};
 ghost use Rattle.asn1_certificate_input.specs.Refused.{IsRefusalOf};
 ghost use Rattle.asn1_certificate_input.specs.Shown.{IsShownOf, separator};
@@ -85,10 +85,8 @@ fn output_of_all(
     let mut output = Output::empty(alloc);
     for index in 0..certificates.len() {
         let number = number_of(index, certificates.len());
-        match answer_of(alloc, options, &certificates[index]) {
-            Ok(shown) => output.add(options, number, shown)?,
-            Err(error) => output.refuse(number, error)?,
-        }
+        let answer = answer_of(alloc, options, &certificates[index]);
+        output.add_answer(options, number, answer)?;
     }
     Ok(output)
 }
@@ -103,6 +101,25 @@ impl Output {
             bytes: Vec::new(alloc),
             messages: Vec::new(alloc),
             is_refused: false,
+        }
+    }
+
+    /// Adds what there is for the next certificate.
+    fn add_answer(
+        &mut self,
+        options: Options,
+        number: Option<usize>,
+        answer: Result<Shown, InputError>,
+    ) -> Result<(), AllocError>
+        ensures { (found : List PemCertificate) (next : PemCertificate) →
+            AreAnswers options found self.old.bytes.items self.old.is_refused →
+            IfOk answer (λ shown. IsShownOf options next shown.bytes.items shown.departure) →
+            IfErr answer (IsRefusalOf options next) →
+            OnOk result (AreAnswers options (found ++ next ∷ []) self.new.bytes.items self.new.is_refused) }
+    {
+        match answer {
+            Ok(shown) => self.add(options, number, shown),
+            Err(error) => self.refuse(number, error),
         }
     }
 

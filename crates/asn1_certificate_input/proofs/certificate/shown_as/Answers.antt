@@ -1,0 +1,49 @@
+use Rattle.std.proofs.Common.{◌≡◌, ℕ, List, Option, inl, inr, subst}
+use Rattle.std.proofs.lemmas.Result.{err_from_is_err_and}
+use Rattle.asn1_certificate_input.specs.Departures.{AnswersDeparture, AnswersDifference}
+use Rattle.asn1_certificate_input.specs.Refused.{IsRefusalOfCertificate}
+use Rattle.asn1_certificate_input.specs.declared.departure.FromDer.{FromDer}
+use Rattle.asn1_x509.specs.declared.certificate.Certificate.{Certificate}
+use Rattle.asn1_certificate_input.proofs.certificate.shown_as.Goals as goal
+
+-- the same of the octets of a slice
+departs : (slice octets : List ℕ) (certificate : Certificate) (difference departure : Option FromDer) → slice ≡ octets →
+    (AnswersDifference slice certificate difference → AnswersDeparture slice certificate departure) →
+    AnswersDifference octets certificate difference → AnswersDeparture octets certificate departure
+departs slice octets certificate difference departure same answers =
+    subst (λ own. AnswersDifference own certificate difference → AnswersDeparture own certificate departure) same answers
+
+pub returns-in_err-check_open_types-clause-refused : goal.returns-in_err-check_open_types-clause-refused
+returns-in_err-check_open_types-clause-refused c =
+    let p = err_from_is_err_and c.from_residual.result c.from_residual.ensures.1 in
+    rw (p.1, p.2) (record {
+      certificate = c.args.read.now.certificate;
+      read = c.requires.read;
+      refused = inl (subst (λ octets. IsRefusalOfCertificate c.args.options.format octets c.args.read.now.certificate c.in_err-check_open_types.field-0.0) c.as_slice.ensures.value
+          (c.in_err-check_open_types.ensures.refused c.args.options.format));
+    })
+
+pub returns-in_err-check_departure-clause-refused : goal.returns-in_err-check_departure-clause-refused
+returns-in_err-check_departure-clause-refused c =
+    let p = err_from_is_err_and c.from_residual-in_err-check_departure.result c.from_residual-in_err-check_departure.ensures.1 in
+    rw (p.1, p.2) (record {
+      certificate = c.args.read.now.certificate;
+      read = c.requires.read;
+      refused = inr (c.in_err-check_departure.ensures.refused c.args.octets.now.items c.args.read.now.certificate
+          (departs _ _ _ _ _ c.as_slice-2.ensures.value (c.departure_of-departure.ensures c.args.read.now.certificate) c.requires.difference));
+    })
+
+pub returns-in_err-bytes-clause-refused : goal.returns-in_err-bytes-clause-refused
+returns-in_err-bytes-clause-refused c =
+    let p = err_from_is_err_and c.from_residual-in_err-bytes.result c.from_residual-in_err-bytes.ensures.1 in
+    rw (p.1, p.2) (record { certificate = c.args.read.now.certificate; read = c.requires.read; refused = inl c.in_err-bytes.ensures.refused })
+
+pub returns-clause-shown : goal.returns-clause-shown
+returns-clause-shown c = record {
+  certificate = c.args.read.now.certificate;
+  read = c.requires.read;
+  names = c.in_ok-check_open_types.ensures.good;
+  are = c.in_ok-bytes.ensures.bytes;
+  departs = departs _ _ _ _ _ c.as_slice-2.ensures.value (c.departure_of-departure.ensures c.args.read.now.certificate) c.requires.difference;
+  strict = c.in_ok-check_departure.ensures.strict;
+}
