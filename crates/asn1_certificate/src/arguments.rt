@@ -12,7 +12,7 @@ const STATUSES: &str =
     "A certificate that departs from DER is shown, and a warning on standard error names the rule and the byte.\nThe status is 0 if each certificate was shown, 1 if one was refused, and 2 after another error.";
 
 /// The arguments that the program takes.
-fn command(alloc: Global) -> Result<Command<'static>, AllocError> {
+fn command<'a>(alloc: Global) -> Result<Command<'a>, AllocError> {
     let der = Arg::new(alloc, "der")
         .long("der")
         .action(ArgAction::SetTrue)
