@@ -1,2 +1,3 @@
+mod CertificateSets
 mod NextAnswers
 mod Readings

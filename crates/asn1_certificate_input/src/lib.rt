@@ -7,6 +7,7 @@
 //! | [`shown_of`], [`Shown`] | the output for one certificate |
 //! | [`InputError`], [`FromDer`] | why there is no output, and how octets depart from DER |
 //! | [`Options`], [`OutputFormat`] | what a user asks for |
+//! | [`one_spelling`] | a law: the DER of a certificate is its only spelling |
 //!
 //! An input is the DER of a certificate, or a text with certificates in base64. As a report a certificate is for a person to read
 //! (`report_of` of `asn1_certificate_reader` and `report_text` of `asn1_certificate_text`), and as DER it is the octets that were read.
@@ -31,6 +32,7 @@ mod certificate;
 mod departure;
 mod error;
 mod inputs;
+pub mod one_spelling;
 mod open_types;
 mod options;
 mod outcome;

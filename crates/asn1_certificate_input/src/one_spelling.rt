@@ -1,0 +1,22 @@
+//! Laws of the spelling of certificates.
+ghost use Rattle.asn1_der.specs.Format.{der_format};
+ghost use Rattle.asn1_der.specs.OneOutput.{HaveOneSpelling};
+ghost use Rattle.asn1_model.specs.Meaning.{own_records};
+ghost use Rattle.asn1_rules.specs.CanonicalReading.{AreOctets, HasOneSpelling};
+ghost use Rattle.std.specs.Prelude.{◌≡◌, Vec, true, ℕ};
+ghost use Rattle.std.specs.declared.alloc.Global.{Global};
+
+use asn1_types::AsnType;
+use asn1_x509::Certificate;
+
+/// A law of one spelling: if `read_canonical` of `asn1_rules` answers equal certificates by DER, the two inputs were the same octets
+/// (`equal`). The DER of a certificate is its only spelling (`only`), so `read_canonical` reads it back.
+pub fn equal_certificates_have_one_spelling()
+    ensures equal { (one other : Certificate) →
+        ⟦<Certificate as PartialEq>⟧.eq one other ≡ true →
+        HaveOneSpelling ⟦<Certificate as AsnType>⟧.meaning one other }
+    ensures only { (output : Vec ℕ Global) (certificate : Certificate) → AreOctets output.items →
+        der_format.carries output (own_records ⟦<Certificate as AsnType>⟧.meaning certificate) →
+        HasOneSpelling der_format ⟦<Certificate as AsnType>⟧.meaning
+        ⟦<Certificate as PartialEq>⟧.eq certificate output.items }
+{}
