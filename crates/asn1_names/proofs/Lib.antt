@@ -1,0 +1,3 @@
+pub mod NamedTwice
+pub mod Resolved
+pub mod Searches

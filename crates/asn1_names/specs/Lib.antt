@@ -1,0 +1,5 @@
+pub mod Definitions
+pub mod Distinct
+pub mod Imports
+pub mod Nearest
+pub mod References
