@@ -10,7 +10,7 @@ use Rattle.std.proofs.lemmas.List.Quantifiers.{all_pairs_push}
 use Rattle.std.proofs.Math.Seq.{get_or-append_seam}
 use Rattle.asn1_names.specs.declared.names.DefinedName.{DefinedName}
 use Rattle.asn1_names.specs.declared.doubled.DoubledName.{DoubledName}
-use Rattle.asn1_names.specs.Distinct.{IsDistinct, has_same_name, doubled, doubled_by}
+use Rattle.asn1_names.specs.Distinct.{IsDistinct, has_same_name, doubled}
 use Rattle.asn1_names.proofs.Resolved.{named_decides}
 
 -- a search that finds nothing, and one of a list in which no element passes

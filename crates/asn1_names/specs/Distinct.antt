@@ -1,8 +1,7 @@
 -- Names that a module defines twice.
-use Rattle.std.specs.Prelude.{◌≡◌, Bool, ◌&&◌, List, [], ◌∷◌, ◌++◌, Option, None, Some}
+use Rattle.std.specs.Prelude.{Bool, List, [], ◌∷◌, ◌++◌, Option}
 use Rattle.std.specs.List.{cons_option, find}
 use Rattle.std.specs.Option.{option_map}
-use Rattle.std.specs.Str.{bytes_eq}
 use Rattle.asn1_names.specs.declared.names.DefinedName.{DefinedName}
 use Rattle.asn1_names.specs.declared.doubled.DoubledName.{DoubledName}
 use Rattle.asn1_names.specs.Definitions.{HasName, has_name}

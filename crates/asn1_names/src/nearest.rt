@@ -22,8 +22,8 @@ pub fn nearest_name<'a>(
 ) -> Result<Option<DefinedName<'a>>, AllocError>
     // It is defined, it is like the name, and no other is more like it.
     ensures nearest { IfOk result (λ found. IfSome found (spec.IsNearest defined.now name.now)) }
-    ensures none { IfOk result (λ found. IfNone found →
-        All (λ d. spec.most_edits name.now < spec.edits name.now d) defined.now) }
+    ensures none { IfOk result (λ found. IfNone found (
+        All (λ d. spec.most_edits name.now < spec.edits name.now d) defined.now)) }
 {
     let mut nearest = None;
     let mut limit = most_edits(name) + 1;
