@@ -1,3 +1,4 @@
 pub mod NamedTwice
+pub mod NothingWrong
 pub mod Resolved
 pub mod Searches

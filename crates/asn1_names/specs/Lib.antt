@@ -1,3 +1,4 @@
+pub mod Accepted
 pub mod Definitions
 pub mod Distinct
 pub mod Imports

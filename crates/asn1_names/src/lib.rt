@@ -10,11 +10,13 @@ mod doubled;
 mod imports;
 mod names;
 mod nearest;
+mod problems;
 mod undefined;
 
 pub use defined::is_defined;
 pub use doubled::{DoubledName, find_doubled};
 pub use imports::find_unknown_imports;
-pub use names::{DefinedName, ImportedName, Place, UsedName};
+pub use names::{DefinedName, ImportedName, Names, Place, UsedName};
 pub use nearest::nearest_name;
+pub use problems::{NameProblem, check_names};
 pub use undefined::find_undefined;

@@ -46,3 +46,14 @@ pub struct UsedName<'a> {
     /// The place of the name.
     pub place: Place,
 }
+
+/// The names of a set of modules, as flat lists.
+#[derive(Drop)]
+pub struct Names<'a> {
+    /// The names of the definitions, module by module.
+    pub defined: Vec<DefinedName<'a>>,
+    /// The names behind IMPORTS.
+    pub imported: Vec<ImportedName<'a>>,
+    /// The references of definitions to others.
+    pub used: Vec<UsedName<'a>>,
+}
