@@ -1,0 +1,156 @@
+//! The lists of names, as far as they were made.
+use asn1_names::{DefinedName, ImportedName, Names, Place, UsedName};
+use asn1_notation::{Import, NumberName, Reference, Span};
+use std::alloc::{AllocError, Global};
+
+/// The names of the modules that were passed.
+#[derive(Drop)]
+pub(crate) struct Collector<'a> {
+    // The text that is passed, and its index.
+    text: &'a [u8],
+    index: usize,
+    // The module that is passed.
+    module: &'a [u8],
+    names: Names<'a>,
+    // The names of numbers, bits and items.
+    items: Vec<&'a [u8]>,
+    // References to values, of which some are the names of items.
+    values: Vec<UsedName<'a>>,
+}
+
+impl<'a> Collector<'a> {
+    /// No names yet.
+    pub(crate) fn new(alloc: Global) -> Collector<'a> {
+        Collector {
+            text: &[],
+            index: 0,
+            module: &[],
+            names: Names {
+                defined: Vec::new(alloc),
+                imported: Vec::new(alloc),
+                used: Vec::new(alloc),
+            },
+            items: Vec::new(alloc),
+            values: Vec::new(alloc),
+        }
+    }
+
+    /// Goes on with a module of a text.
+    pub(crate) fn enter(&mut self, text: &'a [u8], index: usize, name: Span) {
+        self.text = text;
+        self.index = index;
+        self.module = name.octets(text);
+    }
+
+    // The place of octets of the text that is passed.
+    fn place(&self, span: Span) -> Place {
+        Place {
+            text: self.index,
+            span,
+        }
+    }
+
+    /// Adds the name of a definition.
+    pub(crate) fn define(&mut self, name: Span) -> Result<(), AllocError> {
+        let defined = DefinedName {
+            module: self.module,
+            name: name.octets(self.text),
+            place: self.place(name),
+        };
+        self.names.defined.push(defined)?;
+        Ok(())
+    }
+
+    /// Adds the names that are imported from a module.
+    pub(crate) fn import(&mut self, import: &Import) -> Result<(), AllocError> {
+        let from = import.module.octets(self.text);
+        for name in &import.names {
+            let imported = ImportedName {
+                module: self.module,
+                name: name.octets(self.text),
+                from,
+                place: self.place(*name),
+            };
+            self.names.imported.push(imported)?;
+        }
+        Ok(())
+    }
+
+    // A reference with its place.
+    fn used(&self, reference: &Reference) -> UsedName<'a> {
+        UsedName {
+            module: self.module,
+            qualifier: match reference.module {
+                Some(module) => Some(module.octets(self.text)),
+                None => None,
+            },
+            name: reference.name.octets(self.text),
+            place: self.place(reference.name),
+        }
+    }
+
+    /// Adds a reference to a definition.
+    pub(crate) fn refer(&mut self, reference: &Reference) -> Result<(), AllocError> {
+        let used = self.used(reference);
+        self.names.used.push(used)?;
+        Ok(())
+    }
+
+    /// Adds a name of the module that is passed, as a reference.
+    pub(crate) fn refer_to(&mut self, name: Span) -> Result<(), AllocError> {
+        self.refer(&Reference { module: None, name })
+    }
+
+    /// Adds the reference to a value, if a number is one.
+    pub(crate) fn refer_to_number(&mut self, number: &NumberName) -> Result<(), AllocError> {
+        match number {
+            NumberName::Number(_) => Ok(()),
+            NumberName::Reference(reference) => self.refer(reference),
+        }
+    }
+
+    /// Adds a name that is that of a value, or of an item of the value's type.
+    pub(crate) fn refer_or_name_item(&mut self, reference: &Reference) -> Result<(), AllocError> {
+        let used = self.used(reference);
+        self.values.push(used)?;
+        Ok(())
+    }
+
+    /// Adds the name of an item.
+    pub(crate) fn name_item(&mut self, name: Span) -> Result<(), AllocError> {
+        self.items.push(name.octets(self.text))?;
+        Ok(())
+    }
+
+    /// Whether octets of the text that is passed are one of these words.
+    pub(crate) fn is_among(&self, name: Span, words: &[&[u8]]) -> bool {
+        let octets = name.octets(self.text);
+        words.iter().any(|word| *word == octets)
+    }
+
+    /// The lists. A name of a value that is one of an item is no reference.
+    pub(crate) fn finish(self) -> Result<Names<'a>, AllocError> {
+        let Collector {
+            text: _,
+            index: _,
+            module: _,
+            mut names,
+            items,
+            values,
+        } = self;
+        for value in &values {
+            if !is_item(&items, value) {
+                names.used.push(*value)?;
+            }
+        }
+        Ok(names)
+    }
+}
+
+// Whether a name of a value is the name of an item.
+fn is_item(items: &[&[u8]], value: &UsedName<'_>) -> bool {
+    match value.qualifier {
+        Some(_) => false,
+        None => items.iter().any(|item| *item == value.name),
+    }
+}

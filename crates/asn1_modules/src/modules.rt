@@ -1,0 +1,76 @@
+//! The names of modules.
+use crate::arcs::collect_arcs;
+use crate::collector::Collector;
+use crate::source::Source;
+use crate::types::collect_type;
+use crate::values::collect_value;
+use asn1_names::Names;
+use asn1_notation::{Assignment, Definition, Exports, Module, Type, TypeKind, Value, ValueKind};
+use std::alloc::{AllocError, Global};
+
+/// The names that are defined, imported and used in the modules of some texts.
+pub fn collect_names<'a>(alloc: Global, sources: &[Source<'a>]) -> Result<Names<'a>, AllocError> {
+    let mut collector = Collector::new(alloc);
+    for (index, source) in sources.iter().enumerate() {
+        for module in source.modules {
+            collector.enter(source.text, index, module.name);
+            collect_module(&mut collector, module)?;
+        }
+    }
+    collector.finish()
+}
+
+// Collects the names of a module.
+fn collect_module(collector: &mut Collector<'_>, module: &Module) -> Result<(), AllocError> {
+    collect_exports(collector, &module.exports)?;
+    for import in &module.imports {
+        collector.import(import)?;
+    }
+    for assignment in &module.assignments {
+        collect_assignment(collector, assignment)?;
+    }
+    Ok(())
+}
+
+// Collects the names behind EXPORTS, which are of definitions, or imported.
+fn collect_exports(collector: &mut Collector<'_>, exports: &Exports) -> Result<(), AllocError> {
+    match exports {
+        Exports::All => Ok(()),
+        Exports::Names(names) => {
+            for name in names {
+                collector.refer_to(*name)?;
+            }
+            Ok(())
+        }
+    }
+}
+
+// Collects the names of a definition.
+fn collect_assignment(
+    collector: &mut Collector<'_>,
+    assignment: &Assignment,
+) -> Result<(), AllocError> {
+    collector.define(assignment.name)?;
+    match &assignment.definition {
+        Definition::Type(definition) => collect_type(collector, definition),
+        Definition::Value(definition, value) => {
+            collect_type(collector, definition)?;
+            collect_value_of(collector, definition, value)
+        }
+    }
+}
+
+// Collects the names in a value of a type.
+fn collect_value_of(
+    collector: &mut Collector<'_>,
+    definition: &Type,
+    value: &Value,
+) -> Result<(), AllocError> {
+    match &definition.kind {
+        TypeKind::ObjectIdentifier => match &value.kind {
+            ValueKind::List(items) => collect_arcs(collector, items.as_slice()),
+            _ => collect_value(collector, value),
+        },
+        _ => collect_value(collector, value),
+    }
+}
