@@ -1,8 +1,28 @@
 //! The names of a set of modules: which are defined, which are used, and which of these are in error.
 //!
-//! Several texts are one set of modules. The names are given as three flat lists: of the definitions ([`DefinedName`]), of
-//! the names behind IMPORTS ([`ImportedName`]), and of the names that definitions use ([`UsedName`]). Each name tells its
-//! place, and a message is written of an answer.
+//! Several texts are one set of modules. Names are given as flat lists ([`Names`]), each with its place.
+//!
+//! | Item | What it is |
+//! |---|---|
+//! | [`DefinedName`], [`ImportedName`], [`UsedName`], [`Place`] | the name of a definition, one behind IMPORTS, and a reference |
+//! | [`find_doubled`], [`DoubledName`] | the names that a module defines twice |
+//! | [`find_unknown_imports`] | the imported names that the module behind FROM does not define |
+//! | [`find_undefined`] | the references that are to no definition |
+//! | [`check_names`], [`NameProblem`] | all of these |
+//! | [`is_defined`] | whether a module defines a name |
+//! | [`nearest_name`] | the defined name that is most like another |
+//!
+//! The contracts promise:
+//!
+//! - `check_names` finds nothing wrong if and only if no module has a name twice, every import is of a name that is defined,
+//!   and every reference is to a definition (`accepted`; `IsAccepted` in `specs/Accepted.antt`). A reference is to a
+//!   definition of its own module, of one from which its module imports the name, or of the module that it names
+//!   (`IsResolved` in `specs/References.antt`). Everything that is wrong is found, in the order of the lists (`report`).
+//! - `nearest_name` answers a defined name with few letters that differ, and no other has fewer (`nearest`); `None` if no
+//!   name is so near (`none`).
+//!
+//! Calls fail only if memory runs out. The lists are compared name by name, so the cost is in line with the number of
+//! references times that of definitions.
 #![tactic(auto)]
 
 mod defined;
