@@ -5,7 +5,7 @@ use Rattle.std.proofs.lemmas.Bool.{ltb-true}
 use Rattle.asn1_tags.specs.Trees.{Trees}
 use Rattle.asn1_tags.specs.declared.tags.Tag.{Tag}
 use Rattle.asn1_model.specs.Meaning.{Meaning}
-use Rattle.asn1_model.specs.RecordTables.{Line, Table}
+use Rattle.asn1_model.specs.RecordTables.{Row, Table}
 use Rattle.asn1_model.specs.TaggedTypes.{tagged, untagged}
 use Rattle.asn1_model.specs.Tags.{context}
 use Rattle.asn1_model.specs.contracts.impls.integer.IntegerAsnType.TheImpl.{ghosts as integer}
@@ -36,7 +36,7 @@ chain_alternatives_with k itself = closed (
     alternative (codes "end") (untagged null.meaning) ∷
     alternative (codes "link") (tagged (context 1) (link_type k itself)) ∷ [])
 
-abbrev chain_table : Tag → Table Line
+abbrev chain_table : Tag → Table Row
 chain_table k = table_with_itself (codes "Chain") (chain_alternatives_with k)
 
 abbrev chain_trees : Tag → Trees

@@ -5,16 +5,16 @@ use Rattle.asn1_tags.specs.declared.tags.Tag.{Tag}
 use Rattle.asn1_ranges.specs.declared.bounded.Bounded.TheVariants.{Range}
 use Rattle.asn1_bounds.specs.declared.value.Value.{Value}
 use Rattle.asn1_model.specs.ConstraintSets.{Part, unconstrained, values_of}
-use Rattle.asn1_model.specs.RecordTables.{Line, Table}
+use Rattle.asn1_model.specs.RecordTables.{Row, Table}
 use Rattle.asn1_model.specs.Records.{Record, alternative as chosen, boolean, explicit_tag, holding, number, scalar}
 use Rattle.asn1_model.specs.Tags.{context, universal}
 
 -- an alternative of this name, under one tag
-abbrev under_tag : List ℕ → Tag → Line
+abbrev under_tag : List ℕ → Tag → Row
 under_tag name t = record { name = name; tree = leaf t; may_be_absent = false }
 
 -- Reply ::= CHOICE { accepted BOOLEAN, refused NULL, ..., later [0] INTEGER (0..255) }
-abbrev pub reply_table : Table Line
+abbrev pub reply_table : Table Row
 reply_table = record {
   root =
       under_tag (codes "accepted") (universal 1) ∷
@@ -32,14 +32,14 @@ later_nine =
     []
 
 -- Nested ::= CHOICE { null NULL, flag BOOLEAN, inner [0] Nested }, of this table: flag : TRUE
-abbrev flag_true : Table Line → Record
+abbrev flag_true : Table Row → Record
 flag_true table =
     holding (chosen (universal 1) unconstrained table (Some (codes "Nested"))) (
     scalar (universal 1) unconstrained (Some (codes "BOOLEAN")) (boolean true) ∷
     [])
 
 -- inner : flag : TRUE, whose inner value is under an explicit tag
-abbrev pub inner_flag_true : Table Line → List Record
+abbrev pub inner_flag_true : Table Row → List Record
 inner_flag_true table =
     holding (chosen (context 0) unconstrained table (Some (codes "Nested"))) (
     holding (explicit_tag (context 0) (Some (codes "Nested"))) (

@@ -7,7 +7,7 @@ use Rattle.asn1_components.specs.ComponentTypes.{optional, required}
 use Rattle.asn1_components.specs.Components.{Components, constructed_type, extensible_sequence, group, sequence}
 use Rattle.asn1_model.specs.ConstraintSets.{unconstrained, values_of}
 use Rattle.asn1_model.specs.Meaning.{Meaning}
-use Rattle.asn1_model.specs.RecordTables.{Line, Table}
+use Rattle.asn1_model.specs.RecordTables.{Row, Table}
 use Rattle.asn1_model.specs.Records.{Record, boolean, group_absent, group_end, group_start, holding, in_root, number, presence_mark, present, scalar, sequence as sequence_head}
 use Rattle.asn1_model.specs.TaggedTypes.{tagged, untagged}
 use Rattle.asn1_model.specs.Tags.{context, universal}
@@ -44,10 +44,10 @@ journey_type = constructed_type (codes "Journey") (extensible_sequence
     (group (codes "route") (λ j. j.route) route_components ∷ []))
 
 -- a component or a group of this name
-abbrev needed : List ℕ → Tree → Line
+abbrev needed : List ℕ → Tree → Row
 needed name tree = record { name = name; tree = tree; may_be_absent = false }
 
-abbrev at_will : List ℕ → Tree → Line
+abbrev at_will : List ℕ → Tree → Row
 at_will name tree = record { name = name; tree = tree; may_be_absent = true }
 
 -- a group begins with the tag of any of its components
@@ -58,7 +58,7 @@ abbrev route_tree : Tree
 route_tree = choice (more (leaf (context 0)) (more stop_tree none))
 
 -- the table of the outer group
-abbrev route_table : Table Line
+abbrev route_table : Table Row
 route_table = record {
   root =
       at_will (codes "from") (leaf (context 0)) ∷
@@ -67,7 +67,7 @@ route_table = record {
 }
 
 -- the table of the journey
-abbrev journey_table : Table Line
+abbrev journey_table : Table Row
 journey_table = record {
   root = needed (codes "id") (leaf (universal 2)) ∷ [];
   additions = Some (at_will (codes "route") route_tree ∷ []);

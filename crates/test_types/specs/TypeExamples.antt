@@ -1,7 +1,7 @@
 -- The records of a value of each type, written out by hand.
 use Rattle.std.specs.Prelude.{ℕ, Bool, true, false, List, [], ◌∷◌, Some, codes}
 use Rattle.asn1_model.specs.ConstraintSets.{unconstrained}
-use Rattle.asn1_model.specs.RecordTables.{Line, Table}
+use Rattle.asn1_model.specs.RecordTables.{Row, Table}
 use Rattle.asn1_model.specs.Records.{Name, Record, arcs, boolean, explicit_tag, holding, scalar, sequence, sequence_of, set_of, units, utf8}
 use Rattle.asn1_model.specs.Tags.{context, universal}
 use Rattle.asn1_tags.specs.declared.tags.Tag.{Tag}
@@ -32,7 +32,7 @@ abbrev pub explicit_true : Tag → Name → List Record
 explicit_true t n = holding (explicit_tag t n) (truth true ∷ []) ∷ []
 
 -- INSTANCE OF, by its table: the name 1.2 of the type, and TRUE under an explicit tag (X.681, annex C)
-abbrev pub instance_of_true : Table Line → List Record
+abbrev pub instance_of_true : Table Row → List Record
 instance_of_true table =
     holding (sequence (universal 8) table (Some (codes "SEQUENCE"))) (
     scalar (universal 6) unconstrained (Some (codes "OBJECT_IDENTIFIER")) (arcs (1 ∷ 2 ∷ [])) ∷
