@@ -33,14 +33,23 @@ fn column_of(text: &[u8]) -> usize
     column
 }
 
+// The octets before an offset.
+fn octets_before(text: &[u8], offset: usize) -> &[u8]
+    ensures { result.now ≡ take offset text.now }
+{
+    match text.get(..offset) {
+        Some(before) => before,
+        None => text,
+    }
+}
+
 /// The line and the column of the octet with this offset: one more than the line feeds before it, and one more than the
-/// octets between the last of these and it.
+/// octets between the last of these and it. An offset behind the end is that of the end.
 pub fn position_of(text: &[u8], offset: usize) -> Position
-    requires { offset ≤ length text.now }
     ensures line { result.line ≡ count_by (λ c. c == 10) (take offset text.now) + 1 }
     ensures column { result.column ≡ octets_behind 0 (take offset text.now) + 1 }
 {
-    let before = &text[..offset];
+    let before = octets_before(text, offset);
     Position {
         line: line_feeds(before) + 1,
         column: column_of(before) + 1,
