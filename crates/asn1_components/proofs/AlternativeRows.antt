@@ -1,4 +1,4 @@
--- The lines of a CHOICE's table have the trees and the names of its alternatives.
+-- The rows of a CHOICE's table have the trees and the names of its alternatives.
 use Rattle.std.specs.Prelude.{◌≡◌, ℕ, false, List, [], ◌∷◌, ◌++◌, All, Some, map, refl}
 use Rattle.std.proofs.Common.{ap, ◌∙◌}
 use Rattle.std.proofs.lemmas.List.Elements.{All-nil, All-cons}

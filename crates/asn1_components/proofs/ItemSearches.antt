@@ -14,12 +14,12 @@ of_item : {V : Type 0} (row : Option (ItemRow V)) → option_map (λ (l : ItemRo
 of_item (Some l) = refl
 of_item None = refl
 
--- the index of the line that a search finds is that of the item
+-- the index of the row that a search finds is that of the item
 pub index_found : {V : Type 0} (p : Item V → Bool) (rows : List (ItemRow V)) (table : List (Item V)) (index : Option ℕ) →
     index ≡ position (λ l. p (item_view l)) rows → table_items rows ≡ table → index ≡ position p table
 index_found p rows table index found is = found ∙ (sym (position-map p item_view rows) ∙ ap (position p) is)
 
--- the value of a line is that of its item
+-- the value of a row is that of its item
 pub value_of_row : {V : Type 0} (rows : List (ItemRow V)) (index : ℕ) →
     option_map (λ (l : ItemRow V). l.0) (slice_get rows index) ≡ slice_get (values (table_items rows)) index
 value_of_row {V = V} rows index =
@@ -28,7 +28,7 @@ value_of_row {V = V} rows index =
 
 module _ {V : Type 0} (e : Enumeration V) (p : Item V → Bool) (root additions : List (ItemRow V)) (root_is : table_items root ≡ e.root)
     (additions_are : table_items additions ≡ added e) where
-  -- the line that a search finds is that of the item
+  -- the row that a search finds is that of the item
   pub row_found : option_map item_view (find (λ l. p (item_view l)) (root ++ additions)) ≡ find p (items e)
   row_found =
       sym (find-map p item_view (root ++ additions))

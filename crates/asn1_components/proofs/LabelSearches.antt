@@ -21,11 +21,11 @@ module _ {V : Type 0} (rows : List (ItemRow V)) (labels : List Label) (are : map
   numbers_are : map (λ (l : ItemRow V). l.1) rows ≡ numbers_in labels
   numbers_are = numbers_of_rows rows ∙ ap numbers_in are
 
-  -- the number of the line at an index is that of the label
+  -- the number of the row at an index is that of the label
   pub number_at_index : (index : ℕ) → option_map (λ (l : ItemRow V). l.1) (slice_get rows index) ≡ slice_get (numbers_in labels) index
   number_at_index index = sym (slice_get-map (λ (l : ItemRow V). l.1) rows index) ∙ ap (λ ns. slice_get ns index) numbers_are
 
-  -- the index of the line of a number is that of the number
+  -- the index of the row of a number is that of the number
   pub index_of_number : (number : ℤ) → position (λ (l : ItemRow V). int_eq l.1 number) rows ≡ position (λ n. int_eq n number) (numbers_in labels)
   index_of_number number =
       sym (position-map (λ n. int_eq n number) (λ (l : ItemRow V). l.1) rows) ∙ ap (position (λ n. int_eq n number)) numbers_are
@@ -46,7 +46,7 @@ module _ {V : Type 0} (e : Enumeration V) (p : Label → Bool) (root additions :
       of_row None = refl
       of_row (Some l) = refl
 
-  -- the line that is found agrees with the label
+  -- the row that is found agrees with the label
   pub part_found : {X : Type 0} (part : Label → X) → option_map (λ (l : ItemRow V). part (label_of (item_view l))) row ≡ option_map part (find p (all_labels (labels_of e)))
   part_found part = by row ∙ ap (option_map part) label_found
     where

@@ -1,4 +1,4 @@
--- A field table has as many lines as there are components.
+-- A field table has as many fields as there are components.
 use Rattle.std.proofs.Common.{◌≡◌, ℕ, suc, ◌+◌, Bool, true, false, cond, List, [], ◌∷◌, ◌++◌, drop, length, map, take, None, Some, refl, sym, ap, ◌∙◌, append-nil, length-append, arith}
 use Rattle.std.proofs.lemmas.List.{length-map, map-append}
 use Rattle.std.proofs.Math.Seq.{drop-append_seam, take-append_seam}
@@ -41,7 +41,7 @@ length-table components =
       length-views (length components.root) (added components),
     )
 
--- The table in records has the lines of the table.
+-- The table in records has the rows of the table.
 pub rows_of_table : {V : Type 0} (components : Components V) → rows components ≡ split_at_marker (map row_of (table components)) (extension_index components)
 rows_of_table components = by_extension components.extension
   where

@@ -1,4 +1,4 @@
--- The laws of field tables: which entries a table has, and in which order.
+-- The laws of field tables: which fields a table has, and in which order.
 use Rattle.std.proofs.Common.{◌≡◌, ◌≢◌, ℕ, zero, suc, ◌+◌, Bool, true, false, cond, List, [], ◌∷◌, ◌++◌, AllPairs, length, get_or, map, refl, sym, ap, ◌∙◌, subst, arith}
 use Rattle.std.specs.Prelude.{IsPermutation, Some, ◌==◌}
 use Rattle.std.specs.List.{IsDistinct, slice_get}
@@ -26,7 +26,7 @@ le_or_ge s t h = grind (arith, nat_tests, common_steps)
 in_order-exchanged : (e f : FieldView) → in_order (component_of e) (component_of f) ≡ false → in_order (component_of f) (component_of e) ≡ true
 in_order-exchanged e f h = le_or_ge (smallest_tag (component_of e)) (smallest_tag (component_of f)) h
 
--- an entry that is put among others is the first, or comes after the first
+-- a field that is put among others is the first, or comes after the first
 insert_in_order-cases : (P : List FieldView → Type 0) (e f : FieldView) (fs : List FieldView) →
     (in_order (component_of e) (component_of f) ≡ true → P (e ∷ f ∷ fs)) → (in_order (component_of e) (component_of f) ≡ false → P (f ∷ insert_in_order e fs)) →
     P (insert_in_order e (f ∷ fs))
@@ -36,7 +36,7 @@ insert_in_order-cases P e f fs first later = by_test (in_order (component_of e) 
     by_test true here there = here refl
     by_test false here there = there refl
 
--- The entries are the same, rearranged.
+-- The fields are the same, rearranged.
 put_rearranges : (e : FieldView) (fs : List FieldView) → IsPermutation (e ∷ fs) (insert_in_order e fs)
 put_rearranges e [] = IsPermutation-refl (e ∷ [])
 put_rearranges e (f ∷ fs) =
@@ -50,7 +50,7 @@ order_rearranges (e ∷ es) =
     IsPermutation-trans (e ∷ es) (e ∷ in_canonical_order es) (in_canonical_order (e ∷ es))
     (IsPermutation-cons e es (in_canonical_order es) (order_rearranges es)) (put_rearranges e (in_canonical_order es))
 
--- The entries are in canonical order, by its test.
+-- The fields are in canonical order, by its test.
 abbrev sorted : List FieldView → Bool
 sorted es = canonical (map component_of es)
 
@@ -74,7 +74,7 @@ order_sorts : (es : List FieldView) → sorted (in_canonical_order es) ≡ true
 order_sorts [] = refl
 order_sorts (e ∷ es) = put_sorts e (in_canonical_order es) (order_sorts es)
 
--- The entries of components are numbered from the first one's index on.
+-- The fields of components are numbered from the first one's index on.
 pub numbered_from : {V : Type 0} (k : ℕ) (cs : List (ComponentType V)) (index : ℕ) (e : FieldView) → slice_get (views_from k cs) index ≡ Some e → e.index ≡ k + index
 numbered_from k [] index e at = absurd (none-some e at)
 numbered_from k (c ∷ cs) zero e at =

@@ -141,7 +141,7 @@ module _ {V : Type 0} (components : Components V) where
   AreOnTheirSides = EachCanBeOn in_root components.root × EachCanBeOn in_additions added ×
       EachMayBeAbsent added
 
-  -- The type of each component is well tagged, each is in its place, and tags are distinct.
+  -- The type of each component is well tagged, each can be on its side of the marker, and tags are distinct.
   abbrev pub AreWellTagged : Type 0
   AreWellTagged = EachIsWellTagged all_components × AreOnTheirSides ×
       AreDistinctIn components.kind all_components

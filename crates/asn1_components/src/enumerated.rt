@@ -174,7 +174,7 @@ pub(crate) fn additions<T: EnumeratedItems>() -> &'static [EnumerationItem<T>]
     items
 }
 
-// The line of the value.
+// The item of the value.
 fn own_item<'a, T: Enumerated>(value: &T) -> &'a EnumerationItem<T>
     ensures { item_of T.eq T.enumeration value.now ≡ Some (item_view result.now) }
 {
@@ -184,7 +184,7 @@ fn own_item<'a, T: Enumerated>(value: &T) -> &'a EnumerationItem<T>
     }
 }
 
-// The first line of the value in two tables.
+// The first item of the value in two tables.
 fn with_value<'a, T: Eq>(
     value: &T,
     root: &'a [EnumerationItem<T>],
@@ -198,7 +198,7 @@ fn with_value<'a, T: Eq>(
         .find(|item| item.0 == *value)
 }
 
-// The value of the first line of that number in two tables.
+// The value of the first item of that number in two tables.
 fn with_number<T: Copy>(
     number: isize,
     root: &[EnumerationItem<T>],
@@ -210,7 +210,7 @@ fn with_number<T: Copy>(
     Some(item_with_number(number, root, additions)?.0)
 }
 
-// The value of the first line of that name in two tables.
+// The value of the first item of that name in two tables.
 fn with_name<T: Copy>(
     name: &str,
     root: &[EnumerationItem<T>],

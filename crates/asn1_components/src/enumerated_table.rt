@@ -9,8 +9,8 @@ ghost use Rattle.asn1_components.specs.Labels.{Labels, LabelsDiffer, added_label
 use crate::enumerated::{Enumerated, additions};
 use crate::items::{EnumerationItem, item_with_name, item_with_number};
 
-/// The table of an ENUMERATED type without its values: the numbers and the names of its items, in their indices. It tells a
-/// codec which numbers there are. Each [`Enumerated`] type has it.
+/// The table of an ENUMERATED type without its values: the numbers and the names of its items, by index. It tells a codec
+/// which numbers there are. Each [`Enumerated`] type has it.
 pub trait EnumeratedTable {
     // the number and the name of each item of the root, and of each after the extension marker
     ghost labels: { Labels };
@@ -107,7 +107,7 @@ fn index_of<T>(number: isize, table: &[EnumerationItem<T>]) -> Option<usize>
     table.iter().position(|item| item.1 == number)
 }
 
-// The name of the first line of that number in two tables.
+// The name of the first item of that number in two tables.
 fn name_of<T>(
     number: isize,
     root: &[EnumerationItem<T>],
@@ -120,7 +120,7 @@ fn name_of<T>(
     Some(item_with_number(number, root, additions)?.2)
 }
 
-// The number of the first line of that name in two tables.
+// The number of the first item of that name in two tables.
 fn number_of<T>(
     name: &str,
     root: &[EnumerationItem<T>],

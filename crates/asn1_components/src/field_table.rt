@@ -9,8 +9,8 @@ use asn1_model::AsnType;
 
 /// A type with components (X.680, 25 and 27): a SEQUENCE, a SET, or a group of additions.
 ///
-/// The type states its components once. Its table has a line for each: those of the root, of a SET in canonical order, and
-/// then the additions. The lines are handed out by value, so that a generic type has its table too.
+/// The type states its components once. Its table has a field for each: those of the root, of a SET in canonical order, and
+/// then the additions. The calls answer fields by value, so that a generic type has its table too.
 pub trait FieldTable {
     // The components, in the order of their definition.
     ghost components: { Components Self };

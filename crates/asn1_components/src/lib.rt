@@ -26,7 +26,7 @@
 //!
 //! - `specs/ComponentTypes.antt` defines a component, with a word for each kind (`required`, `optional`, `with_default`,
 //!   `addition`). `specs/ComponentLists.antt` has the definitions that follow from a list of them: the records of all, their
-//!   entries, X.680's rules on their tags, and which values are valid.
+//!   rows, X.680's rules on their tags, and which values are valid.
 //! - `specs/Components.antt` has the list of a type (`sequence`, `set`, `extensible_sequence`, `extensible_set`; `group`), its
 //!   table (`table`), and its meaning (`constructed_type`). A type that means the same keeps the law of `ConstructedType`
 //!   (`AgreesWithComponents`), which `constructed_agrees` proves for each such meaning. An author who gives a type another

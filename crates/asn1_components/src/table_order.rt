@@ -7,23 +7,23 @@ ghost use Rattle.asn1_components.specs.Components.{all_components, is_sequence, 
 
 use crate::field_table::FieldTable;
 
-/// The law of field tables: a table has an entry for each component, in the order that its kind asks for.
+/// The law of field tables: a table has a field for each component, in the order that its kind asks for.
 ///
-/// The entries of all components are numbered in the order of the definition (`numbered`). The table has these and no others
+/// The fields of all components are numbered in the order of the definition (`numbered`). The table has these and no others
 /// (`rearranged`), as many as there are components (`counted`), so no index is in it twice (`indices_differ`). In the table
-/// of a SEQUENCE, and of a group, each entry's index is its position in the table (`definition_order`; X.680, 25). In that of a SET the root
-/// is in canonical order (`canonical`; X.680, 8.6). Records carry the lines of the table, with those of the additions
-/// after the extension marker (`as_in_records`).
+/// of a SEQUENCE, and of a group, the index of each field is its position in the table (`definition_order`; X.680, 25). In
+/// that of a SET the root is in canonical order (`canonical`; X.680, 8.6). Records carry the rows of the table, with those
+/// of the additions after the extension marker (`as_in_records`).
 pub fn tables_are_in_order<T: FieldTable>()
-    ensures numbered { (index : ℕ) (entry : FieldView) →
-        slice_get (views_from 0 (all_components T.components)) index ≡ Some entry →
-        entry.index ≡ index }
+    ensures numbered { (index : ℕ) (field : FieldView) →
+        slice_get (views_from 0 (all_components T.components)) index ≡ Some field →
+        field.index ≡ index }
     ensures rearranged { IsPermutation (views_from 0 (all_components T.components))
         (table T.components) }
     ensures counted { length (table T.components) ≡ length (all_components T.components) }
     ensures indices_differ { AllPairs (λ d e. d.index ≢ e.index) (table T.components) }
-    ensures definition_order { T.components.kind ≡ is_sequence → (index : ℕ) (entry : FieldView) →
-        slice_get (table T.components) index ≡ Some entry → entry.index ≡ index }
+    ensures definition_order { T.components.kind ≡ is_sequence → (index : ℕ) (field : FieldView) →
+        slice_get (table T.components) index ≡ Some field → field.index ≡ index }
     ensures as_in_records { rows T.components ≡
         split_at_marker (map row_of (table T.components)) (extension_index T.components) }
     ensures canonical { T.components.kind ≡ is_set →

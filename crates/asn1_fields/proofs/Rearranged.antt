@@ -16,12 +16,12 @@ use Rattle.asn1_fields.specs.FieldViews.{FieldView, component_of}
 abbrev key : FieldView → Tag
 key e = smallest_tag (component_of e)
 
--- the tag is at most the smallest tag of each entry
+-- the tag is at most the smallest tag of each component
 abbrev IsAtMostAll : Tag → List FieldView → Type 0
 IsAtMostAll t [] = Unit {0}
 IsAtMostAll t (e ∷ es) = IsAtMost t (key e) × IsAtMostAll t es
 
--- each entry's smallest tag is at most those of all after it
+-- each component's smallest tag is at most those of all after it
 abbrev IsAscending : List FieldView → Type 0
 IsAscending [] = Unit {0}
 IsAscending (e ∷ es) = IsAtMostAll (key e) es × IsAscending es
@@ -44,7 +44,7 @@ ascending (e ∷ (f ∷ es)) h = with_rest (ascending (f ∷ es) (canonical_tail
         let le : IsAtMost (key e) (key f) = h 0 (component_of e) (component_of f) refl refl in
         ((le, at_most_all (key e) (key f) es le rest.0), rest)
 
--- how many entries have that smallest tag
+-- how many components have that smallest tag
 abbrev count_of : Tag → List FieldView → ℕ
 count_of t es = sum_by (λ e. cond (tag_eq (key e) t) 1 0) es
 
@@ -64,12 +64,12 @@ counts_itself e es =
     let is : f e ≡ 1 = let step : Bool → ℕ = λ b. cond b 1 0 in ap step (tag_eq-refl (key e)) in
     subst (λ n. 0 < n) (sym (sum_by-cons f e es)) (omega (arith, is))
 
--- the first entry's smallest tag is at most each that is there
+-- the first component's smallest tag is at most each of the list
 head_at_most : (e : FieldView) (es : List FieldView) (t : Tag) → IsAscending (e ∷ es) → 0 < count_of t (e ∷ es) → IsAtMost (key e) t
 head_at_most e es t up there = at_most_found (key e) t (e ∷ es) (IsAtMost-refl (key e), up.0) there
 
 module _ (all : List FieldView) (apart : AllPairs (λ d e. key d ≢ key e) all) where
-  -- entries of the table with one smallest tag are one entry
+  -- components of the table with one smallest tag are one component
   same_view : (d e : FieldView) → Contains all d → Contains all e → key d ≡ key e → d ≡ e
   same_view d e (i, i_in, i_is) (j, j_in, j_is) same = by_order (cases_lt i j) (cases_lt j i)
     where
@@ -83,7 +83,7 @@ module _ (all : List FieldView) (apart : AllPairs (λ d e. key d ≢ key e) all)
           let at : i ≡ j = omega arith in
           sym i_is ∙ (ap (λ k. get_or all k d) at ∙ (get_or_default all j d e j_in ∙ j_is))
 
-  -- lists of these entries that have each as often, both ascending, are one list
+  -- lists of these components that have each as often, both ascending, are one list
   same_list : (ds es : List FieldView) → All (Contains all) ds → All (Contains all) es → ((f : FieldView → ℕ) → sum_by f ds ≡ sum_by f es) →
       IsAscending ds → IsAscending es → ds ≡ es
   same_list [] [] in_ds in_es as_often up_ds up_es = refl

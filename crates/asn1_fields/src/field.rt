@@ -89,7 +89,7 @@ impl<'a> Field<'a> {
         Field::new_default(index, T::tag(), T::tag_tree(), name)
     }
 
-    /// A component that is always there, under a tag in the place of its type's own.
+    /// A component that is always there, under a tag that replaces its type's own.
     pub fn new_required_type_with_tag<T: AsnType>(index: usize, tag: Tag, name: &'a str) -> Self
         ensures { view_of result ≡
             tagged_view index T.meaning tag FieldPresence.Required name.now }
@@ -97,7 +97,7 @@ impl<'a> Field<'a> {
         Field::new_required(index, tag, T::tag_tree_under(tag), name)
     }
 
-    /// A component that is marked OPTIONAL, under a tag in the place of its type's own.
+    /// A component that is marked OPTIONAL, under a tag that replaces its type's own.
     pub fn new_optional_type_with_tag<T: AsnType>(index: usize, tag: Tag, name: &'a str) -> Self
         ensures { view_of result ≡
             tagged_view index T.meaning tag FieldPresence.Optional name.now }
@@ -105,7 +105,7 @@ impl<'a> Field<'a> {
         Field::new_optional(index, tag, T::tag_tree_under(tag), name)
     }
 
-    /// A component that is marked DEFAULT, under a tag in the place of its type's own.
+    /// A component that is marked DEFAULT, under a tag that replaces its type's own.
     pub fn new_default_type_with_tag<T: AsnType>(index: usize, tag: Tag, name: &'a str) -> Self
         ensures { view_of result ≡
             tagged_view index T.meaning tag FieldPresence.Default name.now }

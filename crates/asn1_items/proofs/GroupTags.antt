@@ -51,13 +51,13 @@ pub of_nothing : {V : Type 0} (cs : List (ComponentType V)) (t : Tag) → length
 of_nothing [] t empty = tt
 of_nothing (c ∷ cs) t empty = absurd (omega (arith, empty))
 
-entries_long : {V : Type 0} (k : ℕ) (cs : List (ComponentType V)) → length (views_from k cs) ≡ length cs
-entries_long k [] = refl
-entries_long k (c ∷ cs) = ap suc (entries_long (k + 1) cs)
+views_long : {V : Type 0} (k : ℕ) (cs : List (ComponentType V)) → length (views_from k cs) ≡ length cs
+views_long k [] = refl
+views_long k (c ∷ cs) = ap suc (views_long (k + 1) cs)
 
--- the table has a line for each component
+-- the table has a row for each component
 table_long : {V : Type 0} (components : Components V) → length (table components) ≡ length (all_components components)
-table_long components = length_permutation (views_from 0 (all_components components)) (table components) (table_rearranges components) ∙ entries_long 0 (all_components components)
+table_long components = length_permutation (views_from 0 (all_components components)) (table components) (table_rearranges components) ∙ views_long 0 (all_components components)
 
 is_zero : (n : ℕ) → (¬ (n ≡ 0) → ⊥) → eqb n 0 ≡ true
 is_zero zero f = refl
@@ -67,11 +67,11 @@ module _ {V : Type 0} (components : Components V) (t : Tag) where
   abbrev group_tags : Tags
   group_tags = tree_tags (choice (trees_of (all_components components)))
 
-  -- a line of the table has the tag
+  -- a row of the table has the tag
   pub by_component : (index : ℕ) (e : FieldView) → slice_get (table components) index ≡ Some e → Has (tree_tags e.tree) t → Has group_tags t
   by_component index e at has = of_one (all_components components) e.index t (found components t index e at has)
 
-  -- no line has it: the group can begin with it if and only if it has no components
+  -- no row has it: the group can begin with it if and only if it has no components
   pub by_none : (count : ℕ) → count ≡ length (table components) →
       ((index : ℕ) (e : FieldView) → index < length (table components) → slice_get (table components) index ≡ Some e → Has (tree_tags e.tree) t → ⊥) →
       (eqb count 0 ≡ true → Has group_tags t) × (Has group_tags t → eqb count 0 ≡ true)

@@ -26,7 +26,7 @@ abbrev pub LeadsOut : ℕ → ℕ → List ℕ → ℕ → List ℕ → Type 0
 LeadsOut link start far outer outer_far = ((0 < link) × (start ≡ outer + link) × (far ≡ outer_far)) ⊎ ((link ≡ 0) × (far ≡ outer ∷ outer_far))
 
 module _ (marks : MarkBytes) where
-  -- An open scope: the bytes outside; its header, with a number that leads out in the place of the length, which is not known yet;
+  -- An open scope: the bytes outside; its header, with a number that leads out instead of the length, which is not known yet;
   -- and the bytes inside.
   pub record IsOpenScope (IsOutside : ℕ → List ℕ → List ℕ → Type 0) (h : Head) (rs : List Record) (start : ℕ) (far : List ℕ) (bytes : List ℕ) : Type 0 where
     pub before : List ℕ

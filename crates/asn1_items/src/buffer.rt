@@ -164,7 +164,7 @@ impl Buffer {
         Ok(0)
     }
 
-    /// Closes the innermost scope: its length is written over the place that was left for it.
+    /// Closes the innermost scope: its length is written over the four bytes that were left for it.
     ///
     /// # Errors
     /// [`BufferError::TooLong`] where 2^32 bytes or more are inside, and [`BufferError::NotOpen`] where no scope is innermost.
