@@ -9,12 +9,15 @@ use asn1_items::ItemError;
 use asn1_tags::{Class, Tag};
 use std::alloc::AllocError;
 
-/// A tag that was read with its form, and the bytes after it.
-#[derive(Clone, Copy)]
-pub(crate) struct Identified<'a> {
-    pub(crate) tag: Tag,
-    pub(crate) constructed: bool,
-    pub(crate) rest: &'a [u8],
+/// The identifier octets that were read, and the bytes after them.
+#[derive(Clone, Copy, Debug)]
+pub struct Identified<'a> {
+    /// The tag.
+    pub tag: Tag,
+    /// Whether the element holds others, and no primitive contents.
+    pub constructed: bool,
+    /// The bytes after the identifier octets.
+    pub rest: &'a [u8],
 }
 
 /// Appends a tag, of a primitive or a constructed element.
@@ -48,9 +51,13 @@ fn first_octet(class: Class, constructed: bool) -> u8
     }
 }
 
-/// Reads a tag and its form.
+/// The identifier octets with which the bytes begin (X.690, 8.1.2).
+///
+/// # Errors
+/// [`ItemError::Missing`] where the bytes end before the identifier octets do, and [`ItemError::Malformed`] where the number of the
+/// tag is 2^32 or more or not the shortest.
 #[inline(always)]
-pub(crate) fn read_identifier(bytes: &[u8]) -> Result<Identified<'_>, ItemError>
+pub fn read_identifier(bytes: &[u8]) -> Result<Identified<'_>, ItemError>
     ensures only { IfOk result (λ i. identifier_at bytes.now ≡
         Some (record { tag = i.tag; constructed = i.constructed; rest = i.rest.now })) }
     ensures found { (i : IdentifierView) → identifier_at bytes.now ≡ Some i → IsOk result }

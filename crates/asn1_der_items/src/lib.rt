@@ -3,6 +3,7 @@
 //! | Item | What it is |
 //! |---|---|
 //! | [`find_element`], [`Element`], [`is_one_element`] | the element with which some bytes begin, and whether they are one |
+//! | [`read_identifier`], [`Identified`] | the identifier octets with which some bytes begin |
 //! | [`begin_element`], [`end_element`] | write an element around its contents octets |
 //! | [`append_primitive`], [`append_contents`] | writes an element of a content, and the contents octets alone |
 //! | [`append_integer`], [`read_integer`] | the contents octets of an INTEGER and an ENUMERATED |
@@ -70,6 +71,7 @@ pub use elements::{
 };
 pub use error::ElementError;
 pub use fault::first_fault;
+pub use identifiers::{Identified, read_identifier};
 pub use integers::{append_integer, read_integer};
 pub use path::position_at_path;
 pub use teletex::append_teletex;
