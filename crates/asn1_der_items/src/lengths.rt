@@ -79,8 +79,8 @@ fn read_long_length(count: usize, octets: &[u8]) -> Result<Front<'_>, ItemError>
     }
 }
 
-/// The number of the bytes, the highest first, if it fits.
-fn number_of(bytes: &[u8]) -> Option<u64>
+/// The number of the bytes, the highest first, if it is below 2^64. There may be zeros in front.
+pub fn number_of(bytes: &[u8]) -> Option<u64>
     ensures { SomeIff result (magnitude bytes.now < 2 ^ 64) (magnitude bytes.now) }
 {
     let mut number = 0u64;

@@ -4,6 +4,7 @@
 //! |---|---|
 //! | [`find_element`], [`Element`], [`is_one_element`] | the element with which some bytes begin, and whether they are one |
 //! | [`read_identifier`], [`Identified`] | the identifier octets with which some bytes begin |
+//! | [`number_of`] | the number of some bytes, the highest first |
 //! | [`begin_element`], [`end_element`] | write an element around its contents octets |
 //! | [`append_primitive`], [`append_contents`] | writes an element of a content, and the contents octets alone |
 //! | [`append_integer`], [`read_integer`] | the contents octets of an INTEGER and an ENUMERATED |
@@ -73,5 +74,6 @@ pub use error::ElementError;
 pub use fault::first_fault;
 pub use identifiers::{Identified, read_identifier};
 pub use integers::{append_integer, read_integer};
+pub use lengths::number_of;
 pub use path::position_at_path;
 pub use teletex::append_teletex;
