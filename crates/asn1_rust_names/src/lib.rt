@@ -1,0 +1,27 @@
+//! Names of Rust for names of ASN.1.
+//!
+//! A name of ASN.1 is a row of words, each of which begins at a hyphen or a capital: `cRLDistributionPoints` has the words `crl`,
+//! `distribution` and `points`. A name of Rust has the same words in another form.
+//!
+//! | Item | Form | `LDAPMessage`, `messageID`, `type` |
+//! |---|---|---|
+//! | [`camel_case`] | types and variants | `LdapMessage`, `MessageId`, `Type` |
+//! | [`snake_case`] | fields and modules | `ldap_message`, `message_id`, `type_` |
+//! | [`upper_case`] | constants | `LDAP_MESSAGE`, `MESSAGE_ID`, `TYPE` |
+//! | [`TakenNames`] | the names of a scope, told apart by a number | |
+//!
+//! Two names of ASN.1 can give one name of Rust, as `a-b` and `aB` do. [`TakenNames::take`] puts a number behind the second.
+//! Names are compared without regard to case, since modules and types of one name, as `a_b` and `A_B`, are refused too.
+//!
+//! Calls fail only if memory runs out.
+#![tactic(auto)]
+
+mod cases;
+mod keywords;
+mod taken;
+#[cfg(test)]
+mod tests;
+mod words;
+
+pub use cases::{camel_case, snake_case, upper_case};
+pub use taken::TakenNames;
