@@ -1,6 +1,6 @@
 mod FilledSlots
 mod NamedErrors
 mod ReadByIndex
-mod ReadChoices
+pub mod ReadChoices
 mod ReadInSets
 mod TreesWithTags

@@ -23,6 +23,7 @@
 //! | [`DecodeChoiceByIndex`] | a CHOICE: its cases, and how its alternatives are read |
 //! | [`from_tag_by_index`], [`from_tag_by_table`] | read the alternative that can begin with a tag |
 //! | [`alternative`], [`alternative_with_constraints`] | read the value of an alternative |
+//! | [`index_of_tag`] | the index of the alternative that can begin with a tag |
 //! | [`Tagging`] | the tagging of a component or an alternative, as the type's list has it |
 //! | [`laws`] | a component with a default is absent if it has the default, and only then |
 //!
@@ -85,4 +86,5 @@ pub use constrained::{
 };
 pub use set_by_index::{DecodeSetByIndex, decode_set_by_index};
 pub use slot_values::{missing, or_default, or_empty};
+pub use tag_indices::index_of_tag;
 pub use tagging::Tagging;

@@ -93,7 +93,7 @@ fn find_in_table(
 
 /// The index of the alternative that can begin with the tag, in the order of the definition.
 #[inline(always)]
-pub(crate) fn index_of_tag<T: ChoiceType>(tag: Tag) -> Option<usize>
+pub fn index_of_tag<T: ChoiceType>(tag: Tag) -> Option<usize>
     ensures { IsIndexOf tag (trees_of (all_of T.alternatives)) result }
 {
     match T::table().tree {
