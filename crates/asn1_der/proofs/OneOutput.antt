@@ -7,7 +7,7 @@ use Rattle.std.specs.declared.alloc.Global.{Global}
 use Rattle.asn1_der.proofs.Cuts.{der_belongs, der_steady}
 use Rattle.asn1_der.specs.Cuts.{cut_within, der_fronts}
 use Rattle.asn1_der.specs.Format.{Carries, der_format}
-use Rattle.asn1_der.specs.OneOutput.{EqualHaveSameRecords, HasDistinctSetsIn, HasNoSet, HaveDistinctSetsInEach, HaveNoSet, HaveOneOutput, HaveOneSpelling, IsNoSet}
+use Rattle.asn1_der.specs.OneOutput.{HasDistinctSetsIn, HasNoSet, HaveDistinctSetsInEach, HaveNoSet, HaveOneOutput, HaveOneSpelling, IsNoSet}
 use Rattle.asn1_der.specs.declared.reader.DerReader.{DerReader}
 use Rattle.asn1_der_items.proofs.Canonical.{same_ders}
 use Rattle.asn1_der_items.proofs.DistinctSets.{all_distinct}
@@ -18,7 +18,7 @@ use Rattle.asn1_model.specs.Meaning.{Meaning, IsWellTagged, own_records}
 use Rattle.asn1_model.specs.Orders.{SameRecord, SameAll, SameRecords, at_end, equal, in_any_order, one_by_one, next}
 use Rattle.asn1_model.specs.Records.{Head, Record, Records, alternative, explicit_tag, held, listed, more, none, open_type, presence_mark, scalar, scope, sequence, sequence_of, set, set_of}
 use Rattle.asn1_rules.specs.CanonicalFronts.{HasOneSpellingEach}
-use Rattle.asn1_rules.specs.CanonicalReading.{AreOctets, HasOneSpelling}
+use Rattle.asn1_rules.specs.CanonicalReading.{AreOctets, EqualHaveSameRecords, HasOneSpelling}
 
 distinct_in : (h : Head) (rs : Records) → IsNoSet h → AreDistinctIn h rs
 distinct_in (sequence t table n) rs free = tt

@@ -42,10 +42,6 @@ module _ {V : Type 0} (m : Meaning V) where
       (own other : List ℕ) → AllBelowBase 256 own → AllBelowBase 256 other → IsSpelled der_format m v own → IsSpelled der_format m w other →
       own ≡ other
 
-  -- Equal values have the same records, up to the order inside sets.
-  abbrev pub EqualHaveSameRecords : (V → V → Bool) → Type 0
-  EqualHaveSameRecords eq = (v w : V) → eq v w ≡ true → SameRecords (own_records m v) (own_records m w)
-
   -- In each SET in a value the components have distinct tags (X.680, 27.3).
   abbrev pub HasDistinctSetsIn : V → Type 0
   HasDistinctSetsIn v = HaveDistinctSets (held (own_records m v))

@@ -1,11 +1,11 @@
 //! Laws of one spelling: records have one DER, and so values with the same records have one spelling.
 ghost use Rattle.asn1_der.specs.Format.{Carries, der_format};
-ghost use Rattle.asn1_der.specs.OneOutput.{EqualHaveSameRecords, HasDistinctSetsIn, HaveDistinctSetsInEach, HaveNoSet, HaveOneOutput, HaveOneSpelling};
+ghost use Rattle.asn1_der.specs.OneOutput.{HasDistinctSetsIn, HaveDistinctSetsInEach, HaveNoSet, HaveOneOutput, HaveOneSpelling};
 ghost use Rattle.asn1_der_items.specs.DistinctTags.{HaveDistinctSets};
 ghost use Rattle.asn1_model.specs.Meaning.{IsWellTagged, own_records};
 ghost use Rattle.asn1_model.specs.Orders.{SameRecords};
 ghost use Rattle.asn1_model.specs.Records.{Record, held};
-ghost use Rattle.asn1_rules.specs.CanonicalReading.{AreOctets, HasOneSpelling};
+ghost use Rattle.asn1_rules.specs.CanonicalReading.{AreOctets, EqualHaveSameRecords, HasOneSpelling};
 ghost use Rattle.asn1_rules.specs.Fronts.{BelongsTo, IsSteady};
 ghost use Rattle.std.specs.Int.Digits.{AllBelowBase};
 ghost use Rattle.std.specs.Prelude.{◌≡◌, List, Vec, true, ℕ};
@@ -35,7 +35,7 @@ pub fn records_with_an_output_are_not_rejected()
 
 /// A law of one spelling: if two values have the same records, up to the order inside sets, then all octets that writing either of
 /// them makes are the same (`same_records`). So are those of equal values of a type whose equal values have the same records
-/// (`equal`). The components of each SET in the value have distinct tags.
+/// (`equal`). Both hold if the components of each SET in the value have distinct tags.
 ///
 /// `read_canonical` of `asn1_rules` answers a value only of octets that writing it makes. So if it answers equal values of such a type by
 /// DER, the two inputs were the same octets, and signed octets have no second form that is read as the same value.
@@ -48,7 +48,8 @@ pub fn equal_values_have_one_spelling<T: AsnType + PartialEq>()
 
 /// A law of one spelling: octets that carry the records of a value are its only spelling, if equal values of its type have the same
 /// records, and the components of each SET in it have distinct tags. This is the premise of `read` of `read_canonical`. So what
-/// DER writes of a valid value is read back by `read_canonical`, unless memory runs out or the depth is too small.
+/// DER writes of a valid value of a well-tagged type is read back by `read_canonical`, unless memory runs out or the depth is too
+/// small.
 pub fn what_is_written_is_the_only_spelling<T: AsnType + PartialEq>()
     ensures { EqualHaveSameRecords T.meaning T.eq → (output : Vec ℕ Global) (v : T) →
         AreOctets output.items → HasDistinctSetsIn T.meaning v →
@@ -56,8 +57,10 @@ pub fn what_is_written_is_the_only_spelling<T: AsnType + PartialEq>()
         HasOneSpelling der_format T.meaning T.eq v output.items }
 {}
 
-/// A law of streams: a canonical reader over the reader of DER is steady, and belongs to the rules of DER, for a type that can be
-/// inside others, whose equal values have the same records, and in whose SETs the components have distinct tags.
+/// A law of streams: a canonical reader over the reader of DER is steady (`steady`). It belongs to the rules of DER, for a well-tagged
+/// type whose equal values have the same records, if the components of each SET in each valid value have distinct tags (`belongs`).
+/// So it reads what DER wrote of valid values of such a type, unless memory runs out or a value is nested deeper than the reader's
+/// depth.
 pub fn the_canonical_reader_belongs_to_the_rules<T: Encode + Decode>(
     reader: &CanonicalReader<DerReader, DerRules>,
 )

@@ -19,9 +19,11 @@
 //!   scopes as it was made with (`depth`). It is steady and belongs to these rules, so values come out of a stream in the order in
 //!   which they were written, however the bytes are cut (`round_trip_in_pieces` of `asn1_rules`).
 //! - Records have one output, whatever the order inside sets, if the components of each SET in them have distinct tags
-//!   (`output_is_unique` of [`canonical`]). So octets of which `read_canonical` of `asn1_rules` answers equal values are the same, if
-//!   equal values of the type have the same records (`equal_values_have_one_spelling`), and what is written of a valid value is read back
-//!   by it (`what_is_written_is_the_only_spelling`).
+//!   (`output_is_unique` of [`canonical`]). So if `read_canonical` of `asn1_rules` answers equal values of two inputs, these are the same
+//!   octets, for a type whose equal values have the same records, if the components of each SET in the value have distinct tags
+//!   (`equal_values_have_one_spelling`). What is written of a valid value of such a type is its only spelling
+//!   (`what_is_written_is_the_only_spelling`), so `read_canonical` reads it back equal, if the type is well tagged, unless memory runs
+//!   out or the depth is too small.
 //!
 //! # The encoder
 //!

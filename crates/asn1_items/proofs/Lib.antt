@@ -3,6 +3,7 @@ pub mod Fronts
 mod GroupTags
 mod Headers
 pub mod Items
+pub mod OneBits
 mod Lists
 mod Octets
 mod OctetsWritten

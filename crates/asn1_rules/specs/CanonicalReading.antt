@@ -74,3 +74,8 @@ module _ {V : Type 0} (F : Format (Vec ℕ Global)) (m : Meaning V) where
   abbrev pub IsRefusedFor : ℕ → V → CanonicalError → Type 0
   IsRefusedFor depth v e =
       (e ≡ Read reading.Memory) ⊎ (e ≡ Write writing.Memory) ⊎ ((e ≡ Read reading.Depth) × (depth < highest (own_records m v)))
+
+module _ {V : Type 0} (m : Meaning V) where
+  -- Equal values have the same records, up to the order inside sets.
+  abbrev pub EqualHaveSameRecords : (V → V → Bool) → Type 0
+  EqualHaveSameRecords eq = (v w : V) → eq v w ≡ true → SameRecords (own_records m v) (own_records m w)

@@ -28,9 +28,12 @@ pub enum CanonicalError {
 /// Reads a value, writes it again, and compares: the value is answered only if the two byte strings are the same.
 ///
 /// A value that is answered is one that `read_value` may answer of the input (`answered`), and writing it makes the input
-/// (`canonical`). A valid value of a well-tagged type whose only spelling is the input is read back equal (`read`); so is each
-/// value that was written, by a codec that has one output for records that are the same up to the order inside sets, as DER.
-/// Reading and writing open at most this many nested scopes.
+/// (`canonical`). Reading and writing open at most this many nested scopes.
+///
+/// A valid value of a well-tagged type whose only spelling is the input is read back equal, unless memory runs out or its records are
+/// nested deeper than the depth (`read`). The law `what_is_written_is_the_only_spelling` of a codec's crate says of which values the
+/// codec's output is the only spelling: equal values have the same records and, in DER, the components of each SET in the value have
+/// distinct tags.
 ///
 /// # Errors
 /// Each error says why (`departs`); what `read_value` answers of an input is known by its contract alone.

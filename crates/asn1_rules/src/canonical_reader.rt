@@ -58,7 +58,7 @@ impl<T: Encode + Decode, F: FrontReader<T>, R: Rules<Output = Vec<u8>>> FrontRea
         let (value, length) = self.reader.read_front(input)?;
         let output = match self.rules.write_value(&value, self.depth) {
             Ok(output) => output,
-            Err(error) => return Err(error_of_writing(error)),
+            Err(error) => return Err(as_error_of_reading(error)),
         };
         match first_difference(&input[..length], &output) {
             None => Ok((value, length)),
@@ -72,8 +72,8 @@ impl<T: Encode + Decode, F: FrontReader<T>, R: Rules<Output = Vec<u8>>> FrontRea
     } };
 }
 
-/// The error of a reader that cannot write what it has read.
-fn error_of_writing(error: EncodeError) -> DecodeError
+/// An error of writing, as a reader answers it that writes what it has read.
+fn as_error_of_reading(error: EncodeError) -> DecodeError
     ensures { result ≡ as_error_of_reading error }
 {
     match error {

@@ -13,7 +13,7 @@ returns-in-Err-clause-read g c = λ v n front.
     let m = g.T.AsnType.meaning in
     let same = c.in_ok-value.ensures.read.as_written v n front.front in
     let why = not_written format g.met.R.Rules.lawful m inner.same v (take n c.args.input.now) (front.only_spelling (first_octets c.args.input.now n c.type_inv.input)) c.in_ok-value.value same.1 c.args.self.now.depth c.in-Err.error c.in-Err.ensures in
-    fails_too (inner.depth c.args.self.now.reader) c.args.self.now.depth (highest (own_records m v)) c.in-Err.error c.error_of_writing.result c.error_of_writing.ensures why
+    fails_too (inner.depth c.args.self.now.reader) c.args.self.now.depth (highest (own_records m v)) c.in-Err.error c.as_error_of_reading.result c.as_error_of_reading.ensures why
 
 pub returns-in-Err-clause-departs : goal.returns-in-Err-clause-departs
 returns-in-Err-clause-departs g c = inr (inl (record {
@@ -21,7 +21,7 @@ returns-in-Err-clause-departs g c = inr (inl (record {
   may_be_read = c.in_ok-value.ensures.read;
   refusal = c.in-Err.error;
   not_written = c.in-Err.ensures;
-  is = c.error_of_writing.ensures;
+  is = c.as_error_of_reading.ensures;
 }))
 
 pub returns-in-None-clause-read : goal.returns-in-None-clause-read
