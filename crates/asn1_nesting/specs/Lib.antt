@@ -1,0 +1,2 @@
+pub mod InsideItself
+pub mod OpenChoices

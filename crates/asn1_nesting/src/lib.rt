@@ -1,0 +1,36 @@
+//! Reading CHOICE types that hold themselves, by two calls.
+//!
+//! The reader of such a type is a cycle of calls, which the check proves in the crate of the type alone, and which no method of the
+//! type may be part of. So it is two free functions: one reads a value, and one the alternative at an index, a line for each. The
+//! first is two calls of this crate with a call of the second between them. Each opened CHOICE takes from the depth left of the
+//! decoder, which ends the cycle.
+//!
+//! | Item | What it is |
+//! |---|---|
+//! | [`HoldsItself`] | a CHOICE that holds itself, by its cases |
+//! | [`open_choice_at`] | opens the CHOICE, and answers the index of its alternative |
+//! | [`close_choice`] | closes it, and answers the value that was read |
+//! | [`boxed`] | moves a value inside another into a box |
+//!
+//! The contracts promise the following, in these words:
+//!
+//! - After [`open_choice_at`] the alternative at the index is next, inside one scope or, after a tag, inside two (`IsOpen` of
+//!   `specs/OpenChoices.antt`), and less depth is left (`deeper`). An error means that the CHOICE could not be read there
+//!   (`not_read`).
+//! - If the alternative at that index was then read (`ReadsCaseAt` of `asn1_slots`), a value under the tag has been read after
+//!   [`close_choice`], or could not be (`read`), as `Decode` of `asn1_dec` promises (`after_reading`).
+//! - The alternatives of the type are those of its cases (`AreCasesOf` of `specs/InsideItself.antt`), and inside itself the type has
+//!   the same records as elsewhere (`IsInside`).
+//!
+//! The crate takes memory for boxes and for the type's own constraints alone.
+#![tactic(auto)]
+
+mod boxes;
+mod closing;
+mod holds_itself;
+mod opening;
+
+pub use boxes::boxed;
+pub use closing::close_choice;
+pub use holds_itself::HoldsItself;
+pub use opening::open_choice_at;
