@@ -17,6 +17,7 @@
 //! | [`Tag`] | a tag | 31 |
 //! | [`Constraint`], [`ConstraintKind`], [`Range`], [`CharacterRange`] | a constraint | 49 to 51 |
 //! | [`Value`], [`ComponentValue`] | a value | 17 |
+//! | [`Problem`], [`Severity`] | what is wrong with a module | |
 //!
 //! Names are octets of the texts. A place has the index of the text; the span of a type or a constraint is empty, and is where
 //! it begins.
@@ -24,12 +25,14 @@
 
 mod components;
 mod constraints;
+mod problem;
 mod schema;
 mod types;
 mod values;
 
 pub use components::{Addition, Alternative, Alternatives, Component, Components, Usage};
 pub use constraints::{CharacterRange, Constraint, ConstraintKind, Range};
+pub use problem::{Problem, Severity};
 pub use schema::{Origin, Schema, TypeDefinition, ValueDefinition};
 pub use types::{Enumeration, EnumerationItem, NamedNumber, Tag, Type, TypeKind};
 pub use values::{ComponentValue, Value};
