@@ -1,4 +1,5 @@
 mod FilledSlots
+mod Layouts
 mod NamedErrors
 mod ReadByIndex
 pub mod ReadChoices

@@ -383,9 +383,11 @@ AreSlotsOf [] (h ∷ hs) = ⊥
 AreSlotsOf (c ∷ cs) [] = ⊥
 AreSlotsOf (c ∷ cs) (h ∷ hs) = SameComponent c h.component × AreSlotsOf cs hs
 
--- so of the components of a type
+-- A type's components are those of its layout: what are slots of the layout's own components are
+-- slots of the type's.
 abbrev pub IsLayoutOf : {S V : Type 0} → Components V → List (Slot S V) → Type 0
-IsLayoutOf components layout = AreSlotsOf (all_components components) layout
+IsLayoutOf components layout =
+    AreSlotsOf (components_of layout) layout → AreSlotsOf (all_components components) layout
 
 -- A call that reads the components that are left in a SET, of which there are at most this many
 -- records: in any order, and into slots.
