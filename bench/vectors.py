@@ -3,10 +3,12 @@
 
     python3 bench/vectors.py
 
-goes through crates/test_vectors/stdout. Where a line has a value in packed form or in the tag form and in another form, the other
-one is made here of the items alone, by the layout that asn1_items defines and by X.690, and compared. It stops at the first that
-differs, and prints how many lines were checked. Left out are refusals, open types by themselves, lines of one form, and the four lines
-that read a component that is its DEFAULT, which is not written again.
+goes through crates/test_vectors/stdout. Where a line has a value in two forms, of the packed form, the tag form and DER, one of them is
+made here of the items of the other alone, by the layout that asn1_items defines and by X.690, and compared. A line that was refused as
+not canonical names the bytes as which its value is written: these have to be read by another line, and the position has to be that of
+the first byte in which the two differ. It stops at the first line that is otherwise, and prints how many lines were checked. Left out
+are other refusals, open types by themselves, lines of one form, and the lines that read a component that is its DEFAULT, which is
+not written again.
 """
 import os
 import sys

@@ -38,7 +38,7 @@ signed_abs false n = refl
 signed_abs true zero = refl
 signed_abs true (suc n) = refl
 
-digits_abs : (z : ℤ) (bytes : List ℕ) (p : IsInteger z bytes) → magnitude p.digits ≡ unsigned_abs z
+pub digits_abs : (z : ℤ) (bytes : List ℕ) (p : IsInteger z bytes) → magnitude p.digits ≡ unsigned_abs z
 digits_abs z bytes p = sym (signed_abs p.negative (magnitude p.digits)) ∙ ap unsigned_abs p.value
 
 number_after_worth : (n : ℕ) (ds : List ℕ) → n * 256 ^ length ds ≤ number_from_digits_after 256 n ds
@@ -131,11 +131,11 @@ content_length (units kind list) bytes p below = units_length kind list bytes p
 
 -- ---- records
 
-below_left : (xs ys : List ℕ) → AllBelowBase 256 (xs ++ ys) → AllBelowBase 256 xs
+pub below_left : (xs ys : List ℕ) → AllBelowBase 256 (xs ++ ys) → AllBelowBase 256 xs
 below_left [] ys below = tt
 below_left (x ∷ xs) ys below = (below.0, below_left xs ys below.1)
 
-below_right : (xs ys : List ℕ) → AllBelowBase 256 (xs ++ ys) → AllBelowBase 256 ys
+pub below_right : (xs ys : List ℕ) → AllBelowBase 256 (xs ++ ys) → AllBelowBase 256 ys
 below_right [] ys below = below
 below_right (x ∷ xs) ys below = below_right xs ys below.1
 
@@ -168,7 +168,7 @@ item_length : (kind : ItemKind) (t : Tag) (own inside bytes : List ℕ) → IsIt
 item_length kind t own inside bytes p =
     omega (arith, ap length p.are, length-append (tag_bytes t ++ own ++ four_bytes (length inside)) inside, length-append (tag_bytes t ++ own) (four_bytes (length inside)), length-append (tag_bytes t) own)
 
-inside_below : (kind : ItemKind) (t : Tag) (own inside bytes : List ℕ) → IsItem kind t own inside bytes → AllBelowBase 256 bytes → AllBelowBase 256 inside
+pub inside_below : (kind : ItemKind) (t : Tag) (own inside bytes : List ℕ) → IsItem kind t own inside bytes → AllBelowBase 256 bytes → AllBelowBase 256 inside
 inside_below kind t own inside bytes p below =
     below_right (tag_bytes t ++ own ++ four_bytes (length inside)) inside ((subst (AllBelowBase 256) p.are below).1)
 
@@ -280,7 +280,7 @@ module _ (marks : MarkBytes) where
     all_back at_end f = tt
     all_back (next same all) f = (fits_back same f.0, all_back all f.1)
 
-  below : (bytes : List ℕ) → All (λ byte. byte < 2 ^ 8) bytes → AllBelowBase 256 bytes
+  pub below : (bytes : List ℕ) → All (λ byte. byte < 2 ^ 8) bytes → AllBelowBase 256 bytes
   below [] all = tt
   below (byte ∷ bytes) all = (omega (arith, All-head (λ byte. byte < 2 ^ 8) byte bytes all), below bytes (All-tail (λ byte. byte < 2 ^ 8) byte bytes all))
 

@@ -13,6 +13,7 @@
 //! | [`ItemBuffer`], [`ItemEncoder`], [`ItemDecoder`] | the buffer, the encoder and the decoder of any codec over items |
 //! | [`ByteReader`] | a reader whose values are single bytes, for runs of streams without a codec |
 //! | [`NoRules`] | rules that write and read nothing, for runs in which a value is refused |
+//! | [`canonical`] | records without sets have one output, and values one spelling |
 //! | [`laws`], [`codec_laws`] | the laws of the whole codec and its reader, and of codecs over items |
 //!
 //! `asn1_items` has the bytes of items, and the state of a decoder. Codecs over items differ in [`Presence`] alone.
@@ -43,6 +44,9 @@
 //!   of one value are one whole item, no more and no less (`cut` of [`laws`]), and it opens as many scopes as it was made with
 //!   (`depth`). It is steady (`steady` of [`laws`]) and, for each type that can be inside others, belongs to the rules (`belongs`):
 //!   so values that were written one after another come back in their order, however their bytes are cut.
+//! - Records without a SET or SET OF have one output. So what is written of a valid value without these is its only spelling, for a
+//!   type whose equal values have the same records (`what_is_written_is_the_only_spelling` of [`canonical`]), and `read_canonical` of
+//!   `asn1_rules` reads it back equal, if the type is well tagged, unless memory runs out or the depth is too small.
 //!
 //! No contract covers bytes that are not those of the type. Tests show that the error is `Custom` with the text `bad item` where
 //! they are not those of the item that is asked for, and `Incomplete` where they end outside all scopes, with the number of bytes
@@ -50,6 +54,7 @@
 #![tactic(auto)]
 
 mod byte_reader;
+pub mod canonical;
 pub mod codec_laws;
 mod decoder;
 mod item_buffer;

@@ -4,6 +4,7 @@
 //! |---|---|
 //! | [`TagRules`] | the codec as a whole |
 //! | [`NextItem`] | how it tells what may be absent |
+//! | [`canonical`] | values without sets have one spelling |
 //! | [`laws`] | what it is, and what the derives give |
 //!
 //! The items are those of the packed form (`asn1_items`), without the bytes of presence marks, and the encoder and the decoder
@@ -18,9 +19,13 @@
 //!   (`CarriesWith` of `asn1_bench`, with `no_marks` of `specs/Next.antt`). Records are rejected that are too long, and no others
 //!   ([`laws::the_tag_form_has_its_bytes`]).
 //! - Trailing records are refused, if they are not presence marks alone, which have no bytes here (`none_left` of `read_value`).
+//! - What is written of a valid value without a SET or SET OF is its only spelling, for a type whose equal values have the same
+//!   records (`what_is_written_is_the_only_spelling` of [`canonical`]), and `read_canonical` of `asn1_rules` reads it back equal, if the
+//!   type is well tagged, unless memory runs out or the depth is too small.
 //! - About bytes that no value gave nothing is promised; tests try such bytes. The errors are those of the packed form.
 #![tactic(auto)]
 
+pub mod canonical;
 pub mod laws;
 mod next_item;
 mod rules;
