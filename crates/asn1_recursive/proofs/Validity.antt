@@ -48,6 +48,6 @@ each_filter_valid v accepts = filter_valid accepts v
 
 -- and a value that holds itself by the one inside
 pub each_nested_valid : (v : Nested) (accepts : List ℕ → Bool) → (nested_means v).IsValid accepts
-each_nested_valid Null accepts = tt
+each_nested_valid (Null nothing) accepts = tt
 each_nested_valid (Flag b) accepts = tt
 each_nested_valid (Inner' p inner) accepts = each_nested_valid inner accepts

@@ -14,7 +14,8 @@
 //! - A CHOICE defines the meaning of its chosen alternative by recursion on a value (`specs/FilterAlternatives.antt` and
 //!   `specs/NestedAlternatives.antt`). Tables and meaning are proved to say the same.
 //! - They are read by functions that call one another, and open a scope before each alternative, so the depth left of the decoder
-//!   ends the recursion, whatever the input. Their proofs go by the lemmas of `asn1_laws` for a CHOICE that holds itself
+//!   ends the recursion, whatever the input. Those of [`Nested`] are two, with the calls of `asn1_nesting` between them. Those of
+//!   [`Filter`] are five, since its sets need a loop, and their proofs go by the lemmas of `asn1_laws` for a CHOICE that holds itself
 //!   (`proofs/ReadingChoices.antt`).
 //! - [`laws`] states the names of the tables, and that the parts of a filter are valid.
 //!
@@ -28,7 +29,6 @@ mod filter_reader;
 pub mod laws;
 mod matching_rule_assertion;
 mod nested;
-mod nested_reader;
 mod substring;
 mod substring_filter;
 
