@@ -1,0 +1,178 @@
+//! Files that are no type: names for types and tags, and constants.
+use asn1_rust_code::{Draft, TagNumber, TypeName, class_word};
+use std::alloc::{AllocError, Global};
+
+/// A name for a type.
+#[derive(Drop)]
+pub struct Alias {
+    /// The name in Rust.
+    pub name: String,
+    /// The definition in ASN.1.
+    pub notation: String,
+    /// The type.
+    pub definition: TypeName,
+    /// Named numbers or bits of the type, as constants of a struct with this name.
+    pub numbers: Option<NamedNumbers>,
+}
+
+/// The names of an INTEGER or a BIT STRING.
+#[derive(Drop)]
+pub struct NamedNumbers {
+    /// The struct whose constants they are.
+    pub name: String,
+    /// The constants.
+    pub constants: Vec<Constant>,
+}
+
+/// A constant.
+#[derive(Drop)]
+pub struct Constant {
+    /// The name in Rust.
+    pub name: String,
+    /// The definition in ASN.1.
+    pub notation: String,
+    /// The type of the constant.
+    pub definition: &'static str,
+    /// The value in code.
+    pub value: String,
+}
+
+/// A type that names a tag.
+#[derive(Drop)]
+pub struct Marker {
+    /// The name in Rust.
+    pub name: String,
+    /// The tag.
+    pub tag: TagNumber,
+}
+
+/// The file with the names of types.
+pub fn alias_file(alloc: Global, page: &[String], aliases: &[Alias]) -> Result<String, AllocError> {
+    let mut draft = Draft::new(alloc);
+    for (index, alias) in aliases.iter().enumerate() {
+        append_gap(&mut draft, index)?;
+        append_alias(&mut draft, alias)?;
+    }
+    draft.into_file(page)
+}
+
+/// The file with constants.
+pub fn constant_file(
+    alloc: Global,
+    page: &[String],
+    constants: &[Constant],
+) -> Result<String, AllocError> {
+    let mut draft = Draft::new(alloc);
+    for (index, constant) in constants.iter().enumerate() {
+        append_gap(&mut draft, index)?;
+        append_constant(&mut draft, 0, constant)?;
+    }
+    draft.into_file(page)
+}
+
+/// The file with the types that name tags.
+pub fn marker_file(
+    alloc: Global,
+    page: &[String],
+    markers: &[Marker],
+) -> Result<String, AllocError> {
+    let mut draft = Draft::new(alloc);
+    draft.use_names(&["AsnType", "Identifier", "TypeTable"])?;
+    draft.use_ghost("ghost use Rattle.asn1_schema.specs.model.Kinds.{marker_type};")?;
+    for (index, marker) in markers.iter().enumerate() {
+        append_gap(&mut draft, index)?;
+        append_marker(&mut draft, marker)?;
+    }
+    draft.into_file(page)
+}
+
+// Appends an empty line, but before the first item.
+fn append_gap(draft: &mut Draft, index: usize) -> Result<(), AllocError> {
+    if index == 0 { Ok(()) } else { draft.blank() }
+}
+
+// Appends a name for a type.
+fn append_alias(draft: &mut Draft, alias: &Alias) -> Result<(), AllocError> {
+    let alloc = draft.alloc();
+    draft.use_type(&alias.definition)?;
+    let notation = alias.notation.as_str();
+    let name = alias.name.as_str();
+    let text = alias.definition.text.as_str();
+    draft.text(format!(in alloc; "/// {notation}\n")?)?;
+    let front = format!(in alloc; "pub type {name} =")?;
+    let back = format!(in alloc; "{text};")?;
+    draft.definition(0, front.as_str(), back.as_str())?;
+    match &alias.numbers {
+        Some(numbers) => append_numbers(draft, name, numbers),
+        None => Ok(()),
+    }
+}
+
+// Appends the names of an INTEGER or a BIT STRING.
+fn append_numbers(
+    draft: &mut Draft,
+    alias: &str,
+    numbers: &NamedNumbers,
+) -> Result<(), AllocError> {
+    let name = numbers.name.as_str();
+    draft.text(format!(in draft.alloc();
+        "
+/// The names in a `{alias}`.
+pub struct {name};
+
+impl {name} {{
+"
+    )?)?;
+    for (index, constant) in numbers.constants.iter().enumerate() {
+        append_gap(draft, index)?;
+        append_constant(draft, 1, constant)?;
+    }
+    draft.line(0, "}")
+}
+
+// Appends a constant.
+fn append_constant(draft: &mut Draft, depth: usize, constant: &Constant) -> Result<(), AllocError> {
+    let alloc = draft.alloc();
+    let notation = constant.notation.as_str();
+    let comment = format!(in alloc; "/// {notation}")?;
+    draft.line(depth, comment.as_str())?;
+    let name = constant.name.as_str();
+    let definition = constant.definition;
+    let front = format!(in alloc; "pub const {name}: {definition} =")?;
+    let value = constant.value.as_str();
+    let back = format!(in alloc; "{value};")?;
+    draft.definition(depth, front.as_str(), back.as_str())
+}
+
+// Appends a type that names a tag.
+fn append_marker(draft: &mut Draft, marker: &Marker) -> Result<(), AllocError> {
+    let class = class_word(marker.tag.class);
+    draft.use_words(&[class])?;
+    let number = marker.tag.number;
+    let name = marker.name.as_str();
+    let tag = draft.tag_code(marker.tag)?;
+    draft.text(format!(in draft.alloc();
+        "/// The tag {number} of the class {class}.
+#[derive(Clone, Copy, Debug, PartialEq, Eq)]
+pub struct "
+    )?)?;
+    draft.text(format!(in draft.alloc();
+        "{name};
+
+impl AsnType for {name} {{
+"
+    )?)?;
+    draft.text(format!(in draft.alloc();
+        "    ghost meaning = {{ marker_type ({class} {number}) }};
+
+    fn table() -> TypeTable {{
+        TypeTable::new({tag}, Identifier::EMPTY)
+    }}
+
+    fn is_present(&self) -> bool {{
+        true
+    }}
+}}
+"
+    )?)
+}

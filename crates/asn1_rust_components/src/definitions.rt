@@ -1,0 +1,155 @@
+//! What a file of a type is made of.
+use asn1_rust_code::{Import, TagNumber, Tagging, TypeName};
+
+/// A file of a type.
+#[derive(Drop)]
+pub struct TypeFile {
+    /// The lines of the page at its head.
+    pub page: Vec<String>,
+    /// The module that it is.
+    pub module: String,
+    /// The name of the type in Rust.
+    pub name: String,
+    /// The name in ASN.1.
+    pub asn1_name: String,
+    /// What the type is.
+    pub summary: String,
+    /// The type.
+    pub body: TypeBody,
+}
+
+/// A type with a file of its own.
+#[derive(Drop)]
+pub enum TypeBody {
+    /// SEQUENCE.
+    Sequence(Constructed),
+    /// SET.
+    Set(Constructed),
+    /// Additions in version brackets.
+    Group(Constructed),
+    /// CHOICE.
+    Choice(ChoiceType),
+    /// ENUMERATED.
+    Enumerated(Enumeration),
+}
+
+/// A SEQUENCE, a SET, or a group of additions.
+#[derive(Drop)]
+pub struct Constructed {
+    /// The tag of the type, if it is not that of its kind.
+    pub tag: Option<TagNumber>,
+    /// The components.
+    pub components: Vec<Component>,
+    /// The number of components in front of the extension marker, if there is one.
+    pub extension_index: Option<usize>,
+    /// The indices of the components in the order of their tags, if that is another.
+    pub table: Vec<usize>,
+    /// The trees of tags of a group's components.
+    pub trees: Vec<Tree>,
+}
+
+/// A component.
+#[derive(Drop)]
+pub struct Component {
+    /// The name in ASN.1.
+    pub name: String,
+    /// The name of its field.
+    pub field: String,
+    /// Its definition in ASN.1.
+    pub notation: String,
+    /// Its type.
+    pub definition: TypeName,
+    /// Its tagging.
+    pub tagging: Tagging,
+    /// Whether it may be absent.
+    pub usage: Usage,
+    /// Whether it is behind the extension marker.
+    pub is_addition: bool,
+}
+
+/// Whether a component may be absent.
+#[derive(Drop)]
+pub enum Usage {
+    /// It is always there.
+    Required,
+    /// OPTIONAL.
+    Optional,
+    /// DEFAULT.
+    Default(DefaultValue),
+    /// DEFAULT {}, for elements of this type.
+    EmptyList(TypeName),
+    /// It is a group of additions, whose trees are this constant.
+    Group(String),
+}
+
+/// The value of a DEFAULT.
+#[derive(Drop)]
+pub struct DefaultValue {
+    /// The value in code.
+    pub code: String,
+    /// The value in clauses.
+    pub term: String,
+    /// The sign of the language that clauses need for it.
+    pub sign: Option<&'static str>,
+    /// The line that brings in the names of clauses for it.
+    pub ghost_line: Option<String>,
+}
+
+/// A tree of tags with which a type can begin.
+#[derive(Drop)]
+pub enum Tree {
+    /// One tag.
+    Leaf(TagNumber),
+    /// Those of a CHOICE, by the constant that has them.
+    Choice(Import),
+}
+
+/// A CHOICE.
+#[derive(Drop)]
+pub struct ChoiceType {
+    /// The crate, as clauses name it.
+    pub crate_name: String,
+    /// The alternatives.
+    pub alternatives: Vec<Alternative>,
+    /// The number of alternatives in front of the extension marker, if there is one.
+    pub extension_index: Option<usize>,
+}
+
+/// An alternative.
+#[derive(Drop)]
+pub struct Alternative {
+    /// The name in ASN.1.
+    pub name: String,
+    /// The name of its variant.
+    pub variant: String,
+    /// Its definition in ASN.1.
+    pub notation: String,
+    /// Its type.
+    pub definition: TypeName,
+    /// Its tagging.
+    pub tagging: Tagging,
+    /// The tags with which it can begin.
+    pub tree: Tree,
+}
+
+/// An ENUMERATED.
+#[derive(Drop)]
+pub struct Enumeration {
+    /// The crate, as clauses name it.
+    pub crate_name: String,
+    /// The items.
+    pub items: Vec<Item>,
+    /// The number of items in front of the extension marker, if there is one.
+    pub extension_index: Option<usize>,
+}
+
+/// An item of an ENUMERATED.
+#[derive(Drop)]
+pub struct Item {
+    /// The name in ASN.1.
+    pub name: String,
+    /// The name of its variant.
+    pub variant: String,
+    /// The number.
+    pub number: i64,
+}

@@ -1,0 +1,42 @@
+//! The text of Rust types for SEQUENCE and SET types of ASN.1, and the parts that types of each kind share.
+//!
+//! A file is given as data: a type with the names of its parts, the types of these as code has them, and their tagging
+//! ([`TypeFile`]). The calls append the code to a `Draft` of `asn1_rust_code`, in the form that the check proves with nothing
+//! written by hand. `asn1_rust_types` makes whole files.
+//!
+//! | Item | What it is |
+//! |---|---|
+//! | [`TypeFile`], [`TypeBody`] | a file with a SEQUENCE, a SET, a group of additions, a CHOICE or an ENUMERATED |
+//! | [`Constructed`], [`Component`], [`Usage`], [`DefaultValue`] | the components of a type |
+//! | [`ChoiceType`], [`Alternative`], [`Tree`] | the alternatives of a CHOICE, and tags with which they begin |
+//! | [`Enumeration`], [`Item`] | the items of an ENUMERATED |
+//! | [`Alias`], [`NamedNumbers`], [`Marker`], [`Constant`] | names for types, types that name tags, and constants |
+//! | [`append_sequence`], [`append_set`], [`append_group`] | the code of a type of components |
+//! | [`append_type`], [`append_agreement`], [`append_theorem`], [`append_encode`], [`append_decode`] | the parts of each type |
+//! | [`append_trees`], [`tree_code`], [`constant_of`], [`append_entry`] | constants of trees, and lists in ghost members |
+//! | [`alias_file`], [`marker_file`], [`constant_file`] | files that are no type |
+//!
+//! The text is proved when it is checked, so no contract covers it. Calls fail only if memory runs out.
+#![tactic(auto)]
+
+mod aliases;
+mod common;
+mod constructed;
+mod definitions;
+mod reader;
+mod slots;
+mod table;
+mod trees;
+mod writer;
+
+pub use aliases::{Alias, Constant, Marker, NamedNumbers, alias_file, constant_file, marker_file};
+pub use common::{
+    Table, append_agreement, append_decode, append_encode, append_theorem, append_type, owned,
+};
+pub use constructed::{Kind, Subject, append_group, append_sequence, append_set};
+pub use definitions::{
+    Alternative, ChoiceType, Component, Constructed, DefaultValue, Enumeration, Item, Tree,
+    TypeBody, TypeFile, Usage,
+};
+pub use slots::append_entry;
+pub use trees::{append_trees, constant_of, tree_code};

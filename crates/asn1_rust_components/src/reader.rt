@@ -1,0 +1,200 @@
+//! How a type of components is read.
+use crate::common::owned;
+use crate::constructed::{Kind, Subject, reading_trait};
+use crate::definitions::{Component, Usage};
+use crate::slots::{append_layout, append_slots, slot_path};
+use asn1_rust_code::{Draft, ListStyle};
+use std::alloc::AllocError;
+
+/// Appends the trait by which a type is read.
+pub(crate) fn append_reader(draft: &mut Draft, subject: Subject<'_>) -> Result<(), AllocError> {
+    let name = subject.file.name.as_str();
+    let components = subject.body.components.as_slice();
+    let reader = reading_trait(subject.kind);
+    draft.use_names(&[reader, "AsnType", "DecodeError", "Decoded", "Decoder"])?;
+    draft.use_foreign("std::alloc", "AllocError")?;
+    draft.use_foreign("std::alloc", "Global")?;
+    draft.text(format!(in draft.alloc(); "impl {reader} for {name} {{\n")?)?;
+    append_slots(draft, components)?;
+    append_layout(draft, components)?;
+    append_full(draft, components)?;
+    if subject.kind == Kind::Set {
+        append_missing(draft, components)?;
+    }
+    append_decode_field(draft, subject)?;
+    draft.line(0, "}")?;
+    draft.blank()
+}
+
+// Appends the call that makes a value of filled slots.
+fn append_full(draft: &mut Draft, components: &[Component]) -> Result<(), AllocError> {
+    let alloc = draft.alloc();
+    let allocator = if components.iter().any(needs_memory) {
+        "alloc"
+    } else {
+        "_alloc"
+    };
+    let slots = if components.is_empty() {
+        "_slots"
+    } else {
+        "slots"
+    };
+    let signature = format!(in alloc;
+        "fn full({allocator}: Global, {slots}: Self::Slots) -> Result<Self, AllocError> {{"
+    )?;
+    draft.line(1, signature.as_str())?;
+    let mut fields = Vec::new(alloc);
+    for (index, component) in components.iter().enumerate() {
+        let slot = slot_path(alloc, index, components.len())?;
+        fields.push(filled_field(draft, component, slot.as_str())?)?;
+    }
+    if fields.is_empty() {
+        draft.line(2, "Ok(Self {})")?;
+    } else {
+        draft.list(2, "Ok(Self {", fields.as_slice(), "})", ListStyle::Fields)?;
+    }
+    draft.line(1, "}")?;
+    draft.blank()
+}
+
+// A field with the value of its slot.
+fn filled_field(
+    draft: &mut Draft,
+    component: &Component,
+    slot: &str,
+) -> Result<String, AllocError> {
+    let alloc = draft.alloc();
+    let field = component.field.as_str();
+    match &component.usage {
+        Usage::Required => format!(in alloc; "{field}: slots.{slot}.unwrap()"),
+        Usage::Default(value) => {
+            draft.use_names(&["or_default"])?;
+            let code = value.code.as_str();
+            format!(in alloc; "{field}: or_default(slots.{slot}, {code})")
+        }
+        Usage::EmptyList(_) => {
+            draft.use_names(&["or_empty"])?;
+            format!(in alloc; "{field}: or_empty(alloc, slots.{slot})")
+        }
+        _ => format!(in alloc; "{field}: slots.{slot}"),
+    }
+}
+
+// Appends the call that names a component of a SET that is missing.
+fn append_missing(draft: &mut Draft, components: &[Component]) -> Result<(), AllocError> {
+    let alloc = draft.alloc();
+    if !components.iter().any(is_required) {
+        draft.line(
+            1,
+            "fn missing_at(_index: usize, _slots: &Self::Slots) -> Option<&'static str> {",
+        )?;
+        draft.line(2, "None")?;
+        draft.line(1, "}")?;
+        return draft.blank();
+    }
+    draft.use_names(&["missing"])?;
+    draft.line(
+        1,
+        "fn missing_at(index: usize, slots: &Self::Slots) -> Option<&'static str> {",
+    )?;
+    draft.line(2, "match index {")?;
+    for (index, component) in components.iter().enumerate() {
+        if is_required(component) {
+            let slot = slot_path(alloc, index, components.len())?;
+            let name = component.name.as_str();
+            let line = format!(in alloc; "{index} => missing(&slots.{slot}, \"{name}\"),")?;
+            draft.line(3, line.as_str())?;
+        }
+    }
+    draft.line(3, "_ => None,")?;
+    draft.line(2, "}")?;
+    draft.line(1, "}")?;
+    draft.blank()
+}
+
+// Appends the call that reads a component into its slot.
+fn append_decode_field(draft: &mut Draft, subject: Subject<'_>) -> Result<(), AllocError> {
+    let components = subject.body.components.as_slice();
+    if components.is_empty() {
+        return draft.text(format!(in draft.alloc();
+            "    fn decode_field<D: Decoder>(
+        _index: usize,
+        _slots: &mut Self::Slots,
+        _decoder: &mut D,
+    ) -> Decoded {{
+        Ok(())
+    }}
+"
+        )?);
+    }
+    draft.line(
+        1,
+        "fn decode_field<D: Decoder>(index: usize, slots: &mut Self::Slots, decoder: &mut D) -> Decoded {",
+    )?;
+    draft.line(2, "match index {")?;
+    for (index, component) in components.iter().enumerate() {
+        let slot = slot_path(draft.alloc(), index, components.len())?;
+        append_reading_arm(draft, subject.kind, component, index, slot.as_str())?;
+    }
+    draft.line(3, "_ => Ok(()),")?;
+    draft.line(2, "}")?;
+    draft.line(1, "}")
+}
+
+// Appends the line that reads a component.
+fn append_reading_arm(
+    draft: &mut Draft,
+    kind: Kind,
+    component: &Component,
+    index: usize,
+    slot: &str,
+) -> Result<(), AllocError> {
+    let alloc = draft.alloc();
+    let call = reading_call(kind, component);
+    draft.use_names(&[call])?;
+    let opening = format!(in alloc; "{index} => {call}(")?;
+    let mut arguments = Vec::new(alloc);
+    arguments.push(format!(in alloc; "&mut slots.{slot}")?)?;
+    arguments.push(owned(draft, "decoder")?)?;
+    if call != "group" {
+        arguments.push(draft.tagging_code(component.tagging)?)?;
+    }
+    if kind == Kind::Set {
+        let name = component.name.as_str();
+        arguments.push(format!(in alloc; "\"{name}\"")?)?;
+    }
+    draft.list(
+        3,
+        opening.as_str(),
+        arguments.as_slice(),
+        "),",
+        ListStyle::Arguments,
+    )
+}
+
+// Whether a component is always there.
+fn is_required(component: &Component) -> bool {
+    match component.usage {
+        Usage::Required => true,
+        _ => false,
+    }
+}
+
+// Whether the value of a component may need memory.
+fn needs_memory(component: &Component) -> bool {
+    match component.usage {
+        Usage::EmptyList(_) => true,
+        _ => false,
+    }
+}
+
+// The call that reads a component.
+fn reading_call(kind: Kind, component: &Component) -> &'static str {
+    match (&component.usage, kind, component.is_addition) {
+        (Usage::Group(_), _, _) => "group",
+        (_, Kind::Set, _) => "decode_unique",
+        (Usage::Required, _, _) => "required",
+        (_, _, true) => "addition",
+        (_, _, false) => "optional",
+    }
+}

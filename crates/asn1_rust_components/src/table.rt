@@ -1,0 +1,121 @@
+//! The table of a type of components.
+use crate::common::owned;
+use crate::constructed::{Kind, Subject, reading_trait};
+use crate::definitions::{Component, Usage};
+use asn1_rust_code::{Draft, ListStyle, Tagging};
+use std::alloc::AllocError;
+
+/// Appends the table of a type.
+pub(crate) fn append_table(draft: &mut Draft, subject: Subject<'_>) -> Result<(), AllocError> {
+    let alloc = draft.alloc();
+    let name = subject.file.name.as_str();
+    draft.use_names(&["Field", "FieldTable"])?;
+    let word = components_word(subject);
+    draft.use_words(&[word])?;
+    let reader = reading_trait(subject.kind);
+    let (word, index) = match subject.body.extension_index {
+        Some(index) => (
+            format!(in alloc; "{word} {index}")?,
+            format!(in alloc; "Some({index})")?,
+        ),
+        None => (owned(draft, word)?, owned(draft, "None")?),
+    };
+    let count = subject.body.components.len();
+    draft.text(format!(in alloc;
+        "impl FieldTable for {name} {{
+    ghost components = {{ {word} ⟦<{name} as {reader}>⟧.layout }};
+
+    fn field_count() -> usize {{
+        {count}
+    }}
+
+"
+    )?)?;
+    append_field_at(draft, subject)?;
+    draft.text(format!(in alloc;
+        "    fn extension_index() -> Option<usize> {{
+        {index}
+    }}
+}}
+
+"
+    )?)
+}
+
+// Appends the call that answers a line of the table.
+fn append_field_at(draft: &mut Draft, subject: Subject<'_>) -> Result<(), AllocError> {
+    let components = subject.body.components.as_slice();
+    if components.is_empty() {
+        draft.line(1, "fn field_at(_index: usize) -> Option<Field<'static>> {")?;
+        draft.line(2, "None")?;
+        draft.line(1, "}")?;
+        return draft.blank();
+    }
+    draft.line(1, "fn field_at(index: usize) -> Option<Field<'static>> {")?;
+    draft.line(2, "match index {")?;
+    for index in 0..components.len() {
+        let place = subject.body.table.get(index).copied().unwrap_or(index);
+        if let Some(component) = components.get(place) {
+            append_arm(draft, component, index)?;
+        }
+    }
+    draft.line(3, "_ => None,")?;
+    draft.line(2, "}")?;
+    draft.line(1, "}")?;
+    draft.blank()
+}
+
+// Appends the line of a component in the table.
+fn append_arm(draft: &mut Draft, component: &Component, index: usize) -> Result<(), AllocError> {
+    let alloc = draft.alloc();
+    let text = component.definition.text.as_str();
+    let usage = usage_word(&component.usage);
+    let mut arguments = Vec::new(alloc);
+    arguments.push(format!(in alloc; "{index}")?)?;
+    let opening = match (&component.usage, component.tagging) {
+        (Usage::Group(constant), _) => {
+            arguments.push(owned(draft, constant.as_str())?)?;
+            format!(in alloc; "{index} => Some(Field::new_group(")?
+        }
+        (_, Tagging::Untagged) => {
+            format!(in alloc; "{index} => Some(Field::new_{usage}_type::<{text}>(")?
+        }
+        (_, Tagging::Implicit(tag)) => {
+            arguments.push(draft.tag_code(tag)?)?;
+            format!(in alloc; "{index} => Some(Field::new_{usage}_type_with_tag::<{text}>(")?
+        }
+        (_, Tagging::Explicit(tag)) => {
+            arguments.push(draft.tag_code(tag)?)?;
+            format!(in alloc; "{index} => Some(Field::new_{usage}_explicit(")?
+        }
+    };
+    let name = component.name.as_str();
+    arguments.push(format!(in alloc; "\"{name}\"")?)?;
+    draft.list(
+        3,
+        opening.as_str(),
+        arguments.as_slice(),
+        ")),",
+        ListStyle::Arguments,
+    )
+}
+
+// The word for the list of components.
+fn components_word(subject: Subject<'_>) -> &'static str {
+    match (subject.kind, subject.body.extension_index) {
+        (Kind::Set, None) => "set_of_slots",
+        (Kind::Set, Some(_)) => "extensible_set_after",
+        (_, None) => "sequence_of_slots",
+        (_, Some(_)) => "extensible_sequence_after",
+    }
+}
+
+// The word for a usage in the calls that make a line of the table.
+fn usage_word(usage: &Usage) -> &'static str {
+    match usage {
+        Usage::Required => "required",
+        Usage::Optional => "optional",
+        Usage::Group(_) => "optional",
+        _ => "default",
+    }
+}
