@@ -37,6 +37,9 @@ cut_off bytes e at =
 pub base128_at-shorter : (bytes : List ℕ) (f : Front) → base128_at bytes ≡ Some f → length f.rest < length bytes
 base128_at-shorter bytes f is = read_shorter number_leaves base128_at bytes f refl (base128_read bytes f is)
 
+pub identifier_at-shorter : (bytes : List ℕ) (i : Identified) → identifier_at bytes ≡ Some i → length i.rest < length bytes
+identifier_at-shorter bytes i is = read_shorter identifier_leaves identifier_at bytes i refl (identifier_read bytes i is)
+
 pub element_at-shorter : (bytes : List ℕ) (e : Element) → element_at bytes ≡ Some e → length e.rest < length bytes
 element_at-shorter bytes e is = read_shorter element_leaves element_at bytes e refl (element_read bytes e is)
 

@@ -1,0 +1,4 @@
+mod Headers
+mod Splits
+mod Steps
+mod Walking

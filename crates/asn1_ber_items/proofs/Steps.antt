@@ -1,0 +1,130 @@
+-- The steps of a walk.
+use Rattle.std.proofs.Common.{◌≡◌, ◌≢◌, ℕ, ◌+◌, ◌*◌, ◌<◌, ◌≤◌, Bool, true, List, [], ◌∷◌, ◌++◌, None, Some, length, length-append, take, drop, refl, ap, sym, subst, ◌∙◌, arith}
+use Rattle.std.specs.Bool.{⊤}
+use Rattle.std.proofs.Math.Seq.{drop-append_seam, take-append_seam}
+use Rattle.asn1_tags.specs.declared.tags.Tag.{Tag}
+use Rattle.asn1_items.specs.Numbers.{Appended}
+use Rattle.asn1_der_items.specs.Elements.{IsBegun, IsElement}
+use Rattle.asn1_ber_items.specs.Headers.{Header, end_of_contents, header_at}
+use Rattle.asn1_ber_items.specs.Walks.{AreBegun, AreLast, Comes, IsAfter, IsClosing, IsCopy, Splits, bytes_after, bytes_behind, end_of}
+use Rattle.asn1_ber_items.specs.declared.open_element.Extent.{Extent}
+use Rattle.asn1_ber_items.specs.declared.open_element.Extent.TheVariants.{Definite, Indefinite}
+use Rattle.asn1_ber_items.specs.declared.open_element.OpenElement.{OpenElement}
+use Rattle.asn1_ber_items.proofs.Splits.{Begins, with_end, with_length, with_octets}
+use Rattle.asn1_ber_items.proofs.Walking.{begun_in, begun_too, comes_back, consumed, ended_begun, ends_ahead, ends_behind, goes_in, grow, produced}
+
+-- A step over raw lists: the open elements, the bytes left and those that were written, before and after.
+pub record Steps (es fs : List OpenElement) (left back written new : List ℕ) : Type 0 where
+  pub consistent : AreBegun fs (λ _. ⊤) new
+  pub ahead : (normal : List ℕ) → Comes es (AreLast normal) left written → Comes fs (AreLast normal) back new
+  pub behind : (normal : List ℕ) → Comes fs (AreLast normal) back new → Comes es (AreLast normal) left written
+
+bytes_behind-last : (es : List OpenElement) (e : OpenElement) → bytes_behind (es ++ e ∷ []) ≡ bytes_behind es + bytes_after e.extent
+bytes_behind-last [] e = omega arith
+bytes_behind-last (f ∷ es) e = omega (arith, bytes_behind-last es e)
+
+-- a list with a last element has one such element
+pub record IsSameLast (xs ys : List OpenElement) (a b : OpenElement) : Type 0 where
+  pub front : xs ≡ ys
+  pub last : a ≡ b
+
+head_is : {a b : OpenElement} → a ∷ [] ≡ b ∷ [] → a ≡ b
+head_is e = cc
+
+pub same_last : (xs ys : List OpenElement) (a b : OpenElement) → xs ++ a ∷ [] ≡ ys ++ b ∷ [] → IsSameLast xs ys a b
+same_last xs ys a b e =
+    let long : length xs ≡ length ys = omega (arith, ap length e, length-append xs (a ∷ []), length-append ys (b ∷ [])) in
+    record {
+      front = sym (take-append_seam xs (a ∷ [])) ∙ ap (take (length xs)) e ∙ ap (λ n. take n (ys ++ b ∷ [])) long ∙ take-append_seam ys (b ∷ []);
+      last = head_is (sym (drop-append_seam xs (a ∷ [])) ∙ ap (drop (length xs)) e ∙ ap (λ n. drop n (ys ++ b ∷ [])) long ∙ drop-append_seam ys (b ∷ []));
+    }
+
+pub steps_out : (es outer : List OpenElement) (e : OpenElement) (left back written new : List ℕ) → es ≡ outer ++ e ∷ [] → left ≡ end_of e.extent back → IsAfter e.extent back →
+    ((t : Tag) (constructed : Bool) (before front contents : List ℕ) → IsBegun t constructed front → written ≡ (before ++ front) ++ contents →
+    e.contents ≡ length (before ++ front) → Appended (IsElement t constructed contents) before new) →
+    AreBegun es (λ _. ⊤) written → Steps es outer left back written new
+steps_out es outer e left back written new are ends after appended consistent =
+    let b = begun_in outer e (λ _. ⊤) written (subst (λ fs. AreBegun fs (λ _. ⊤) written) are consistent) in
+    let a = appended e.tag true b.before b.front b.contents b.begun b.are b.inside in
+    record {
+      consistent = subst (λ l. AreBegun outer (λ _. ⊤) l) (sym a.joined) (ended_begun outer e left written back a.added ends after b a.is);
+      ahead = λ normal comes. subst (λ l. Comes outer (AreLast normal) back l) (sym a.joined)
+          (ends_ahead outer e left written back a.added ends after b a.is normal (subst (λ fs. Comes fs (AreLast normal) left written) are comes));
+      behind = λ normal comes. subst (λ fs. Comes fs (AreLast normal) left written) (sym are)
+          (ends_behind outer e left written back a.added ends after b a.is normal (subst (λ l. Comes outer (AreLast normal) back l) a.joined comes));
+    }
+
+-- less is left to do behind an element that ends
+extent_less : (x : Extent) (left back : List ℕ) (n : ℕ) → left ≡ end_of x back → IsAfter x back → 2 * (length back + n) < 2 * (length left + (n + bytes_after x)) + 1
+extent_less (Definite after) left back n ends after_is = omega (arith, ap length ends, ap length after_is)
+extent_less Indefinite left back n ends after_is = omega (arith, ap length ends)
+
+pub less_out : (es outer : List OpenElement) (e : OpenElement) (left back : List ℕ) → es ≡ outer ++ e ∷ [] → left ≡ end_of e.extent back → IsAfter e.extent back →
+    2 * (length back + bytes_behind outer) + length outer < 2 * (length left + bytes_behind es) + length es
+less_out es outer e left back are ends after =
+    omega (arith, ap bytes_behind are, ap length are, length-append outer (e ∷ []), bytes_behind-last outer e, extent_less e.extent left back (bytes_behind outer) ends after)
+
+-- a constructed element that begins
+pub steps_in : (es : List OpenElement) (e : OpenElement) (left contents written front new : List ℕ) → Splits (IsClosing e.tag e.extent contents) left → IsBegun e.tag true front →
+    new ≡ written ++ front → e.start ≡ length written → e.contents ≡ length new → AreBegun es (λ _. ⊤) written → Steps es (es ++ e ∷ []) left contents written new
+steps_in es e left contents written front new splits begun joined starts inside consistent =
+    let at : e.contents ≡ length (written ++ front) = inside ∙ ap length joined in
+    record {
+      consistent = subst (λ l. AreBegun (es ++ e ∷ []) (λ _. ⊤) l) (sym joined) (begun_too es e contents written front begun starts at consistent);
+      ahead = λ normal comes.
+          let q = consumed (IsClosing e.tag e.extent contents) left splits normal written es consistent comes in
+          subst (λ l. Comes (es ++ e ∷ []) (AreLast normal) contents l) (sym joined) (goes_in es e contents written front begun starts at normal q.own q.back q.is q.comes);
+      behind = λ normal comes.
+          let q = comes_back es e contents written front begun starts at normal (subst (λ l. Comes (es ++ e ∷ []) (AreLast normal) contents l) joined comes) in
+          produced (IsClosing e.tag e.extent contents) left splits normal written es q.own q.back q.is consistent q.comes;
+    }
+
+pub less_in : (es : List OpenElement) (e : OpenElement) (left contents : List ℕ) → length contents + bytes_after e.extent < length left →
+    2 * (length contents + bytes_behind (es ++ e ∷ [])) + length (es ++ e ∷ []) < 2 * (length left + bytes_behind es) + length es
+less_in es e left contents less = omega (arith, less, bytes_behind-last es e, length-append es (e ∷ []))
+
+-- a primitive element
+pub steps_over : (es : List OpenElement) (left back written own new : List ℕ) → Splits (IsCopy own back) left → new ≡ written ++ own → AreBegun es (λ _. ⊤) written → Steps es es left back written new
+steps_over es left back written own new splits joined consistent = record {
+  consistent = subst (λ l. AreBegun es (λ _. ⊤) l) (sym joined) (grow es written own consistent);
+  ahead = λ normal comes.
+      let q = consumed (IsCopy own back) left splits normal written es consistent comes in
+      subst (λ l. Comes es (AreLast normal) back l) (sym joined)
+      (subst (λ l. Comes es (AreLast normal) back (written ++ l)) q.is.own_is (subst (λ l. Comes es (AreLast normal) l (written ++ q.own)) q.is.back_is q.comes));
+  behind = λ normal comes. produced (IsCopy own back) left splits normal written es own back (record { own_is = refl; back_is = refl }) consistent (subst (λ l. Comes es (AreLast normal) back l) joined comes);
+}
+
+-- what an element that begins has to be, by its header
+some_is : {A : Type 0} {x y : A} → Some x ≡ Some y → x ≡ y
+some_is e = cc
+
+pub its_header : (left : List ℕ) (h : Header) → header_at left ≡ Some h → Begins left → (h.tag ≢ end_of_contents) × (h.size ≡ None → h.constructed ≡ true)
+its_header left h at (with_octets g contents back begin is) =
+    let same : g ≡ h = some_is (sym begin.at ∙ at) in (
+      subst (λ (i : Header). i.tag ≢ end_of_contents) same begin.is_element,
+      λ none. let e : Some (length contents) ≡ None = sym is.size ∙ ap (λ (i : Header). i.size) same ∙ none in cc,
+    )
+its_header left h at (with_length g contents back begin is) =
+    let same : g ≡ h = some_is (sym begin.at ∙ at) in
+    (subst (λ (i : Header). i.tag ≢ end_of_contents) same begin.is_element, λ none. sym (ap (λ (i : Header). i.constructed) same) ∙ begin.form)
+its_header left h at (with_end g begin none) =
+    let same : g ≡ h = some_is (sym begin.at ∙ at) in
+    (subst (λ (i : Header). i.tag ≢ end_of_contents) same begin.is_element, λ none. sym (ap (λ (i : Header). i.constructed) same) ∙ begin.form)
+
+pub has_header : (left : List ℕ) → Begins left → (h : Header) × (header_at left ≡ Some h)
+has_header left (with_octets h contents back begin is) = (h, begin.at)
+has_header left (with_length h contents back begin is) = (h, begin.at)
+has_header left (with_end h begin none) = (h, begin.at)
+
+-- as many bytes as its length says are there
+pub has_contents : (left : List ℕ) (h : Header) (size : ℕ) → header_at left ≡ Some h → h.size ≡ Some size → Begins left → size ≤ length h.rest
+has_contents left h size at is (with_octets g contents back begin d) =
+    let same : g ≡ h = some_is (sym begin.at ∙ at) in
+    let long : length contents ≡ size = some_is (sym d.size ∙ ap (λ (i : Header). i.size) same ∙ is) in
+    omega (arith, long, ap length (sym (ap (λ (i : Header). i.rest) same) ∙ d.are), length-append contents back)
+has_contents left h size at is (with_length g contents back begin d) =
+    let same : g ≡ h = some_is (sym begin.at ∙ at) in
+    let long : length contents ≡ size = some_is (sym d.size ∙ ap (λ (i : Header). i.size) same ∙ is) in
+    omega (arith, long, ap length (sym (ap (λ (i : Header). i.rest) same) ∙ d.are), length-append contents back)
+has_contents left h size at is (with_end g begin none) =
+    let e : None ≡ Some size = sym none ∙ ap (λ (i : Header). i.size) (some_is (sym begin.at ∙ at)) ∙ is in cc

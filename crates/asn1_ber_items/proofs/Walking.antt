@@ -1,0 +1,270 @@
+-- Each step of a walk leaves what it will have written.
+use Rattle.std.proofs.Common.{◌≡◌, ◌⊎◌, inl, inr, ℕ, ◌≤◌, true, List, [], ◌∷◌, ◌++◌, append-nil, length, length-append, take, drop, refl, ap, sym, subst, ◌∙◌, arith}
+use Rattle.std.specs.Bool.{⊤}
+use Rattle.std.proofs.Math.Seq.{drop-append_seam, take-append_seam}
+use Rattle.std.proofs.lemmas.List.{append_assoc, drop-append-le, take-append-le}
+use Rattle.asn1_der_items.proofs.Encodings.{one_element}
+use Rattle.asn1_der_items.specs.Elements.{IsBegun, IsElement}
+use Rattle.asn1_ber_items.specs.Spellings.{Spells, nothing}
+use Rattle.asn1_ber_items.specs.Walks.{AreBegun, AreInside, AreLast, Comes, IsAfter, IsBegunIn, IsClosing, IsEnd, Splits, end_octets, end_of, nothing_left}
+use Rattle.asn1_ber_items.specs.declared.open_element.Extent.{Extent}
+use Rattle.asn1_ber_items.specs.declared.open_element.Extent.TheVariants.{Definite, Indefinite}
+use Rattle.asn1_ber_items.specs.declared.open_element.OpenElement.{OpenElement}
+use Rattle.asn1_ber_items.proofs.Splits.{Begins, none_begins, none_or_more}
+
+-- A list that is not empty has a last element.
+pub record IsSnoc (es : List OpenElement) : Type 0 where
+  pub outer : List OpenElement
+  pub innermost : OpenElement
+  pub are : es ≡ outer ++ innermost ∷ []
+
+pub view : (es : List OpenElement) → (es ≡ []) ⊎ IsSnoc es
+view [] = inl refl
+view (e ∷ es) = inr (by es (view es))
+  where
+    by : (es : List OpenElement) → (es ≡ []) ⊎ IsSnoc es → IsSnoc (e ∷ es)
+    by es (inl none) = record { outer = []; innermost = e; are = ap (λ l. e ∷ l) none }
+    by es (inr s) = record { outer = e ∷ s.outer; innermost = s.innermost; are = ap (λ l. e ∷ l) s.are }
+
+-- what is to come inside the last element
+pub comes_in : (es : List OpenElement) (e : OpenElement) (Later : List ℕ → List ℕ → Type 0) (left written : List ℕ) → Comes (es ++ e ∷ []) Later left written → AreInside e (Comes es Later) left written
+comes_in [] e Later left written c = c
+comes_in (f ∷ es) e Later left written c = comes_in es e (AreInside f Later) left written c
+
+pub comes_out : (es : List OpenElement) (e : OpenElement) (Later : List ℕ → List ℕ → Type 0) (left written : List ℕ) → AreInside e (Comes es Later) left written → Comes (es ++ e ∷ []) Later left written
+comes_out [] e Later left written c = c
+comes_out (f ∷ es) e Later left written c = comes_out es e (AreInside f Later) left written c
+
+pub begun_in : (es : List OpenElement) (e : OpenElement) (Before : List ℕ → Type 0) (written : List ℕ) → AreBegun (es ++ e ∷ []) Before written → IsBegunIn e (AreBegun es Before) written
+begun_in [] e Before written b = b
+begun_in (f ∷ es) e Before written b = begun_in es e (IsBegunIn f Before) written b
+
+pub begun_out : (es : List OpenElement) (e : OpenElement) (Before : List ℕ → Type 0) (written : List ℕ) → IsBegunIn e (AreBegun es Before) written → AreBegun (es ++ e ∷ []) Before written
+begun_out [] e Before written b = b
+begun_out (f ∷ es) e Before written b = begun_out es e (IsBegunIn f Before) written b
+
+-- open elements stay so where more is written
+abbrev Grows : (List ℕ → Type 0) → Type 0
+Grows Before = (written own : List ℕ) → Before written → Before (written ++ own)
+
+grows_in : (e : OpenElement) (Before : List ℕ → Type 0) → Grows (IsBegunIn e Before)
+grows_in e Before written own b = record {
+  before = b.before;
+  front = b.front;
+  contents = b.contents ++ own;
+  begun = b.begun;
+  are = ap (λ l. l ++ own) b.are ∙ append_assoc (b.before ++ b.front) b.contents own;
+  starts = b.starts;
+  inside = b.inside;
+  outer = b.outer;
+}
+
+grow_with : (es : List OpenElement) (Before : List ℕ → Type 0) → Grows Before → Grows (AreBegun es Before)
+grow_with [] Before grows written own b = grows written own b
+grow_with (e ∷ es) Before grows written own b = grow_with es (IsBegunIn e Before) (grows_in e Before) written own b
+
+pub grow : (es : List OpenElement) (written own : List ℕ) → AreBegun es (λ _. ⊤) written → AreBegun es (λ _. ⊤) (written ++ own)
+grow es written own b = grow_with es (λ _. ⊤) (λ _ _ _. tt) written own b
+
+-- an end is one
+pub is_end : (x : Extent) (back : List ℕ) → IsEnd (end_of x back)
+is_end (Definite after) back = nothing_left
+is_end Indefinite back = end_octets back
+
+-- What is to come of an element that is there, in front of what comes after it.
+pub record Consumed (Is : List ℕ → List ℕ → Type 0) (es : List OpenElement) (normal written : List ℕ) : Type 0 where
+  pub own : List ℕ
+  pub back : List ℕ
+  pub is : Is own back
+  pub comes : Comes es (AreLast normal) back (written ++ own)
+
+module _ (Is : List ℕ → List ℕ → Type 0) (left : List ℕ) (splits : Splits Is left) (normal written : List ℕ) where
+  consumed_last : AreLast normal left written → Consumed Is [] normal written
+  consumed_last l =
+      let s = splits.ahead l.others [] nothing_left l.spell in
+      record {
+        own = s.own;
+        back = s.back;
+        is = s.is;
+        comes = record { others = s.later; spell = s.spell; are = l.are ∙ ap (λ x. written ++ x) s.are ∙ sym (append_assoc written s.own s.later) };
+      }
+
+  consumed_inside : (outer : List OpenElement) (e : OpenElement) → IsBegunIn e (AreBegun outer (λ _. ⊤)) written → AreInside e (Comes outer (AreLast normal)) left written → Consumed Is (outer ++ e ∷ []) normal written
+  consumed_inside outer e b i =
+      let s = splits.ahead i.others (end_of e.extent i.back) (is_end e.extent i.back) i.spell in
+      let starts : e.start ≤ length written = omega (arith, b.starts, ap length b.are, length-append (b.before ++ b.front) b.contents, length-append b.before b.front) in
+      let inside : e.contents ≤ length written = omega (arith, b.inside, ap length b.are, length-append (b.before ++ b.front) b.contents) in
+      let same : drop e.contents written ++ i.others ≡ drop e.contents (written ++ s.own) ++ s.later =
+      ap (λ x. drop e.contents written ++ x) s.are ∙ sym (append_assoc (drop e.contents written) s.own s.later) ∙ ap (λ x. x ++ s.later) (sym (drop-append-le e.contents written s.own inside)) in
+      record {
+        own = s.own;
+        back = s.back;
+        is = s.is;
+        comes = comes_out outer e (AreLast normal) s.back (written ++ s.own) (record {
+          others = s.later;
+          back = i.back;
+          own = i.own;
+          spell = s.spell;
+          after = i.after;
+          element = subst (λ l. IsElement e.tag true l i.own) same i.element;
+          later = subst (λ l. Comes outer (AreLast normal) i.back (l ++ i.own)) (sym (take-append-le e.start written s.own starts)) i.later;
+        });
+      }
+
+  pub consumed : (es : List OpenElement) → AreBegun es (λ _. ⊤) written → Comes es (AreLast normal) left written → Consumed Is es normal written
+  consumed es = by (view es)
+    where
+      by : (es ≡ []) ⊎ IsSnoc es → AreBegun es (λ _. ⊤) written → Comes es (AreLast normal) left written → Consumed Is es normal written
+      by (inl none) = subst (λ fs. AreBegun fs (λ _. ⊤) written → Comes fs (AreLast normal) left written → Consumed Is fs normal written) (sym none) (λ b c. consumed_last c)
+      by (inr s) = subst (λ fs. AreBegun fs (λ _. ⊤) written → Comes fs (AreLast normal) left written → Consumed Is fs normal written) (sym s.are)
+          (λ b c. consumed_inside s.outer s.innermost (begun_in s.outer s.innermost (λ _. ⊤) written b) (comes_in s.outer s.innermost (AreLast normal) left written c))
+
+  produced_last : (own back : List ℕ) → Is own back → AreLast normal back (written ++ own) → AreLast normal left written
+  produced_last own back is l = record {
+    others = own ++ l.others;
+    spell = splits.behind own back l.others [] is l.spell;
+    are = l.are ∙ append_assoc written own l.others;
+  }
+
+  produced_inside : (outer : List OpenElement) (e : OpenElement) (own back : List ℕ) → Is own back → IsBegunIn e (AreBegun outer (λ _. ⊤)) written → AreInside e (Comes outer (AreLast normal)) back (written ++ own) → AreInside e (Comes outer (AreLast normal)) left written
+  produced_inside outer e own back is b i =
+      let starts : e.start ≤ length written = omega (arith, b.starts, ap length b.are, length-append (b.before ++ b.front) b.contents, length-append b.before b.front) in
+      let inside : e.contents ≤ length written = omega (arith, b.inside, ap length b.are, length-append (b.before ++ b.front) b.contents) in
+      let same : drop e.contents (written ++ own) ++ i.others ≡ drop e.contents written ++ (own ++ i.others) =
+      ap (λ x. x ++ i.others) (drop-append-le e.contents written own inside) ∙ append_assoc (drop e.contents written) own i.others in
+      record {
+        others = own ++ i.others;
+        back = i.back;
+        own = i.own;
+        spell = splits.behind own back i.others (end_of e.extent i.back) is i.spell;
+        after = i.after;
+        element = subst (λ l. IsElement e.tag true l i.own) same i.element;
+        later = subst (λ l. Comes outer (AreLast normal) i.back (l ++ i.own)) (take-append-le e.start written own starts) i.later;
+      }
+
+  pub produced : (es : List OpenElement) (own back : List ℕ) → Is own back → AreBegun es (λ _. ⊤) written → Comes es (AreLast normal) back (written ++ own) → Comes es (AreLast normal) left written
+  produced es own back is = by (view es)
+    where
+      by : (es ≡ []) ⊎ IsSnoc es → AreBegun es (λ _. ⊤) written → Comes es (AreLast normal) back (written ++ own) → Comes es (AreLast normal) left written
+      by (inl none) = subst (λ fs. AreBegun fs (λ _. ⊤) written → Comes fs (AreLast normal) back (written ++ own) → Comes fs (AreLast normal) left written) (sym none) (λ b c. produced_last own back is c)
+      by (inr s) = subst (λ fs. AreBegun fs (λ _. ⊤) written → Comes fs (AreLast normal) back (written ++ own) → Comes fs (AreLast normal) left written) (sym s.are)
+          (λ b c. comes_out s.outer s.innermost (AreLast normal) left written
+          (produced_inside s.outer s.innermost own back is (begun_in s.outer s.innermost (λ _. ⊤) written b) (comes_in s.outer s.innermost (AreLast normal) back (written ++ own) c)))
+
+-- an element that was begun is inside what is open
+module _ (es : List OpenElement) (e : OpenElement) (contents written front : List ℕ) (begun : IsBegun e.tag true front) (starts : e.start ≡ length written) (inside : e.contents ≡ length (written ++ front)) where
+  pub begun_too : AreBegun es (λ _. ⊤) written → AreBegun (es ++ e ∷ []) (λ _. ⊤) (written ++ front)
+  begun_too b = begun_out es e (λ _. ⊤) (written ++ front) (record {
+    before = written;
+    front = front;
+    contents = [];
+    begun = begun;
+    are = sym (append-nil (written ++ front));
+    starts = starts;
+    inside = inside;
+    outer = b;
+  })
+
+  taken : take e.start (written ++ front) ≡ written
+  taken = ap (λ n. take n (written ++ front)) starts ∙ take-append_seam written front
+
+  dropped : drop e.contents (written ++ front) ≡ []
+  dropped = ap (λ l. drop e.contents l) (sym (append-nil (written ++ front))) ∙ ap (λ n. drop n ((written ++ front) ++ [])) inside ∙ drop-append_seam (written ++ front) []
+
+  pub goes_in : (normal own back : List ℕ) → IsClosing e.tag e.extent contents own back → Comes es (AreLast normal) back (written ++ own) → Comes (es ++ e ∷ []) (AreLast normal) contents (written ++ front)
+  goes_in normal own back c comes = comes_out es e (AreLast normal) contents (written ++ front) (record {
+    others = c.others;
+    back = back;
+    own = own;
+    spell = c.spell;
+    after = c.after;
+    element = subst (λ l. IsElement e.tag true (l ++ c.others) own) (sym dropped) c.element;
+    later = subst (λ l. Comes es (AreLast normal) back (l ++ own)) (sym taken) comes;
+  })
+
+  pub comes_back : (normal : List ℕ) → Comes (es ++ e ∷ []) (AreLast normal) contents (written ++ front) → Consumed (IsClosing e.tag e.extent contents) es normal written
+  comes_back normal comes =
+      let i = comes_in es e (AreLast normal) contents (written ++ front) comes in
+      record {
+        own = i.own;
+        back = i.back;
+        is = record { others = i.others; spell = i.spell; after = i.after; element = subst (λ l. IsElement e.tag true (l ++ i.others) i.own) dropped i.element };
+        comes = subst (λ l. Comes es (AreLast normal) i.back (l ++ i.own)) taken i.later;
+      }
+
+-- what follows an element that ends here
+same_back : (x : Extent) (back other : List ℕ) → IsAfter x back → IsAfter x other → end_of x back ≡ end_of x other → back ≡ other
+same_back (Definite after) back other a b e = sym a ∙ b
+same_back Indefinite back other a b e = cc
+
+-- an open element that ends
+module _ (outer : List OpenElement) (e : OpenElement) (left written back own : List ℕ) (ends : left ≡ end_of e.extent back) (after : IsAfter e.extent back)
+    (b : IsBegunIn e (AreBegun outer (λ _. ⊤)) written) (element : IsElement e.tag true b.contents own) where
+  taken_before : take e.start written ≡ b.before
+  taken_before = ap (λ n. take n written) b.starts ∙ ap (λ l. take (length b.before) l) (b.are ∙ append_assoc b.before b.front b.contents) ∙ take-append_seam b.before (b.front ++ b.contents)
+
+  dropped_front : drop e.contents written ≡ b.contents
+  dropped_front = ap (λ n. drop n written) b.inside ∙ ap (λ l. drop (length (b.before ++ b.front)) l) b.are ∙ drop-append_seam (b.before ++ b.front) b.contents
+
+  pub ended_begun : AreBegun outer (λ _. ⊤) (b.before ++ own)
+  ended_begun = grow outer b.before own b.outer
+
+  pub ends_ahead : (normal : List ℕ) → Comes (outer ++ e ∷ []) (AreLast normal) left written → Comes outer (AreLast normal) back (b.before ++ own)
+  ends_ahead normal comes = by (comes_in outer e (AreLast normal) left written comes)
+    where
+      by : AreInside e (Comes outer (AreLast normal)) left written → Comes outer (AreLast normal) back (b.before ++ own)
+      by i = at (none_or_more left i.others (end_of e.extent i.back) i.spell)
+        where
+          at : ((left ≡ end_of e.extent i.back) × (i.others ≡ [])) ⊎ Begins left → Comes outer (AreLast normal) back (b.before ++ own)
+          at (inr b) = absurd (none_begins (end_of e.extent back) (is_end e.extent back) (subst Begins ends b))
+          at (inl none) =
+              let same : i.back ≡ back = sym (same_back e.extent back i.back after i.after (sym ends ∙ none.0)) in
+              let contents : drop e.contents written ++ i.others ≡ b.contents = ap (λ l. drop e.contents written ++ l) none.1 ∙ append-nil (drop e.contents written) ∙ dropped_front in
+              let one : i.own ≡ own = one_element e.tag true b.contents i.own own (subst (λ l. IsElement e.tag true l i.own) contents i.element) element in
+              subst (λ l. Comes outer (AreLast normal) l (b.before ++ own)) same
+              (subst (λ l. Comes outer (AreLast normal) i.back (b.before ++ l)) one
+              (subst (λ l. Comes outer (AreLast normal) i.back (l ++ i.own)) taken_before i.later))
+
+  pub ends_behind : (normal : List ℕ) → Comes outer (AreLast normal) back (b.before ++ own) → Comes (outer ++ e ∷ []) (AreLast normal) left written
+  ends_behind normal comes = comes_out outer e (AreLast normal) left written (record {
+    others = [];
+    back = back;
+    own = own;
+    spell = subst (λ l. Spells l [] (end_of e.extent back)) (sym ends) (nothing (end_of e.extent back));
+    after = after;
+    element = subst (λ l. IsElement e.tag true l own) (sym dropped_front ∙ sym (append-nil (drop e.contents written))) element;
+    later = subst (λ l. Comes outer (AreLast normal) back (l ++ own)) (sym taken_before) comes;
+  })
+
+-- where nothing ends and something is left, an element begins, if any bytes will have been written
+module _ (es : List OpenElement) (left written normal : List ℕ) (more : (es ≡ []) → (left ≡ []) → ⊥)
+    (none : (outer : List OpenElement) (e : OpenElement) (back : List ℕ) → es ≡ outer ++ e ∷ [] → left ≡ end_of e.extent back → IsAfter e.extent back → ⊥) where
+  pub begins : Comes es (AreLast normal) left written → Begins left
+  begins = by es more none (view es)
+    where
+      last : ((left ≡ []) → ⊥) → AreLast normal left written → Begins left
+      last some l = at (none_or_more left l.others [] l.spell)
+        where
+          at : ((left ≡ []) × (l.others ≡ [])) ⊎ Begins left → Begins left
+          at (inl ended) = absurd (some ended.0)
+          at (inr b) = b
+
+      inside : (outer : List OpenElement) (e : OpenElement) → ((back : List ℕ) → left ≡ end_of e.extent back → IsAfter e.extent back → ⊥) → AreInside e (Comes outer (AreLast normal)) left written → Begins left
+      inside outer e not i = at (none_or_more left i.others (end_of e.extent i.back) i.spell)
+        where
+          at : ((left ≡ end_of e.extent i.back) × (i.others ≡ [])) ⊎ Begins left → Begins left
+          at (inl ended) = absurd (not i.back ended.0 i.after)
+          at (inr b) = b
+
+      by : (fs : List OpenElement) → ((fs ≡ []) → (left ≡ []) → ⊥) → ((outer : List OpenElement) (e : OpenElement) (back : List ℕ) → fs ≡ outer ++ e ∷ [] → left ≡ end_of e.extent back → IsAfter e.extent back → ⊥) → (fs ≡ []) ⊎ IsSnoc fs → Comes fs (AreLast normal) left written → Begins left
+      by fs more none (inl empty) comes = last (more empty) (subst (λ gs. Comes gs (AreLast normal) left written) empty comes)
+      by fs more none (inr s) comes = inside s.outer s.innermost (λ back. none s.outer s.innermost back s.are)
+          (comes_in s.outer s.innermost (AreLast normal) left written (subst (λ gs. Comes gs (AreLast normal) left written) s.are comes))
+
+-- where nothing is left, these bytes have been written
+pub at_end : (normal left written : List ℕ) → left ≡ [] → AreLast normal left written → normal ≡ written
+at_end normal left written none l = at (none_or_more left l.others [] l.spell)
+  where
+    at : ((left ≡ []) × (l.others ≡ [])) ⊎ Begins left → normal ≡ written
+    at (inl ended) = l.are ∙ ap (λ x. written ++ x) ended.1 ∙ append-nil written
+    at (inr b) = absurd (none_begins [] nothing_left (subst Begins none b))

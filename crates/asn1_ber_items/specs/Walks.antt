@@ -1,0 +1,135 @@
+-- The walk through elements of BER: the elements that are open, and what is to come.
+use Rattle.std.specs.Prelude.{◌≡◌, ◌≢◌, ⊤, ℕ, ◌+◌, ◌*◌, ◌<◌, Some, true, List, [], ◌∷◌, ◌++◌, length, take, drop}
+use Rattle.asn1_ber_items.specs.Headers.{end_of_contents, header_at, header_of}
+use Rattle.asn1_ber_items.specs.Spellings.{Spells}
+use Rattle.asn1_ber_items.specs.declared.header.Header.{Header as HeaderRead}
+use Rattle.asn1_ber_items.specs.declared.open_element.Extent.{Extent}
+use Rattle.asn1_ber_items.specs.declared.open_element.Extent.TheVariants.{Definite, Indefinite}
+use Rattle.asn1_ber_items.specs.declared.open_element.OpenElement.{OpenElement}
+use Rattle.asn1_ber_items.specs.declared.walk.Walk.{Walk}
+use Rattle.asn1_der_items.specs.Elements.{IsBegun, IsElement}
+use Rattle.asn1_tags.specs.declared.tags.Tag.{Tag}
+
+-- The bytes left are elements, which make these bytes of those that were written.
+pub record AreLast (normal left written : List ℕ) : Type 0 where
+  pub others : List ℕ
+  pub spell : Spells left others []
+  pub are : normal ≡ written ++ others
+
+-- what is left behind the elements inside an open element, if these bytes follow it
+abbrev pub end_of : Extent → List ℕ → List ℕ
+end_of (Definite after) back = []
+end_of Indefinite back = 0 ∷ 0 ∷ back
+
+-- these bytes follow the open element
+abbrev pub IsAfter : Extent → List ℕ → Type 0
+IsAfter (Definite after) back = after.now ≡ back
+IsAfter Indefinite back = ⊤
+
+-- The bytes left are elements inside the open element, which ends then, and the rest comes.
+pub record AreInside (e : OpenElement) (Later : List ℕ → List ℕ → Type 0) (left written : List ℕ) : Type 0 where
+  pub others : List ℕ
+  pub back : List ℕ
+  pub own : List ℕ
+  pub spell : Spells left others (end_of e.extent back)
+  pub after : IsAfter e.extent back
+  pub element : IsElement e.tag true (drop e.contents written ++ others) own
+  pub later : Later back (take e.start written ++ own)
+
+-- what is to come inside the open elements, the outermost first
+abbrev pub Comes : List OpenElement → (List ℕ → List ℕ → Type 0) → List ℕ → List ℕ → Type 0
+Comes [] Later left written = Later left written
+Comes (e ∷ es) Later left written = Comes es (AreInside e Later) left written
+
+-- The walk will have written these bytes.
+abbrev pub Writes : Walk → List ℕ → Type 0
+Writes walk normal = Comes walk.begun.items (AreLast normal) walk.left.now walk.written.items
+
+-- The element was begun, and its contents octets are the last that were written.
+pub record IsBegunIn (e : OpenElement) (Before : List ℕ → Type 0) (written : List ℕ) : Type 0 where
+  pub before : List ℕ
+  pub front : List ℕ
+  pub contents : List ℕ
+  pub begun : IsBegun e.tag true front
+  pub are : written ≡ (before ++ front) ++ contents
+  pub starts : e.start ≡ length before
+  pub inside : e.contents ≡ length (before ++ front)
+  pub outer : Before before
+
+-- the open elements were begun, each inside the one before it
+abbrev pub AreBegun : List OpenElement → (List ℕ → Type 0) → List ℕ → Type 0
+AreBegun [] Before written = Before written
+AreBegun (e ∷ es) Before written = AreBegun es (IsBegunIn e Before) written
+
+-- the open elements of the walk were begun
+abbrev pub IsConsistent : Walk → Type 0
+IsConsistent walk = AreBegun walk.begun.items (λ _. ⊤) walk.written.items
+
+-- how many bytes follow an element of a definite length
+abbrev pub bytes_after : Extent → ℕ
+bytes_after (Definite after) = length after.now
+bytes_after Indefinite = 0
+
+-- how many bytes follow elements of definite lengths
+abbrev pub bytes_behind : List OpenElement → ℕ
+bytes_behind [] = 0
+bytes_behind (e ∷ es) = bytes_after e.extent + bytes_behind es
+
+-- how much is left to do: each octet twice at most, and each open element once
+abbrev pub work : Walk → ℕ
+work walk = 2 * (length walk.left.now + bytes_behind walk.begun.items) + length walk.begun.items
+
+-- These bytes are behind an open element of this tag: its contents octets from here on are elements, of which it is made.
+pub record IsClosing (tag : Tag) (extent : Extent) (left own back : List ℕ) : Type 0 where
+  pub others : List ℕ
+  pub spell : Spells left others (end_of extent back)
+  pub after : IsAfter extent back
+  pub element : IsElement tag true others own
+
+-- The bytes are those of a primitive element, and those behind it.
+pub record IsCopy (own back mine after : List ℕ) : Type 0 where
+  pub own_is : mine ≡ own
+  pub back_is : after ≡ back
+
+-- What follows elements where no other element can begin: nothing, or end-of-contents octets.
+pub data IsEnd : List ℕ → Type 0 where
+  nothing_left : IsEnd []
+  end_octets : (back : List ℕ) → IsEnd (0 ∷ 0 ∷ back)
+
+-- The first of the elements is one of which this holds, and others are behind it.
+pub record IsSplit (Is : List ℕ → List ℕ → Type 0) (others rest : List ℕ) : Type 0 where
+  pub own : List ℕ
+  pub back : List ℕ
+  pub later : List ℕ
+  pub is : Is own back
+  pub are : others ≡ own ++ later
+  pub spell : Spells back later rest
+
+-- The element with which the bytes begin is one of which this holds, and no other.
+pub record Splits (Is : List ℕ → List ℕ → Type 0) (left : List ℕ) : Type 0 where
+  pub ahead : (others rest : List ℕ) → IsEnd rest → Spells left others rest → IsSplit Is others rest
+  pub behind : (own back later rest : List ℕ) → Is own back → Spells back later rest → Spells left (own ++ later) rest
+
+-- The innermost open element ends here, and these bytes follow it.
+pub record IsEnding (walk : Walk) (back : List ℕ) : Type 0 where
+  pub outer : List OpenElement
+  pub innermost : OpenElement
+  pub are : walk.begun.items ≡ outer ++ innermost ∷ []
+  pub ends : walk.left.now ≡ end_of innermost.extent back
+  pub after : IsAfter innermost.extent back
+
+-- The header is that of the next element.
+pub record IsElementHere (header : HeaderRead) (walk : Walk) : Type 0 where
+  pub at : header_at walk.left.now ≡ Some (header_of header)
+  pub is_element : header.tag ≢ end_of_contents
+
+-- A step of a walk: it will have written the same bytes, and less is left to do.
+pub record Goes (old new : Walk) : Type 0 where
+  pub consistent : IsConsistent new
+  pub ahead : (normal : List ℕ) → Writes old normal → Writes new normal
+  pub behind : (normal : List ℕ) → Writes new normal → Writes old normal
+  pub less : work new < work old
+
+-- The walk will have written nothing, since the bytes left are no elements.
+abbrev pub IsStuck : Walk → Type 0
+IsStuck walk = (normal : List ℕ) → ¬ Writes walk normal

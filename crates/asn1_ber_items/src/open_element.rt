@@ -1,0 +1,24 @@
+//! Elements whose end has not been reached.
+use asn1_tags::Tag;
+
+/// A constructed element whose end has not been reached.
+#[derive(Clone, Copy, Drop)]
+pub(crate) struct OpenElement<'a> {
+    /// The tag.
+    pub(crate) tag: Tag,
+    /// The index of its first octet in what was written.
+    pub(crate) start: usize,
+    /// The index of its contents octets in what was written.
+    pub(crate) contents: usize,
+    /// Where it ends.
+    pub(crate) extent: Extent<'a>,
+}
+
+/// Where an element ends.
+#[derive(Clone, Copy, Drop)]
+pub(crate) enum Extent<'a> {
+    /// The length is definite, and these bytes follow the element.
+    Definite(&'a [u8]),
+    /// The length is indefinite: end-of-contents octets end the element.
+    Indefinite,
+}

@@ -1,0 +1,65 @@
+//! The length octets of an element.
+ghost use Rattle.asn1_ber_items.specs.Headers.{Measured as MeasuredView, later_size_at, long_size_at, measured_of, size_at};
+ghost use Rattle.std.specs.Prelude.{◌≡◌, IfOk, IsOk, Some};
+
+use asn1_der_items::number_of;
+use asn1_items::ItemError;
+
+/// A length that was read, and the bytes after it.
+#[derive(Clone, Copy)]
+pub(crate) struct Measured<'a> {
+    /// The length, if it is definite.
+    pub(crate) size: Option<u64>,
+    /// The bytes after the length octets.
+    pub(crate) rest: &'a [u8],
+}
+
+/// Reads a length, definite or not.
+#[inline(always)]
+pub(crate) fn read_size(bytes: &[u8]) -> Result<Measured<'_>, ItemError>
+    ensures only { IfOk result (λ m. size_at bytes.now ≡ Some (measured_of m)) }
+    ensures found { (m : MeasuredView) → size_at bytes.now ≡ Some m → IsOk result }
+{
+    let [first, rest @ ..] = bytes else {
+        return Err(ItemError::Missing(1));
+    };
+    if *first < 128 {
+        return Ok(Measured {
+            size: Some(u64::from(*first)),
+            rest,
+        });
+    }
+    read_later_size(usize::from(*first - 128), rest)
+}
+
+/// Reads a length behind a first octet that is this number and 128.
+fn read_later_size(count: usize, octets: &[u8]) -> Result<Measured<'_>, ItemError>
+    ensures only { IfOk result (λ m. later_size_at count octets.now ≡ Some (measured_of m)) }
+    ensures found { (m : MeasuredView) → later_size_at count octets.now ≡ Some m → IsOk result }
+{
+    match count {
+        0 => Ok(Measured {
+            size: None,
+            rest: octets,
+        }),
+        127 => Err(ItemError::Malformed),
+        _ => read_long_size(count, octets),
+    }
+}
+
+/// Reads a length from the first `count` of these octets.
+fn read_long_size(count: usize, octets: &[u8]) -> Result<Measured<'_>, ItemError>
+    ensures only { IfOk result (λ m. long_size_at count octets.now ≡ Some (measured_of m)) }
+    ensures found { (m : MeasuredView) → long_size_at count octets.now ≡ Some m → IsOk result }
+{
+    let Some((digits, rest)) = octets.split_at_checked(count) else {
+        return Err(ItemError::Missing(count - octets.len()));
+    };
+    match number_of(digits) {
+        Some(number) => Ok(Measured {
+            size: Some(number),
+            rest,
+        }),
+        None => Err(ItemError::Malformed),
+    }
+}

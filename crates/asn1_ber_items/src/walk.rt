@@ -1,0 +1,207 @@
+//! The walk through elements of BER.
+ghost use Rattle.asn1_ber_items.specs.Headers.{end_of_contents};
+ghost use Rattle.asn1_ber_items.specs.Spellings.{Spells};
+ghost use Rattle.asn1_ber_items.specs.Walks.{Goes, IsClosing, IsConsistent, IsCopy, IsElementHere, IsEnding, IsStuck, Splits, Writes, bytes_after};
+ghost use Rattle.asn1_der_items.specs.Elements.{IsElement};
+ghost use Rattle.asn1_items.specs.Numbers.{Appended};
+ghost use Rattle.asn1_items.specs.declared.error.ItemError.TheVariants.{Memory};
+ghost use Rattle.std.specs.Prelude.{◌≡◌, ◌≢◌, ◌∷◌, ◌++◌, ◌+◌, ◌<◌, [], Decides, List, MatchOption, MatchResult, Some, false, length, ℕ};
+
+use crate::header::{Header, read_header};
+use crate::open_element::{Extent, OpenElement};
+use asn1_der_items::{begin_element, end_element};
+use asn1_items::ItemError;
+use asn1_tags::{Class, Tag};
+use std::alloc::Global;
+
+/// The tag of end-of-contents octets, which no element has (X.690, 8.1.5).
+const END_OF_CONTENTS: Tag = Tag {
+    class: Class::Universal,
+    value: 0,
+};
+
+/// A walk through elements of BER, which writes each with a definite length of the fewest octets.
+#[derive(Drop)]
+pub(crate) struct Walk<'a> {
+    /// What was written.
+    pub(crate) written: Vec<u8>,
+    /// The open elements, the outermost first.
+    begun: Vec<OpenElement<'a>>,
+    /// The bytes that are left of the innermost open element.
+    left: &'a [u8],
+}
+
+impl<'a> Walk<'a> {
+    /// A walk through these bytes.
+    pub(crate) fn new(alloc: Global, bytes: &'a [u8]) -> Walk<'a>
+        ensures consistent { IsConsistent result }
+        ensures ahead { (normal : List ℕ) → Spells bytes.now normal [] → Writes result normal }
+        ensures behind { (normal : List ℕ) → Writes result normal → Spells bytes.now normal [] }
+    {
+        Walk {
+            written: Vec::new(alloc),
+            begun: Vec::new(alloc),
+            left: bytes,
+        }
+    }
+
+    /// Whether nothing is left.
+    pub(crate) fn is_at_end(&self) -> bool
+        ensures { Decides result ((self.now.begun.items ≡ []) × (self.now.left.now ≡ [])) }
+    {
+        self.begun.is_empty() && self.left.is_empty()
+    }
+
+    /// Goes on, if something is left.
+    ///
+    /// # Errors
+    /// [`ItemError::Memory`]; else the bytes left are no elements.
+    pub(crate) fn step(&mut self) -> Result<(), ItemError>
+        ensures { ¬ ((self.old.begun.items ≡ []) × (self.old.left.now ≡ [])) →
+            IsConsistent self.old → MatchResult result (λ _. Goes self.old self.new)
+            (λ e. e ≢ Memory → IsStuck self.old) }
+    {
+        match self.ending() {
+            Some(back) => self.end_innermost(back),
+            None => self.begin_next(),
+        }
+    }
+
+    /// The bytes that follow the innermost open element, if it ends here.
+    fn ending(&self) -> Option<&'a [u8]>
+        ensures { MatchOption result ((back : List ℕ) → ¬ IsEnding self.now back)
+            (λ back. IsEnding self.now back.now) }
+    {
+        let [.., innermost] = self.begun.as_slice() else {
+            return None;
+        };
+        match innermost.extent {
+            Extent::Definite(after) if self.left.is_empty() => Some(after),
+            Extent::Definite(_) => None,
+            Extent::Indefinite => match self.left {
+                [0, 0, back @ ..] => Some(back),
+                _ => None,
+            },
+        }
+    }
+
+    /// Ends the innermost open element, which these bytes follow.
+    fn end_innermost(&mut self, back: &'a [u8]) -> Result<(), ItemError>
+        ensures { IsEnding self.old back.now → IsConsistent self.old →
+            MatchResult result (λ _. Goes self.old self.new) (λ e. e ≡ Memory) }
+    {
+        let Some(element) = self.begun.pop() else {
+            return Ok(());
+        };
+        match end_element(&mut self.written, element.contents) {
+            Ok(()) => {
+                self.left = back;
+                Ok(())
+            }
+            Err(_) => Err(ItemError::Memory),
+        }
+    }
+
+    /// Begins the next element, where none ends.
+    fn begin_next(&mut self) -> Result<(), ItemError>
+        ensures { ¬ ((self.old.begun.items ≡ []) × (self.old.left.now ≡ [])) →
+            ((back : List ℕ) → ¬ IsEnding self.old back) → IsConsistent self.old →
+            MatchResult result (λ _. Goes self.old self.new)
+            (λ e. e ≢ Memory → IsStuck self.old) }
+    {
+        let header = match read_header(self.left) {
+            Ok(header) => header,
+            Err(error) => return Err(error),
+        };
+        if is_end_of_contents(header.tag) {
+            return Err(ItemError::Malformed);
+        }
+        match header.size {
+            Some(size) => self.begin_with_length(header, size as usize),
+            None if header.constructed => {
+                self.begin_constructed(header.tag, header.rest, Extent::Indefinite)
+            }
+            None => Err(ItemError::Malformed),
+        }
+    }
+
+    /// Begins the element of this header, which has a definite length.
+    fn begin_with_length(&mut self, header: Header<'a>, size: usize) -> Result<(), ItemError>
+        ensures { IsElementHere header.entry self.old → header.entry.size ≡ Some size →
+            ((back : List ℕ) → ¬ IsEnding self.old back) → IsConsistent self.old →
+            MatchResult result (λ _. Goes self.old self.new)
+            (λ e. e ≢ Memory → IsStuck self.old) }
+    {
+        let Some((contents, back)) = header.rest.split_at_checked(size) else {
+            return Err(ItemError::Missing(size - header.rest.len()));
+        };
+        if header.constructed {
+            self.begin_constructed(header.tag, contents, Extent::Definite(back))
+        } else {
+            self.copy(header.tag, contents, back)
+        }
+    }
+
+    /// Begins a constructed element, of which these are the contents octets, and goes on inside it.
+    fn begin_constructed(
+        &mut self,
+        tag: Tag,
+        contents: &'a [u8],
+        extent: Extent<'a>,
+    ) -> Result<(), ItemError>
+        ensures { Splits (IsClosing tag extent.entry contents.now) self.old.left.now →
+            length contents.now + bytes_after extent.entry < length self.old.left.now →
+            IsConsistent self.old →
+            MatchResult result (λ _. Goes self.old self.new) (λ e. e ≡ Memory) }
+    {
+        let start = self.written.len();
+        begin_element(&mut self.written, tag, true)?;
+        let element = OpenElement {
+            tag,
+            start,
+            contents: self.written.len(),
+            extent,
+        };
+        match self.begun.push(element) {
+            Ok(()) => {
+                self.left = contents;
+                Ok(())
+            }
+            Err(_) => Err(ItemError::Memory),
+        }
+    }
+
+    /// Writes a primitive element of these contents octets, which these bytes follow.
+    fn copy(&mut self, tag: Tag, contents: &[u8], back: &'a [u8]) -> Result<(), ItemError>
+        ensures { ((own : List ℕ) → IsElement tag false contents.now own →
+            Splits (IsCopy own back.now) self.old.left.now) →
+            length back.now < length self.old.left.now → IsConsistent self.old →
+            MatchResult result (λ _. Goes self.old self.new) (λ e. e ≡ Memory) }
+    {
+        append_element(&mut self.written, tag, contents)?;
+        self.left = back;
+        Ok(())
+    }
+}
+
+/// Whether a tag is that of end-of-contents octets.
+fn is_end_of_contents(tag: Tag) -> bool
+    ensures { Decides result (tag ≡ end_of_contents) }
+{
+    tag == END_OF_CONTENTS
+}
+
+/// Appends a primitive element of these contents octets.
+fn append_element(bytes: &mut Vec<u8>, tag: Tag, contents: &[u8]) -> Result<(), ItemError>
+    ensures { MatchResult result
+        (λ _. Appended (IsElement tag false contents.now) bytes.old.items bytes.new.items)
+        (λ e. e ≡ Memory) }
+{
+    begin_element(bytes, tag, false)?;
+    let start = bytes.len();
+    bytes.extend_from_slice(contents)?;
+    match end_element(bytes, start) {
+        Ok(()) => Ok(()),
+        Err(_) => Err(ItemError::Memory),
+    }
+}
