@@ -152,7 +152,8 @@ fn append_marker(draft: &mut Draft, marker: &Marker) -> Result<(), AllocError> {
     let name = marker.name.as_str();
     let tag = draft.tag_code(marker.tag)?;
     draft.text(format!(in draft.alloc();
-        "/// The tag {number} of the class {class}.
+        "\
+/// The tag {number} of the class {class}.
 #[derive(Clone, Copy, Debug, PartialEq, Eq)]
 pub struct "
     )?)?;

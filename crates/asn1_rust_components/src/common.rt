@@ -72,7 +72,8 @@ pub fn append_theorem(draft: &mut Draft, file: &TypeFile) -> Result<(), AllocErr
     let module = file.module.as_str();
     let article = article(name);
     draft.text(format!(in draft.alloc();
-        "/// {article} `{name}` can be inside other types.
+        "\
+/// {article} `{name}` can be inside other types.
 pub fn {module}_is_well_tagged()
     ensures {{ IsWellTagged ⟦<{name} as AsnType>⟧.meaning }}
 {{}}

@@ -123,7 +123,8 @@ fn append_struct(draft: &mut Draft, subject: Subject<'_>) -> Result<(), AllocErr
         "\n"
     };
     draft.text(format!(in draft.alloc();
-        "/// {summary}
+        "\
+/// {summary}
 #[derive(PartialEq, Eq, Debug, Drop)]
 pub struct {name} {{{end}"
     )?)?;

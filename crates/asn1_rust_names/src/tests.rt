@@ -1,48 +1,31 @@
+//! Names in the forms of Rust.
 use crate::{TakenNames, camel_case, snake_case, upper_case};
+
+/// Names of ASN.1, with their forms in Rust.
+const NAMES: &[(&[u8], &str, &str, &str)] = &[
+    (
+        b"LDAPMessage",
+        "LdapMessage",
+        "ldap_message",
+        "LDAP_MESSAGE",
+    ),
+    (b"messageID", "MessageId", "message_id", "MESSAGE_ID"),
+    (b"cRLSign", "CrlSign", "crl_sign", "CRL_SIGN"),
+    (b"iPAddress", "IpAddress", "ip_address", "IP_ADDRESS"),
+    (b"cA", "Ca", "ca", "CA"),
+    (b"PDUs", "Pdus", "pdus", "PDUS"),
+    (b"IPv4Net", "Ipv4Net", "ipv4_net", "IPV4_NET"),
+    (b"x400Name", "X400Name", "x400_name", "X400_NAME"),
+    (b"eContent", "EContent", "e_content", "E_CONTENT"),
+    (b"id-at-cn", "IdAtCn", "id_at_cn", "ID_AT_CN"),
+    (b"type", "Type", "type_", "TYPE"),
+    (b"self", "Self_", "self_", "SELF"),
+];
 
 #[test]
 fn names_have_the_words_of_asn1(rt: HostRuntime) {
     let alloc = rt.alloc();
-    let names: [(&[u8], &str, &str, &str); 12] = [
-        (
-            b"LDAPMessage",
-            "LdapMessage",
-            "ldap_message",
-            "LDAP_MESSAGE",
-        ),
-        (b"messageID", "MessageId", "message_id", "MESSAGE_ID"),
-        (
-            b"cRLDistributionPoints",
-            "CrlDistributionPoints",
-            "crl_distribution_points",
-            "CRL_DISTRIBUTION_POINTS",
-        ),
-        (b"iPAddress", "IpAddress", "ip_address", "IP_ADDRESS"),
-        (b"cA", "Ca", "ca", "CA"),
-        (b"PDUs", "Pdus", "pdus", "PDUS"),
-        (
-            b"IPv4Address",
-            "Ipv4Address",
-            "ipv4_address",
-            "IPV4_ADDRESS",
-        ),
-        (
-            b"x400Address",
-            "X400Address",
-            "x400_address",
-            "X400_ADDRESS",
-        ),
-        (b"eContent", "EContent", "e_content", "E_CONTENT"),
-        (
-            b"id-at-commonName",
-            "IdAtCommonName",
-            "id_at_common_name",
-            "ID_AT_COMMON_NAME",
-        ),
-        (b"type", "Type", "type_", "TYPE"),
-        (b"self", "Self_", "self_", "SELF"),
-    ];
-    for (name, camel, snake, upper) in &names {
+    for (name, camel, snake, upper) in NAMES {
         let written = camel_case(alloc, name).expect(&rt, "memory");
         assert!(rt; written.as_str() == *camel);
         let written = snake_case(alloc, name).expect(&rt, "memory");

@@ -1,0 +1,19 @@
+//! The text of Rust types for types of ASN.1, in the form that the check proves with nothing written by hand.
+//!
+//! | Item | What it is |
+//! |---|---|
+//! | [`type_file`] | the file of a type (`TypeFile` of `asn1_rust_components`) |
+//! | [`root_file`], [`ModuleNames`] | the root file of a crate |
+//! | [`proof_files`], [`ProofFile`] | the proofs that the check does not find by itself |
+//!
+//! The text is in the layout of `rt fmt`. It is proved when it is checked, so no contract covers it. Calls fail only if memory
+//! runs out.
+#![tactic(auto)]
+
+mod choice;
+mod enumeration;
+mod files;
+mod proofs;
+
+pub use files::{ModuleNames, root_file, type_file};
+pub use proofs::{ProofFile, proof_files};
