@@ -1,0 +1,121 @@
+//! Permitted alphabets.
+use crate::fault::Fault;
+use crate::governed::{Governed, Scope, Written};
+use crate::resolver::Resolver;
+use crate::values::MAX_DEPTH;
+use asn1_notation::{Constraint, EndPoint, EndValue, Value};
+use asn1_resolved::{CharacterRange, ConstraintKind};
+
+impl<'a> Resolver<'_, 'a> {
+    /// The constraint of the characters of a string.
+    pub(crate) fn alphabet(
+        &mut self,
+        base: Governed<'a>,
+        scope: Scope<'a>,
+        constraint: &'a Constraint,
+    ) -> Result<ConstraintKind, Fault> {
+        let mut ranges = Vec::new(self.alloc);
+        let is_known = self.add_characters(&mut ranges, base, scope, constraint)?;
+        Ok(if is_known {
+            ConstraintKind::Alphabet(ranges)
+        } else {
+            ConstraintKind::Other
+        })
+    }
+
+    // Adds the characters that a constraint allows, and answers whether it is made of characters and ranges alone.
+    fn add_characters(
+        &mut self,
+        ranges: &mut Vec<CharacterRange>,
+        base: Governed<'a>,
+        scope: Scope<'a>,
+        constraint: &'a Constraint,
+    ) -> Result<bool, Fault> {
+        match &constraint.kind {
+            asn1_notation::ConstraintKind::Value(value) => {
+                self.add_each_character(ranges, base, scope, value)
+            }
+            asn1_notation::ConstraintKind::Range(lower, upper) => {
+                self.add_range(ranges, base, scope, lower, upper)
+            }
+            asn1_notation::ConstraintKind::Union(parts) => {
+                let mut are_known = true;
+                for part in parts {
+                    let is_known = self.add_characters(ranges, base, scope, part)?;
+                    are_known = are_known && is_known;
+                }
+                Ok(are_known)
+            }
+            _ => Ok(false),
+        }
+    }
+
+    // Adds each character of a string.
+    fn add_each_character(
+        &mut self,
+        ranges: &mut Vec<CharacterRange>,
+        base: Governed<'a>,
+        scope: Scope<'a>,
+        value: &'a Value,
+    ) -> Result<bool, Fault> {
+        let value = self.value(base, Written { scope, value }, MAX_DEPTH)?;
+        let asn1_resolved::Value::Text(text) = value else {
+            return Ok(false);
+        };
+        for character in &text {
+            let code = *character as u32;
+            ranges.push(CharacterRange {
+                first: code,
+                last: code,
+            })?;
+        }
+        Ok(text.is_ascii())
+    }
+
+    // Adds a range of characters.
+    fn add_range(
+        &mut self,
+        ranges: &mut Vec<CharacterRange>,
+        base: Governed<'a>,
+        scope: Scope<'a>,
+        lower: &'a EndPoint,
+        upper: &'a EndPoint,
+    ) -> Result<bool, Fault> {
+        let first = self.character(base, scope, lower)?;
+        let last = self.character(base, scope, upper)?;
+        match (first, last) {
+            (Some(first), Some(last)) => {
+                ranges.push(CharacterRange { first, last })?;
+                Ok(first <= last)
+            }
+            _ => Ok(false),
+        }
+    }
+
+    // The character at an end of a range, if it is one of ASCII.
+    fn character(
+        &mut self,
+        base: Governed<'a>,
+        scope: Scope<'a>,
+        end: &'a EndPoint,
+    ) -> Result<Option<u32>, Fault> {
+        match &end.value {
+            EndValue::Value(value) if !end.is_open => {
+                let value = self.value(base, Written { scope, value }, MAX_DEPTH)?;
+                Ok(single_character(&value))
+            }
+            _ => Ok(None),
+        }
+    }
+}
+
+// The one character of a string, if it is one of ASCII.
+fn single_character(value: &asn1_resolved::Value<'_>) -> Option<u32> {
+    match value {
+        asn1_resolved::Value::Text(text) => match text.as_slice() {
+            [character] if character.is_ascii() => Some(*character as u32),
+            _ => None,
+        },
+        _ => None,
+    }
+}

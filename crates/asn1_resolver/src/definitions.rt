@@ -1,0 +1,131 @@
+//! The definitions of a set of modules.
+use crate::governed::{Governed, Scope};
+use asn1_modules::Source;
+use asn1_names::Place;
+use asn1_notation::{Assignment, Definition, Type, Value};
+use asn1_resolved::Origin;
+use std::alloc::{AllocError, Global};
+
+/// A definition.
+#[derive(Clone, Copy)]
+pub(crate) struct Defined<'a> {
+    /// The module.
+    pub(crate) scope: Scope<'a>,
+    /// The name.
+    pub(crate) name: &'a [u8],
+    /// The place of the name.
+    pub(crate) place: Place,
+    /// The index in the trees.
+    pub(crate) origin: Origin,
+    /// The type, or the type of the value.
+    pub(crate) definition: &'a Type,
+}
+
+impl<'a> Defined<'a> {
+    /// The type, with its module.
+    pub(crate) fn governed(self) -> Governed<'a> {
+        Governed {
+            scope: self.scope,
+            definition: self.definition,
+        }
+    }
+}
+
+/// The definitions of a set of modules, in the order of the texts.
+#[derive(Drop)]
+pub(crate) struct Definitions<'a> {
+    /// The definitions of types.
+    pub(crate) types: Vec<Defined<'a>>,
+    /// The definitions of values.
+    pub(crate) values: Vec<Defined<'a>>,
+    /// The values, in the order of their definitions.
+    pub(crate) contents: Vec<&'a Value>,
+}
+
+/// Lists the definitions of the modules of some texts.
+pub(crate) fn list_definitions<'a>(
+    alloc: Global,
+    sources: &[Source<'a>],
+) -> Result<Definitions<'a>, AllocError> {
+    let mut definitions = Definitions {
+        types: Vec::new(alloc),
+        values: Vec::new(alloc),
+        contents: Vec::new(alloc),
+    };
+    for (index, source) in sources.iter().enumerate() {
+        list_source(&mut definitions, *source, index)?;
+    }
+    Ok(definitions)
+}
+
+// Lists the definitions of the modules of a text.
+fn list_source<'a>(
+    definitions: &mut Definitions<'a>,
+    source: Source<'a>,
+    index: usize,
+) -> Result<(), AllocError> {
+    for (module_index, module) in source.modules.iter().enumerate() {
+        let scope = Scope {
+            text: source.text,
+            source: index,
+            name: module.name.octets(source.text),
+            module,
+        };
+        list_module(definitions, scope, module_index)?;
+    }
+    Ok(())
+}
+
+// Lists the definitions of a module.
+fn list_module<'a>(
+    definitions: &mut Definitions<'a>,
+    scope: Scope<'a>,
+    module_index: usize,
+) -> Result<(), AllocError> {
+    for (assignment_index, assignment) in scope.module.assignments.iter().enumerate() {
+        let origin = Origin {
+            source: scope.source,
+            module: module_index,
+            assignment: assignment_index,
+        };
+        list_assignment(definitions, scope, assignment, origin)?;
+    }
+    Ok(())
+}
+
+// Lists a definition.
+fn list_assignment<'a>(
+    definitions: &mut Definitions<'a>,
+    scope: Scope<'a>,
+    assignment: &'a Assignment,
+    origin: Origin,
+) -> Result<(), AllocError> {
+    match &assignment.definition {
+        Definition::Type(definition) => {
+            let defined = define(scope, assignment, origin, definition);
+            definitions.types.push(defined)?;
+        }
+        Definition::Value(definition, value) => {
+            let defined = define(scope, assignment, origin, definition);
+            definitions.values.push(defined)?;
+            definitions.contents.push(value)?;
+        }
+    }
+    Ok(())
+}
+
+// A definition with this type.
+fn define<'a>(
+    scope: Scope<'a>,
+    assignment: &Assignment,
+    origin: Origin,
+    definition: &'a Type,
+) -> Defined<'a> {
+    Defined {
+        scope,
+        name: scope.octets(assignment.name),
+        place: scope.place(assignment.name),
+        origin,
+        definition,
+    }
+}

@@ -1,0 +1,68 @@
+//! Parts of trees with the module that they are in.
+use asn1_names::Place;
+use asn1_notation::{Module, Span, Type, Value};
+
+/// A module of a text.
+#[derive(Clone, Copy)]
+pub(crate) struct Scope<'a> {
+    /// The text.
+    pub(crate) text: &'a [u8],
+    /// The index of the text.
+    pub(crate) source: usize,
+    /// The name of the module.
+    pub(crate) name: &'a [u8],
+    /// The module.
+    pub(crate) module: &'a Module,
+}
+
+impl<'a> Scope<'a> {
+    /// The octets of a name.
+    pub(crate) fn octets(self, span: Span) -> &'a [u8] {
+        span.octets(self.text)
+    }
+
+    /// The place of octets of the text.
+    pub(crate) fn place(self, span: Span) -> Place {
+        Place {
+            text: self.source,
+            span,
+        }
+    }
+
+    /// The place that begins at an offset.
+    pub(crate) fn place_at(self, start: usize) -> Place {
+        self.place(Span { start, end: start })
+    }
+}
+
+/// A type with the module that it is in.
+#[derive(Clone, Copy)]
+pub(crate) struct Governed<'a> {
+    /// The module.
+    pub(crate) scope: Scope<'a>,
+    /// The type.
+    pub(crate) definition: &'a Type,
+}
+
+impl<'a> Governed<'a> {
+    /// Where the type begins.
+    pub(crate) fn place(self) -> Place {
+        self.scope.place_at(self.definition.start)
+    }
+}
+
+/// A value with the module that it is in.
+#[derive(Clone, Copy)]
+pub(crate) struct Written<'a> {
+    /// The module.
+    pub(crate) scope: Scope<'a>,
+    /// The value.
+    pub(crate) value: &'a Value,
+}
+
+impl Written<'_> {
+    /// Where the value begins.
+    pub(crate) fn place(self) -> Place {
+        self.scope.place_at(self.value.start)
+    }
+}

@@ -1,0 +1,193 @@
+//! All modules of a run.
+ghost use Rattle.std.specs.Prelude.{◌≡◌, IfOk, IsTrue};
+ghost use Rattle.asn1_resolver.specs.Accepted.{HasDistinctNames};
+ghost use Rattle.asn1_resolver.specs.Accepted as spec;
+
+use crate::accepted::{accepts, require_distinct_names};
+use crate::definitions::{Defined, Definitions, list_definitions};
+use crate::fault::Fault;
+use crate::governed::Written;
+use crate::resolver::Resolver;
+use crate::values::MAX_DEPTH;
+use asn1_modules::{Source, append_problem, collect_names};
+use asn1_names::{NameProblem, Names, Place, check_names};
+use asn1_resolved::{
+    Problem, Schema, Severity, Type, TypeDefinition, TypeKind, Value, ValueDefinition,
+};
+use std::alloc::{AllocError, Global};
+
+/// What the modules of a run mean.
+#[derive(Drop)]
+pub struct Resolution<'a> {
+    /// The definitions. It is incomplete if there is an error.
+    pub schema: Schema<'a>,
+    /// The problems, in the order of their places.
+    pub problems: Vec<Problem>,
+}
+
+impl Resolution<'_> {
+    /// Whether no problem is an error.
+    pub fn is_accepted(&self) -> bool
+        ensures { result ≡ spec.accepts self.now.problems.items }
+    {
+        accepts(self.problems.as_slice())
+    }
+}
+
+/// Resolves the modules of some texts.
+///
+/// The error of this call is that of memory. Everything that is wrong with the modules is a problem.
+pub fn resolve<'a>(alloc: Global, sources: &[Source<'a>]) -> Result<Resolution<'a>, AllocError>
+    // No module of an accepted schema has a name twice.
+    ensures distinct { IfOk result (λ resolution.
+        IsTrue (spec.accepts resolution.problems.items) → HasDistinctNames resolution.schema) }
+{
+    let definitions = list_definitions(alloc, sources)?;
+    let names = collect_names(alloc, sources)?;
+    let mut resolver = Resolver {
+        alloc,
+        definitions: &definitions,
+        names: &names,
+        problems: Vec::new(alloc),
+    };
+    let schema = resolve_schema(&mut resolver, &definitions)?;
+    resolver.report_names()?;
+    let mut problems = resolver.into_problems();
+    require_distinct_names(alloc, &mut problems, &schema)?;
+    Ok(Resolution { schema, problems })
+}
+
+// The types and the values.
+fn resolve_schema<'a>(
+    resolver: &mut Resolver<'_, 'a>,
+    definitions: &Definitions<'a>,
+) -> Result<Schema<'a>, AllocError> {
+    let mut types = Vec::new(resolver.alloc);
+    for defined in &definitions.types {
+        let definition = resolver.type_definition(*defined)?;
+        types.push(definition)?;
+    }
+    let mut values = Vec::new(resolver.alloc);
+    for (defined, value) in definitions.values.iter().zip(&definitions.contents) {
+        let definition = resolver.value_definition(*defined, value)?;
+        values.push(definition)?;
+    }
+    Ok(Schema { types, values })
+}
+
+impl<'a> Resolver<'_, 'a> {
+    // Reports what is wrong with names.
+    fn report_names(&mut self) -> Result<(), AllocError> {
+        let found = check_names(self.alloc, self.names)?;
+        for problem in &found {
+            let mut text = Vec::new(self.alloc);
+            append_problem(self.alloc, &mut text, self.names, problem)?;
+            if !self.has_text(text.as_slice()) {
+                let severity = severity_of(self.names, problem);
+                self.report(place_of(problem), severity, &[text.as_slice()])?;
+            }
+        }
+        Ok(())
+    }
+
+    // Whether a problem has this text.
+    fn has_text(&self, text: &[u8]) -> bool {
+        self.problems
+            .iter()
+            .any(|problem| problem.text.as_slice() == text)
+    }
+
+    // The definition of a type. One that is in error is NULL.
+    fn type_definition(&mut self, defined: Defined<'a>) -> Result<TypeDefinition<'a>, AllocError> {
+        let definition = match self.checked_type(defined) {
+            Ok(definition) => definition,
+            Err(Fault::Refused) => self.no_type(defined.governed().place()),
+            Err(Fault::Memory) => return Err(AllocError),
+        };
+        Ok(TypeDefinition {
+            module: defined.scope.name,
+            name: defined.name,
+            place: defined.place,
+            origin: defined.origin,
+            definition,
+        })
+    }
+
+    // A type that does not stand for itself alone.
+    fn checked_type(&mut self, defined: Defined<'a>) -> Result<Type<'a>, Fault> {
+        self.base(defined.governed())?;
+        self.resolve_type(defined.governed(), MAX_DEPTH)
+    }
+
+    // The type that stands for one that is in error.
+    fn no_type(&self, place: Place) -> Type<'a> {
+        Type {
+            place,
+            kind: TypeKind::Null,
+            constraints: Vec::new(self.alloc),
+        }
+    }
+
+    // The definition of a value. One that is in error is NULL.
+    fn value_definition(
+        &mut self,
+        defined: Defined<'a>,
+        value: &'a asn1_notation::Value,
+    ) -> Result<ValueDefinition<'a>, AllocError> {
+        let TypeDefinition {
+            module,
+            name,
+            place,
+            origin,
+            definition,
+        } = self.type_definition(defined)?;
+        let scope = defined.scope;
+        let value = match self.value(defined.governed(), Written { scope, value }, MAX_DEPTH) {
+            Ok(value) => value,
+            Err(Fault::Refused) => Value::Null,
+            Err(Fault::Memory) => return Err(AllocError),
+        };
+        Ok(ValueDefinition {
+            module,
+            name,
+            place,
+            origin,
+            definition,
+            value,
+        })
+    }
+}
+
+// Whether modules with this problem can be used: a name of another module needs no IMPORTS, and a module that is not among
+// the files is needed only where a name is used.
+fn severity_of(names: &Names<'_>, problem: &NameProblem<'_>) -> Severity {
+    let is_usable = match problem {
+        NameProblem::Doubled(_) => false,
+        NameProblem::UnknownImport(import) => !has_module(names, import.from),
+        NameProblem::Undefined(used) => used.qualifier.is_none() && has_name(names, used.name),
+    };
+    if is_usable {
+        Severity::Warning
+    } else {
+        Severity::Error
+    }
+}
+
+// Whether a definition is in a module of this name.
+fn has_module(names: &Names<'_>, module: &[u8]) -> bool {
+    names.defined.iter().any(|defined| defined.module == module)
+}
+
+// Whether a definition has this name.
+fn has_name(names: &Names<'_>, name: &[u8]) -> bool {
+    names.defined.iter().any(|defined| defined.name == name)
+}
+
+// The place of a problem.
+fn place_of(problem: &NameProblem<'_>) -> Place {
+    match problem {
+        NameProblem::Doubled(doubled) => doubled.again.place,
+        NameProblem::UnknownImport(import) => import.place,
+        NameProblem::Undefined(used) => used.place,
+    }
+}

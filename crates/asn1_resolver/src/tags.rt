@@ -1,0 +1,59 @@
+//! Tags.
+use crate::fault::Fault;
+use crate::governed::Governed;
+use crate::resolver::Resolver;
+use crate::values::MAX_DEPTH;
+use asn1_notation::{TagClass, TagDefault, TagMode};
+use asn1_resolved::Tag;
+
+impl<'a> Resolver<'_, 'a> {
+    /// A tag that is written before a type (X.680, 31.2.7).
+    pub(crate) fn tag(
+        &mut self,
+        tag: &asn1_notation::Tag,
+        inner: Governed<'a>,
+    ) -> Result<Tag, Fault> {
+        let number = self.tag_number(tag, inner)?;
+        let has_no_tag = self.has_no_tag(inner)?;
+        let is_explicit = match tag.mode {
+            Some(TagMode::Explicit) => true,
+            Some(TagMode::Implicit) => {
+                if has_no_tag {
+                    return Err(self.refuse(
+                        inner.place(),
+                        &[b"a tag before a CHOICE or an open type is EXPLICIT, and not IMPLICIT"],
+                    ));
+                }
+                false
+            }
+            None => has_no_tag || inner.scope.module.tagging == TagDefault::Explicit,
+        };
+        Ok(Tag {
+            class: tag.class,
+            number,
+            is_explicit,
+        })
+    }
+
+    // The number of a tag.
+    fn tag_number(&mut self, tag: &asn1_notation::Tag, inner: Governed<'a>) -> Result<u32, Fault> {
+        let number = self.number_name(inner.scope, tag.number, MAX_DEPTH)?;
+        match u32::try_from(number) {
+            Ok(number) => Ok(number),
+            Err(_) => Err(self.refuse(
+                inner.place(),
+                &[b"the number of a tag is from 0 to 4294967295"],
+            )),
+        }
+    }
+
+    /// The tag that is put on a component or an alternative (X.680, 25.9 and 29.4).
+    pub(crate) fn automatic_tag(&mut self, number: u32, inner: Governed<'a>) -> Result<Tag, Fault> {
+        let is_explicit = self.has_no_tag(inner)?;
+        Ok(Tag {
+            class: TagClass::Context,
+            number,
+            is_explicit,
+        })
+    }
+}

@@ -1,0 +1,281 @@
+//! Types.
+use crate::component_list::{ComponentList, Construct, Extent, Listed};
+use crate::fault::Fault;
+use crate::governed::{Governed, Scope};
+use crate::resolver::Resolver;
+use crate::values::MAX_DEPTH;
+use asn1_notation::ComponentItem;
+use asn1_resolved::{
+    Addition, Alternative, Alternatives, Component, Components, Type, TypeKind, Usage,
+};
+
+impl<'a> Resolver<'_, 'a> {
+    /// The type, with at most so many types inside one another.
+    #[cycle(types)]
+    pub(crate) fn resolve_type(
+        &mut self,
+        governed: Governed<'a>,
+        depth: usize,
+    ) -> Result<Type<'a>, Fault> {
+        let Some(depth) = depth.checked_sub(1) else {
+            return Err(self.refuse(governed.place(), &[b"types are nested too deep"]));
+        };
+        let kind = self.resolve_kind(governed, depth)?;
+        let constraints = self.constraints(governed)?;
+        Ok(Type {
+            place: governed.place(),
+            kind,
+            constraints,
+        })
+    }
+
+    // The type without its constraints.
+    #[cycle(types)]
+    fn resolve_kind(
+        &mut self,
+        governed: Governed<'a>,
+        depth: usize,
+    ) -> Result<TypeKind<'a>, Fault> {
+        let scope = governed.scope;
+        match &governed.definition.kind {
+            asn1_notation::TypeKind::Sequence(items) => {
+                let components = self.resolve_components(
+                    scope,
+                    items.as_slice(),
+                    Construct::Sequence,
+                    depth,
+                )?;
+                Ok(TypeKind::Sequence(components))
+            }
+            asn1_notation::TypeKind::Set(items) => {
+                let components = self.resolve_components(
+                    scope,
+                    items.as_slice(),
+                    Construct::Set,
+                    depth,
+                )?;
+                Ok(TypeKind::Set(components))
+            }
+            asn1_notation::TypeKind::Choice(items) => {
+                let alternatives = self.resolve_alternatives(scope, items.as_slice(), depth)?;
+                Ok(TypeKind::Choice(alternatives))
+            }
+            asn1_notation::TypeKind::SequenceOf(_, element) => {
+                let element = self.resolve_boxed(scope, element, depth)?;
+                Ok(TypeKind::SequenceOf(element))
+            }
+            asn1_notation::TypeKind::SetOf(_, element) => {
+                let element = self.resolve_boxed(scope, element, depth)?;
+                Ok(TypeKind::SetOf(element))
+            }
+            asn1_notation::TypeKind::Tagged(tag, inner) => {
+                let tag = self.tag(
+                    tag,
+                    Governed {
+                        scope,
+                        definition: inner,
+                    },
+                )?;
+                let inner = self.resolve_boxed(scope, inner, depth)?;
+                Ok(TypeKind::Tagged(tag, inner))
+            }
+            kind => self.plain_kind(scope, kind),
+        }
+    }
+
+    // A type inside another.
+    #[cycle(types)]
+    fn resolve_boxed(
+        &mut self,
+        scope: Scope<'a>,
+        definition: &'a asn1_notation::Type,
+        depth: usize,
+    ) -> Result<Box<Type<'a>>, Fault> {
+        let inner = self.resolve_type(Governed { scope, definition }, depth)?;
+        let boxed = Box::new(self.alloc, inner)?;
+        Ok(boxed)
+    }
+
+    // The components of a SEQUENCE or a SET.
+    #[cycle(types)]
+    fn resolve_components(
+        &mut self,
+        scope: Scope<'a>,
+        items: &'a [ComponentItem],
+        construct: Construct,
+        depth: usize,
+    ) -> Result<Components<'a>, Fault> {
+        let list = self.list_components(scope, items, construct)?;
+        let root = self.resolve_listed(&list, list.root(), depth)?;
+        let mut additions = Vec::new(self.alloc);
+        for extent in &list.additions {
+            let components = self.resolve_listed(&list, *extent, depth)?;
+            add_addition(&mut additions, components, extent.is_group)?;
+        }
+        Ok(Components {
+            root,
+            is_extensible: list.is_extensible,
+            additions,
+        })
+    }
+
+    // The components of a part of a list. One that is in error is left out.
+    #[cycle(types)]
+    fn resolve_listed(
+        &mut self,
+        list: &ComponentList<'a>,
+        extent: Extent,
+        depth: usize,
+    ) -> Result<Vec<Component<'a>>, Fault> {
+        let mut components = Vec::new(self.alloc);
+        for (index, listed) in list.listed.iter().enumerate() {
+            if !extent.has(index) {
+                continue;
+            }
+            match self.resolve_component_type(*listed, depth) {
+                Ok(definition) => {
+                    let usage = self.usage(*listed)?;
+                    components.push(Component {
+                        name: listed.name(),
+                        place: listed.place(),
+                        definition,
+                        usage,
+                    })?;
+                }
+                Err(Fault::Refused) => {}
+                Err(Fault::Memory) => return Err(Fault::Memory),
+            }
+        }
+        Ok(components)
+    }
+
+    // The type of a component, with its automatic tag.
+    #[cycle(types)]
+    fn resolve_component_type(
+        &mut self,
+        listed: Listed<'a>,
+        depth: usize,
+    ) -> Result<Type<'a>, Fault> {
+        let inner = self.resolve_type(listed.governed(), depth)?;
+        match listed.tag {
+            Some(number) => {
+                let tag = self.automatic_tag(number, listed.governed())?;
+                let place = inner.place;
+                let inner = Box::new(self.alloc, inner)?;
+                Ok(Type {
+                    place,
+                    kind: TypeKind::Tagged(tag, inner),
+                    constraints: Vec::new(self.alloc),
+                })
+            }
+            None => Ok(inner),
+        }
+    }
+
+    // The alternatives of a CHOICE.
+    #[cycle(types)]
+    fn resolve_alternatives(
+        &mut self,
+        scope: Scope<'a>,
+        items: &'a [ComponentItem],
+        depth: usize,
+    ) -> Result<Alternatives<'a>, Fault> {
+        let list = self.list_components(scope, items, Construct::Choice)?;
+        let root = self.resolve_choices(&list, list.root(), depth)?;
+        let additions = self.resolve_choices(&list, list.added(), depth)?;
+        Ok(Alternatives {
+            root,
+            is_extensible: list.is_extensible,
+            additions,
+        })
+    }
+
+    // The alternatives of a part of a list. One that is in error is left out.
+    #[cycle(types)]
+    fn resolve_choices(
+        &mut self,
+        list: &ComponentList<'a>,
+        extent: Extent,
+        depth: usize,
+    ) -> Result<Vec<Alternative<'a>>, Fault> {
+        let mut alternatives = Vec::new(self.alloc);
+        for (index, listed) in list.listed.iter().enumerate() {
+            if !extent.has(index) {
+                continue;
+            }
+            match self.resolve_component_type(*listed, depth) {
+                Ok(definition) => alternatives.push(Alternative {
+                    name: listed.name(),
+                    place: listed.place(),
+                    definition,
+                })?,
+                Err(Fault::Refused) => {}
+                Err(Fault::Memory) => return Err(Fault::Memory),
+            }
+        }
+        Ok(alternatives)
+    }
+
+    // A type that holds no other.
+    fn plain_kind(
+        &mut self,
+        scope: Scope<'a>,
+        kind: &'a asn1_notation::TypeKind,
+    ) -> Result<TypeKind<'a>, Fault> {
+        match kind {
+            asn1_notation::TypeKind::Boolean => Ok(TypeKind::Boolean),
+            asn1_notation::TypeKind::Integer(numbers) => {
+                let named = self.named_numbers(scope, numbers.as_slice())?;
+                Ok(TypeKind::Integer(named))
+            }
+            asn1_notation::TypeKind::BitString(numbers) => {
+                let named = self.named_bits(scope, numbers.as_slice())?;
+                Ok(TypeKind::BitString(named))
+            }
+            asn1_notation::TypeKind::OctetString => Ok(TypeKind::OctetString),
+            asn1_notation::TypeKind::ObjectIdentifier => Ok(TypeKind::ObjectIdentifier),
+            asn1_notation::TypeKind::String(kind) => Ok(TypeKind::String(*kind)),
+            asn1_notation::TypeKind::Enumerated(items) => {
+                let enumeration = self.enumeration(scope, items.as_slice())?;
+                Ok(TypeKind::Enumerated(enumeration))
+            }
+            asn1_notation::TypeKind::Any(_) => Ok(TypeKind::Any),
+            asn1_notation::TypeKind::Reference(reference) => {
+                let index = self.find_type(scope, reference)?;
+                Ok(TypeKind::Reference(index))
+            }
+            _ => Ok(TypeKind::Null),
+        }
+    }
+
+    // Whether a component may be absent. One whose DEFAULT is in error is OPTIONAL.
+    fn usage(&mut self, listed: Listed<'a>) -> Result<Usage<'a>, Fault> {
+        match &listed.component.usage {
+            asn1_notation::Usage::Required => Ok(Usage::Required),
+            asn1_notation::Usage::Optional => Ok(Usage::Optional),
+            asn1_notation::Usage::Default(value) => {
+                match self.value(listed.governed(), listed.written(value), MAX_DEPTH) {
+                    Ok(value) => Ok(Usage::Default(value)),
+                    Err(Fault::Refused) => Ok(Usage::Optional),
+                    Err(Fault::Memory) => Err(Fault::Memory),
+                }
+            }
+        }
+    }
+}
+
+// Adds components as a group, or one by one.
+fn add_addition<'a>(
+    additions: &mut Vec<Addition<'a>>,
+    components: Vec<Component<'a>>,
+    is_group: bool,
+) -> Result<(), Fault> {
+    if is_group {
+        additions.push(Addition::Group(components))?;
+        return Ok(());
+    }
+    for component in components {
+        additions.push(Addition::Component(component))?;
+    }
+    Ok(())
+}

@@ -1,0 +1,294 @@
+//! Parts of values.
+use crate::component_list::{ComponentList, Construct, Listed};
+use crate::fault::Fault;
+use crate::governed::{Governed, Scope, Written};
+use crate::items::find_number;
+use crate::resolver::Resolver;
+use crate::words::type_word;
+use asn1_names::Place;
+use asn1_notation::{
+    ListItem, NamedNumber, NumberName, Reference, Span, TypeKind, Usage, ValueKind,
+};
+use asn1_resolved::Value;
+
+// The greatest number of a bit that a value may name.
+const MAX_BIT: usize = 65535;
+
+impl<'a> Resolver<'_, 'a> {
+    /// The one value of an item of a list.
+    pub(crate) fn single_value(
+        &mut self,
+        scope: Scope<'a>,
+        item: &'a ListItem,
+    ) -> Result<Written<'a>, Fault> {
+        match item.values.as_slice() {
+            [value] => Ok(Written { scope, value }),
+            [_, second, ..] => Err(self.refuse(
+                scope.place_at(second.start),
+                &[b"a comma is expected before this value"],
+            )),
+            [] => Err(Fault::Refused),
+        }
+    }
+
+    /// The component that an item of a list names, and its value.
+    pub(crate) fn named_component(
+        &mut self,
+        list: &ComponentList<'a>,
+        scope: Scope<'a>,
+        item: &'a ListItem,
+    ) -> Result<(Listed<'a>, &'a asn1_notation::Value), Fault> {
+        match item.values.as_slice() {
+            [name, value] => match &name.kind {
+                ValueKind::Reference(reference) => {
+                    let listed = self.require_component(list, scope, reference.name)?;
+                    Ok((listed, value))
+                }
+                _ => Err(self.refuse_component(scope, name.start)),
+            },
+            [value, ..] => Err(self.refuse_component(scope, value.start)),
+            [] => Err(Fault::Refused),
+        }
+    }
+
+    // Refuses what is no component of a value.
+    fn refuse_component(&mut self, scope: Scope<'a>, start: usize) -> Fault {
+        self.refuse(
+            scope.place_at(start),
+            &[b"the name of a component and its value are expected here"],
+        )
+    }
+
+    // The component of this name.
+    fn require_component(
+        &mut self,
+        list: &ComponentList<'a>,
+        scope: Scope<'a>,
+        name: Span,
+    ) -> Result<Listed<'a>, Fault> {
+        match list.find(scope.octets(name)) {
+            Some(listed) => Ok(listed),
+            None => Err(self.refuse(
+                scope.place(name),
+                &[b"the type has no component '", scope.octets(name), b"'"],
+            )),
+        }
+    }
+
+    /// Refuses a value without a component that must be there.
+    pub(crate) fn require_all(
+        &mut self,
+        list: &ComponentList<'a>,
+        written: Written<'a>,
+        values: &'a [ListItem],
+    ) -> Result<(), Fault> {
+        for listed in &list.listed {
+            if is_required(*listed) && !is_named(written.scope, values, listed.name()) {
+                return Err(self.refuse(
+                    written.place(),
+                    &[b"the value has no component '", listed.name(), b"'"],
+                ));
+            }
+        }
+        Ok(())
+    }
+
+    /// The alternative of this name.
+    pub(crate) fn find_alternative(
+        &mut self,
+        base: Governed<'a>,
+        scope: Scope<'a>,
+        name: Span,
+    ) -> Result<Listed<'a>, Fault> {
+        let TypeKind::Choice(items) = &base.definition.kind else {
+            return Err(self.refuse(
+                scope.place(name),
+                &[
+                    b"a value of ",
+                    type_word(&base.definition.kind),
+                    b" is expected here",
+                ],
+            ));
+        };
+        let list = self.list_components(base.scope, items.as_slice(), Construct::Choice)?;
+        match list.find(scope.octets(name)) {
+            Some(listed) => Ok(listed),
+            None => Err(self.refuse(
+                scope.place(name),
+                &[b"the CHOICE has no alternative '", scope.octets(name), b"'"],
+            )),
+        }
+    }
+
+    /// The number of the bit that a value names.
+    pub(crate) fn find_bit(
+        &mut self,
+        scope: Scope<'a>,
+        bits: &'a [NamedNumber],
+        written: Written<'a>,
+    ) -> Result<NumberName, Fault> {
+        match &written.value.kind {
+            ValueKind::Reference(reference) => {
+                let name = written.scope.octets(reference.name);
+                match find_number(scope, bits, name) {
+                    Some(number) => Ok(number),
+                    None => Err(self.refuse(
+                        written.place(),
+                        &[b"the BIT STRING has no bit '", name, b"'"],
+                    )),
+                }
+            }
+            _ => Err(self.refuse(written.place(), &[b"the name of a bit is expected here"])),
+        }
+    }
+
+    /// The bits with these numbers, up to the last of them.
+    pub(crate) fn bits_of_numbers(
+        &mut self,
+        written: Written<'a>,
+        numbers: &[i128],
+    ) -> Result<Value<'a>, Fault> {
+        let mut bits = Vec::new(self.alloc);
+        for number in numbers {
+            match usize::try_from(*number) {
+                Ok(index) if index <= MAX_BIT => set_bit(&mut bits, index)?,
+                _ => {
+                    return Err(self.refuse(
+                        written.place(),
+                        &[b"a bit of a value has a number from 0 to 65535"],
+                    ));
+                }
+            }
+        }
+        Ok(Value::Bits(bits))
+    }
+
+    /// Adds the arcs of an object identifier, if there are none before them, or an arc.
+    pub(crate) fn add_referenced(
+        &mut self,
+        arcs: &mut Vec<u32>,
+        written: Written<'a>,
+        name: Span,
+        value: Value<'a>,
+    ) -> Result<(), Fault> {
+        match value {
+            Value::ObjectIdentifier(first) => {
+                if arcs.is_empty() {
+                    arcs.extend_from_slice(first.as_slice())?;
+                    Ok(())
+                } else {
+                    Err(self.refuse_no_number(written.scope, name))
+                }
+            }
+            Value::Integer(number) => self.push_arc(arcs, written, number),
+            _ => Err(self.refuse_no_number(written.scope, name)),
+        }
+    }
+
+    /// Adds the number of an arc.
+    pub(crate) fn push_arc(
+        &mut self,
+        arcs: &mut Vec<u32>,
+        written: Written<'a>,
+        number: i128,
+    ) -> Result<(), Fault> {
+        match u32::try_from(number) {
+            Ok(number) => {
+                arcs.push(number)?;
+                Ok(())
+            }
+            Err(_) => Err(self.refuse(
+                written.place(),
+                &[b"the number of an arc is from 0 to 4294967295"],
+            )),
+        }
+    }
+
+    /// Refuses a name whose value is no whole number.
+    pub(crate) fn refuse_no_number(&mut self, scope: Scope<'a>, name: Span) -> Fault {
+        self.refuse(
+            scope.place(name),
+            &[b"'", scope.octets(name), b"' is no value of INTEGER"],
+        )
+    }
+
+    /// Refuses a value that is not of the type.
+    pub(crate) fn refuse_kind(&mut self, base: Governed<'a>, written: Written<'a>) -> Fault {
+        self.refuse(
+            written.place(),
+            &[
+                b"a value of ",
+                type_word(&base.definition.kind),
+                b" is expected here",
+            ],
+        )
+    }
+
+    /// Refuses the name of a value that is not of the type.
+    pub(crate) fn require_kind(
+        &mut self,
+        base: Governed<'a>,
+        scope: Scope<'a>,
+        reference: Reference,
+        value: &Value<'a>,
+    ) -> Result<(), Fault> {
+        if suits(&base.definition.kind, value) {
+            return Ok(());
+        }
+        let word = type_word(&base.definition.kind);
+        Err(self.refuse_name(
+            scope.place(reference.name),
+            scope.octets(reference.name),
+            word,
+        ))
+    }
+
+    // Refuses the name of a value that is not of a type with this word.
+    fn refuse_name<'t>(&mut self, place: Place, name: &'t [u8], word: &'t [u8]) -> Fault {
+        self.refuse(place, &[b"'", name, b"' is no value of ", word])
+    }
+}
+
+// Sets a bit, with bits 0 before it.
+fn set_bit(bits: &mut Vec<bool>, index: usize) -> Result<(), Fault> {
+    for _ in bits.len()..=index {
+        bits.push(false)?;
+    }
+    if let Some(bit) = bits.get_mut(index) {
+        *bit = true;
+    }
+    Ok(())
+}
+
+// Whether a component is in every value.
+fn is_required(listed: Listed<'_>) -> bool {
+    matches!(listed.component.usage, Usage::Required)
+}
+
+// Whether an item of a list has this name.
+fn is_named(scope: Scope<'_>, values: &[ListItem], name: &[u8]) -> bool {
+    values.iter().any(|item| match item.values.as_slice() {
+        [first, ..] => match &first.kind {
+            ValueKind::Reference(reference) => scope.octets(reference.name) == name,
+            _ => false,
+        },
+        [] => false,
+    })
+}
+
+// Whether a value is of this kind of type.
+fn suits(kind: &TypeKind, value: &Value<'_>) -> bool {
+    match value {
+        Value::Boolean(_) => matches!(kind, TypeKind::Boolean),
+        Value::Null => matches!(kind, TypeKind::Null),
+        Value::Integer(_) => matches!(kind, TypeKind::Integer(_)),
+        Value::Bits(_) => matches!(kind, TypeKind::BitString(_)),
+        Value::Octets(_) => matches!(kind, TypeKind::OctetString),
+        Value::ObjectIdentifier(_) => matches!(kind, TypeKind::ObjectIdentifier),
+        Value::Text(_) => matches!(kind, TypeKind::String(_)),
+        Value::Item(_) => matches!(kind, TypeKind::Enumerated(_)),
+        Value::Elements(_) => matches!(kind, TypeKind::SequenceOf(_, _) | TypeKind::SetOf(_, _)),
+        Value::Components(_) => matches!(kind, TypeKind::Sequence(_) | TypeKind::Set(_)),
+        Value::Alternative(_, _) => matches!(kind, TypeKind::Choice(_)),
+    }
+}

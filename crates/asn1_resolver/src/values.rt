@@ -1,0 +1,297 @@
+//! Values.
+use crate::arcs::standard_arc;
+use crate::component_list::Construct;
+use crate::fault::Fault;
+use crate::governed::{Governed, Scope, Written};
+use crate::items::{Item, item_of};
+use crate::resolver::Resolver;
+use asn1_notation::{
+    ComponentItem, ListItem, NamedNumber, NumberName, Reference, Span, Type, TypeKind, ValueKind,
+};
+use asn1_resolved::{ComponentValue, Value};
+
+/// How many types or values may be inside one another.
+pub(crate) const MAX_DEPTH: usize = 200;
+
+impl<'a> Resolver<'_, 'a> {
+    /// The value of a type, with at most so many values inside one another, or behind names.
+    #[cycle(values)]
+    pub(crate) fn value(
+        &mut self,
+        governed: Governed<'a>,
+        written: Written<'a>,
+        depth: usize,
+    ) -> Result<Value<'a>, Fault> {
+        let Some(depth) = depth.checked_sub(1) else {
+            return Err(self.refuse(
+                written.place(),
+                &[b"the value is defined by itself, or nested too deep"],
+            ));
+        };
+        let base = self.base(governed)?;
+        match &written.value.kind {
+            ValueKind::Reference(reference) => self.named_value(base, written, *reference, depth),
+            _ => self.literal(base, written, depth),
+        }
+    }
+
+    // The value that a name is: of a number or an item of the type, or of a definition.
+    #[cycle(values)]
+    fn named_value(
+        &mut self,
+        base: Governed<'a>,
+        written: Written<'a>,
+        reference: Reference,
+        depth: usize,
+    ) -> Result<Value<'a>, Fault> {
+        match item_of(base, written.scope, reference) {
+            Some(Item::Number(number)) => {
+                let number = self.number_name(base.scope, number, depth)?;
+                Ok(Value::Integer(number))
+            }
+            Some(Item::Name(name)) => Ok(Value::Item(name)),
+            None => self.referenced_value(base, written.scope, reference, depth),
+        }
+    }
+
+    // The value of a definition, which must be of this type.
+    #[cycle(values)]
+    fn referenced_value(
+        &mut self,
+        base: Governed<'a>,
+        scope: Scope<'a>,
+        reference: Reference,
+        depth: usize,
+    ) -> Result<Value<'a>, Fault> {
+        let (governed, written) = self.find_value_of(base, scope, &reference)?;
+        let value = self.value(governed, written, depth)?;
+        self.require_kind(base, scope, reference, &value)?;
+        Ok(value)
+    }
+
+    /// The whole number that is written, or that a name stands for.
+    #[cycle(values)]
+    pub(crate) fn number_name(
+        &mut self,
+        scope: Scope<'a>,
+        number: NumberName,
+        depth: usize,
+    ) -> Result<i128, Fault> {
+        match number {
+            NumberName::Number(number) => self.number(scope, &number),
+            NumberName::Reference(reference) => {
+                let (governed, written) = self.find_value(scope, &reference)?;
+                match self.value(governed, written, depth)? {
+                    Value::Integer(number) => Ok(number),
+                    _ => Err(self.refuse_no_number(scope, reference.name)),
+                }
+            }
+        }
+    }
+
+    // A value that is no name.
+    #[cycle(values)]
+    fn literal(
+        &mut self,
+        base: Governed<'a>,
+        written: Written<'a>,
+        depth: usize,
+    ) -> Result<Value<'a>, Fault> {
+        match &written.value.kind {
+            ValueKind::List(values) => { self.list_value(base, written, values.as_slice(), depth) }
+            ValueKind::Alternative(name, value) => {
+                let scope = written.scope;
+                self.alternative_value(base, scope, *name, value, depth)
+            }
+            _ => self.plain_literal(base, written),
+        }
+    }
+
+    // A value in braces.
+    #[cycle(values)]
+    fn list_value(
+        &mut self,
+        base: Governed<'a>,
+        written: Written<'a>,
+        values: &'a [ListItem],
+        depth: usize,
+    ) -> Result<Value<'a>, Fault> {
+        let scope = written.scope;
+        match &base.definition.kind {
+            TypeKind::Sequence(items) => {
+                let items = Items::new(base.scope, items.as_slice(), Construct::Sequence);
+                self.components_value(items, written, values, depth)
+            }
+            TypeKind::Set(items) => {
+                let items = Items::new(base.scope, items.as_slice(), Construct::Set);
+                self.components_value(items, written, values, depth)
+            }
+            TypeKind::SequenceOf(_, element) => {
+                self.elements_value(base.scope, element, scope, values, depth)
+            }
+            TypeKind::SetOf(_, element) => {
+                self.elements_value(base.scope, element, scope, values, depth)
+            }
+            TypeKind::ObjectIdentifier => { self.identifier_value(base, written, values, depth) }
+            TypeKind::BitString(bits) => {
+                self.bits_value(base.scope, bits.as_slice(), written, values, depth)
+            }
+            _ => Err(self.refuse_kind(base, written)),
+        }
+    }
+
+    // The components of a value.
+    #[cycle(values)]
+    fn components_value(
+        &mut self,
+        items: Items<'a>,
+        written: Written<'a>,
+        values: &'a [ListItem],
+        depth: usize,
+    ) -> Result<Value<'a>, Fault> {
+        let list = self.list_components(items.scope, items.items, items.construct)?;
+        let scope = written.scope;
+        let mut components = Vec::new(self.alloc);
+        for item in values {
+            let (listed, value) = self.named_component(&list, scope, item)?;
+            let value = self.value(listed.governed(), Written { scope, value }, depth)?;
+            components.push(ComponentValue {
+                name: listed.name(),
+                value,
+            })?;
+        }
+        self.require_all(&list, written, values)?;
+        Ok(Value::Components(components))
+    }
+
+    // The elements of a value.
+    #[cycle(values)]
+    fn elements_value(
+        &mut self,
+        element_scope: Scope<'a>,
+        element: &'a Type,
+        scope: Scope<'a>,
+        values: &'a [ListItem],
+        depth: usize,
+    ) -> Result<Value<'a>, Fault> {
+        let governed = Governed {
+            scope: element_scope,
+            definition: element,
+        };
+        let mut elements = Vec::new(self.alloc);
+        for item in values {
+            let written = self.single_value(scope, item)?;
+            let value = self.value(governed, written, depth)?;
+            elements.push(value)?;
+        }
+        Ok(Value::Elements(elements))
+    }
+
+    // The alternative of a value.
+    #[cycle(values)]
+    fn alternative_value(
+        &mut self,
+        base: Governed<'a>,
+        scope: Scope<'a>,
+        name: Span,
+        value: &'a asn1_notation::Value,
+        depth: usize,
+    ) -> Result<Value<'a>, Fault> {
+        let listed = self.find_alternative(base, scope, name)?;
+        let value = self.value(listed.governed(), Written { scope, value }, depth)?;
+        let value = Box::new(self.alloc, value)?;
+        Ok(Value::Alternative(listed.name(), value))
+    }
+
+    // The arcs of an object identifier.
+    #[cycle(values)]
+    fn identifier_value(
+        &mut self,
+        base: Governed<'a>,
+        written: Written<'a>,
+        values: &'a [ListItem],
+        depth: usize,
+    ) -> Result<Value<'a>, Fault> {
+        let mut arcs = Vec::new(self.alloc);
+        for item in values {
+            for value in &item.values {
+                let arc = Written {
+                    scope: written.scope,
+                    value,
+                };
+                self.add_arc(&mut arcs, base, arc, depth)?;
+            }
+        }
+        Ok(Value::ObjectIdentifier(arcs))
+    }
+
+    // Adds an arc, or those of another object identifier.
+    #[cycle(values)]
+    fn add_arc(
+        &mut self,
+        arcs: &mut Vec<u32>,
+        base: Governed<'a>,
+        written: Written<'a>,
+        depth: usize,
+    ) -> Result<(), Fault> {
+        match &written.value.kind {
+            ValueKind::Reference(reference) => {
+                let name = written.scope.octets(reference.name);
+                if let Some(number) = standard_arc(arcs.as_slice(), name) {
+                    arcs.push(number)?;
+                    return Ok(());
+                }
+                let (governed, referenced) = self.find_value(written.scope, reference)?;
+                let value = self.value(governed, referenced, depth)?;
+                self.add_referenced(arcs, written, reference.name, value)
+            }
+            ValueKind::Number(number) => {
+                let number = self.number(written.scope, number)?;
+                self.push_arc(arcs, written, number)
+            }
+            ValueKind::Arc(_, number) => {
+                let number = self.number_name(written.scope, *number, depth)?;
+                self.push_arc(arcs, written, number)
+            }
+            _ => Err(self.refuse_kind(base, written)),
+        }
+    }
+
+    // The bits with these names.
+    #[cycle(values)]
+    fn bits_value(
+        &mut self,
+        bits_scope: Scope<'a>,
+        bits: &'a [NamedNumber],
+        written: Written<'a>,
+        values: &'a [ListItem],
+        depth: usize,
+    ) -> Result<Value<'a>, Fault> {
+        let mut numbers = Vec::new(self.alloc);
+        for item in values {
+            let bit = self.single_value(written.scope, item)?;
+            let number = self.find_bit(bits_scope, bits, bit)?;
+            let number = self.number_name(bits_scope, number, depth)?;
+            numbers.push(number)?;
+        }
+        self.bits_of_numbers(written, numbers.as_slice())
+    }
+}
+
+// The items of a SEQUENCE or a SET, with their module.
+#[derive(Clone, Copy)]
+struct Items<'a> {
+    scope: Scope<'a>,
+    items: &'a [ComponentItem],
+    construct: Construct,
+}
+
+impl<'a> Items<'a> {
+    fn new(scope: Scope<'a>, items: &'a [ComponentItem], construct: Construct) -> Items<'a> {
+        Items {
+            scope,
+            items,
+            construct,
+        }
+    }
+}
