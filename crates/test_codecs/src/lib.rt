@@ -13,7 +13,7 @@
 //! | `der_decoder` | the order of a SET's elements, presence by the next tag, and long contents |
 //! | `normal_forms` | elements of BER, and their normal forms |
 //! | `big_types` | types of many components, through DER |
-//! | `price` | the first type of docs/USING.md, through packed bytes and DER |
+//! | `price` | the first type of docs/TYPES.md, through packed bytes and DER |
 #![tactic(auto)]
 
 #[cfg(test)]

@@ -1,4 +1,4 @@
-//! The first type of docs/USING.md, through packed bytes and DER.
+//! The first type of docs/TYPES.md, through packed bytes and DER.
 use asn1_bench::BenchRules;
 use asn1_der::DerRules;
 use asn1_schema::{Rules, round_trip};
