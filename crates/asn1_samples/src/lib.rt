@@ -43,8 +43,7 @@
 //!   children (`node_has_its_records`), and how deep they are nested (`node_is_two_higher_than_its_children`).
 //!
 //! A call allocates only for a codec, for the values that are read, for the alphabet of a `Plate` and for the table of a `Shape`.
-//! CHOICE types that hold themselves are in the crate `asn1_recursive`. `docs/TYPES.md` explains how such types are written, and
-//! quotes `Notice`, and `Contact` and `Profile` for groups.
+//! CHOICE types that hold themselves are in the crate `asn1_recursive`. `docs/TYPES.md` explains how such types are written.
 #![tactic(auto, using(asn1_tags::proofs::Leaves::tree_shapes))]
 
 mod badge;
