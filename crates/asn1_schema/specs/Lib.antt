@@ -6,6 +6,7 @@ pub use Rattle.asn1_laws.specs as codec_laws
 pub use Rattle.asn1_components.specs as components
 pub use Rattle.asn1_fields.specs as fields
 pub use Rattle.asn1_model.specs as model
+pub use Rattle.asn1_nesting.specs as nesting
 pub use Rattle.asn1_open.specs as open_values
 pub use Rattle.asn1_ranges.specs as ranges
 pub use Rattle.asn1_rules.specs as rules

@@ -28,6 +28,7 @@ pub use Rattle.asn1_types.specs.Words.{unconstrained, values_of, size_of, charac
 -- a CHOICE that holds itself
 pub use Rattle.asn1_components.specs.Alternatives.{Alternatives, OneOf, MeansTheSame, ValueMeaning, all_of, chosen_meaning, means_itself, value_meaning}
 pub use Rattle.asn1_components.specs.ChoiceTypes.{alternatives_with_itself, choice_holding_itself, inside_itself, itself_agrees, itself_under, table_with_itself}
+pub use Rattle.asn1_nesting.specs.InsideItself.{eq_in_box, in_box, its_cases, itself_inside}
 pub use Rattle.asn1_components.specs.UntaggedItself.{MeaningWithin, alternatives_with_untagged_itself, choice_holding_untagged_itself, trees_with_itself, untagged_inside_itself}
 -- the proof of a reader: the components that are read in their order, and the parts of a SET
 pub use Rattle.asn1_components.specs.Components.{all_components}

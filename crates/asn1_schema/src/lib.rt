@@ -11,7 +11,7 @@
 //! An author of types names this crate alone in crates.txt; a clause with the meaning of a CHOICE, by its type, needs `asn1_tags`
 //! too. The crate re-exports each public name of the crates below, but the macro `tag!` of `asn1_tags`. It also re-exports each
 //! crate under one name: `values`, `tags`, `ranges`, `bounds`, `model`, `fields`,
-//! `components`, `types`, `codec_laws`, `enc`, `dec`, `slots`, `open_values` and `rules`. The definitions have the same names in
+//! `components`, `types`, `codec_laws`, `enc`, `dec`, `slots`, `nesting`, `open_values` and `rules`. The definitions have the same names in
 //! `specs/Lib.antt`, and the lemmas have theirs in `proofs/Lib.antt`, as `law_lemmas`. `laws` has the laws of this crate itself.
 //! `Rattle.asn1_schema.specs.Words` has the words for the meaning of a type. `asn1_user_types` has types of each kind that name this
 //! crate alone.
@@ -52,6 +52,11 @@ pub use asn1_fields as fields;
 pub use asn1_laws as codec_laws;
 pub use asn1_laws::Side;
 pub use asn1_model as model;
+pub use asn1_nesting as nesting;
+pub use asn1_nesting::HoldsItself;
+pub use asn1_nesting::boxed;
+pub use asn1_nesting::close_choice;
+pub use asn1_nesting::open_choice_at;
 pub use asn1_open as open_values;
 pub use asn1_open::Open;
 pub use asn1_open::an_instance_is_three_deeper_than_its_value;
