@@ -1,0 +1,46 @@
+//! Types of components with the first tags of each.
+use asn1_clash::FlatComponent;
+use asn1_names::Place;
+use std::alloc::Global;
+
+/// The kinds of types of components.
+#[derive(Clone, Copy, Debug, PartialEq, Eq)]
+pub enum ConstructedKind {
+    /// A SEQUENCE, or the components in version brackets.
+    Sequence,
+    /// A SET.
+    Set,
+    /// A CHOICE.
+    Choice,
+}
+
+/// A type of components, or those in version brackets.
+#[derive(Drop)]
+pub struct Constructed<'a> {
+    /// The kind.
+    pub kind: ConstructedKind,
+    /// The names of the components.
+    pub names: Vec<ComponentName<'a>>,
+    /// The components, in the order of their names: whether each may be absent, and its first tags.
+    pub components: Vec<FlatComponent>,
+}
+
+/// The name of a component, or of the first one in version brackets.
+#[derive(Clone, Copy, Debug)]
+pub struct ComponentName<'a> {
+    /// The name.
+    pub name: &'a [u8],
+    /// The place of the name.
+    pub place: Place,
+}
+
+impl<'a> Constructed<'a> {
+    /// A type with no components yet.
+    pub(crate) fn new(alloc: Global, kind: ConstructedKind) -> Constructed<'a> {
+        Constructed {
+            kind,
+            names: Vec::new(alloc),
+            components: Vec::new(alloc),
+        }
+    }
+}

@@ -1,0 +1,99 @@
+//! The tags with which values of a type begin.
+use crate::universal::universal_tag;
+use asn1_clash::FlatTree;
+use asn1_notation::TagClass;
+use asn1_resolved::{Alternative, Schema, Type, TypeKind};
+use asn1_tags::{Class, Tag};
+use std::alloc::{AllocError, Global};
+
+// How many tags a type may begin with. One with more is seen as one that begins with any.
+const MAX_TAGS: usize = 100_000;
+
+/// The tags with which values of a type begin.
+pub(crate) fn first_tags(
+    alloc: Global,
+    schema: &Schema<'_>,
+    definition: &Type<'_>,
+) -> Result<FlatTree, AllocError> {
+    let mut tree = FlatTree::new(alloc);
+    add_first_tags(&mut tree, schema, definition, most_steps(schema))?;
+    Ok(tree)
+}
+
+// How many references and alternatives may lead from a type to a tag.
+fn most_steps(schema: &Schema<'_>) -> usize {
+    schema.types.len().saturating_mul(2).saturating_add(200)
+}
+
+/// Adds the tags with which values of a type begin. One that leads to no tag begins with any.
+#[cycle(first_tags)]
+pub(crate) fn add_first_tags(
+    tree: &mut FlatTree,
+    schema: &Schema<'_>,
+    definition: &Type<'_>,
+    depth: usize,
+) -> Result<(), AllocError> {
+    let Some(depth) = depth.checked_sub(1) else {
+        tree.add_empty_choice();
+        return Ok(());
+    };
+    if tree.has_empty_choice || MAX_TAGS < tree.tags.len() {
+        tree.add_empty_choice();
+        return Ok(());
+    }
+    match &definition.kind {
+        TypeKind::Reference(index) => match schema.types.get(*index) {
+            Some(referenced) => add_first_tags(tree, schema, &referenced.definition, depth),
+            None => {
+                tree.add_empty_choice();
+                Ok(())
+            }
+        },
+        TypeKind::Choice(alternatives) => {
+            add_alternatives(tree, schema, alternatives.root.as_slice(), depth)?;
+            add_alternatives(tree, schema, alternatives.additions.as_slice(), depth)
+        }
+        kind => add_own_tag(tree, kind),
+    }
+}
+
+// Adds the tags with which alternatives begin.
+#[cycle(first_tags)]
+fn add_alternatives(
+    tree: &mut FlatTree,
+    schema: &Schema<'_>,
+    alternatives: &[Alternative<'_>],
+    depth: usize,
+) -> Result<(), AllocError> {
+    for alternative in alternatives {
+        add_first_tags(tree, schema, &alternative.definition, depth)?;
+    }
+    Ok(())
+}
+
+// Adds the tag of a type that has one. An open type begins with any.
+fn add_own_tag(tree: &mut FlatTree, kind: &TypeKind<'_>) -> Result<(), AllocError> {
+    match kind {
+        TypeKind::Tagged(tag, _) => tree.push(Tag {
+            class: class_of(tag.class),
+            value: tag.number,
+        }),
+        kind => match universal_tag(kind) {
+            Some(tag) => tree.push(tag),
+            None => {
+                tree.add_empty_choice();
+                Ok(())
+            }
+        },
+    }
+}
+
+// The class of a tag.
+fn class_of(class: TagClass) -> Class {
+    match class {
+        TagClass::Universal => Class::Universal,
+        TagClass::Application => Class::Application,
+        TagClass::Context => Class::Context,
+        TagClass::Private => Class::Private,
+    }
+}
