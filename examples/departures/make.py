@@ -112,7 +112,8 @@ NAMED_BITS = "a list of named bits ends with a zero (X.690, 11.2.2)"
 UNUSED_BIT = "an unused bit of a bit string is not zero (X.690, 11.2.1)"
 SET = "the elements of a set are not in ascending order (X.690, 10.3 and 11.6)"
 PARTS = "a string is in the constructed form (X.690, 10.2)"
-TIME = "a UTCTime is not in the form of DER (X.690, 11.8)"
+UTC_TIME = "a UTCTime is not in the form of DER (X.690, 11.8)"
+GENERALIZED_TIME = "a GeneralizedTime is not in the form of DER (X.690, 11.7)"
 
 
 def long_length_outside():
@@ -231,7 +232,21 @@ def time_without_seconds():
     made = Certificate("leaf-ec")
     time = made.validity.contents[0]
     time.contents = time.contents[:-3] + b"Z"
-    return made, TIME, made.contents(time)
+    return made, UTC_TIME, made.contents(time)
+
+
+def midnight_as_24_hours():
+    made = Certificate("leaf-ec")
+    time = made.validity.contents[0]
+    time.contents = time.contents[:6] + b"240000Z"
+    return made, UTC_TIME, made.contents(time)
+
+
+def midnight_as_24_hours_by_century():
+    made = Certificate("leaf-ec")
+    time = made.validity.contents[1]
+    time.first, time.contents = 0x18, b"20260601240000Z"
+    return made, GENERALIZED_TIME, made.contents(time)
 
 
 def pem(octets):
@@ -259,6 +274,8 @@ MADE = {
     "unsorted-set": (unsorted_set, False),
     "octets-in-parts": (octets_in_parts, False),
     "time-without-seconds": (time_without_seconds, True),
+    "midnight-as-24-hours": (midnight_as_24_hours, True),
+    "midnight-as-24-hours-by-century": (midnight_as_24_hours_by_century, True),
 }
 
 
@@ -288,7 +305,7 @@ def main():
     (HERE / "cut-off.der").write_bytes(ours[:100])
     answers.append("cut-off.der: error: no certificate: byte 0 of its DER begins no element (more input is needed)")
     (HERE / "neither.txt").write_text("This is no certificate.\n")
-    neither = "no SEQUENCE begins it, and there is no line -----BEGIN CERTIFICATE-----"
+    neither = "no SEQUENCE begins it, and it is no text with a line -----BEGIN CERTIFICATE-----"
     answers.append(f"neither.txt: error: neither DER nor PEM: {neither}")
     (HERE / "answers.txt").write_text("\n".join(answers) + "\n")
 

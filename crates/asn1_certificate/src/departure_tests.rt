@@ -67,13 +67,15 @@ fn times_have_seconds_and_no_zeros(rt: HostRuntime) {
     assert_broken(&rt, b"\x17\x0b2506011200Z", Rule::UtcTime, 2);
     assert_broken(&rt, b"\x17\x11250601120000+0000", Rule::UtcTime, 2);
     assert_kept(&rt, Part::Other, b"\x17\x0d250601120000Z");
+    assert_broken(&rt, b"\x17\x0d250601240000Z", Rule::UtcTime, 2);
+    assert_broken(&rt, b"\x18\x0f20250601240000Z", Rule::GeneralizedTime, 2);
     assert_broken(&rt, b"\x18\x0e20250601120000", Rule::GeneralizedTime, 2);
     assert_broken(&rt, b"\x18\x1220250601120000.50Z", Rule::GeneralizedTime, 2);
     assert_broken(&rt, b"\x18\x1020250601120000.Z", Rule::GeneralizedTime, 2);
     assert_kept(
         &rt,
         Part::Other,
-        b"\x18\x1120250601120000.5Z\x18\x0f20250601120000Z",
+        b"\x18\x1120250601120000.5Z\x18\x0f20250601000000Z",
     );
 }
 

@@ -14,8 +14,8 @@
 //!
 //! The program ends with 0 if each certificate was shown, with 1 if an input or a certificate was refused, and with 2 if the arguments
 //! are none of these, a file was not read, memory ran out, or reading or writing failed; the reasons are on standard error. The
-//! contract of `run` of `asn1_certificate_input` covers the output of one input, and the statuses 0 and 1. The stored run shows a
-//! certificate.
+//! contract of `run` of `asn1_certificate_input` covers the output of one input, and the statuses 0 and 1. The stored run shows the
+//! certificates of standard input and of a PEM with `--strict`, and refuses one that departs from DER, so its status is 1.
 #![tactic(auto)]
 
 mod arguments;

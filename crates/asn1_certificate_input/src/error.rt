@@ -15,7 +15,7 @@ use thiserror::Error;
 #[derive(Clone, Copy, Debug, Drop, Error)]
 pub enum InputError {
     /// The input is no DER and no text with a certificate.
-    #[error("neither DER nor PEM: no SEQUENCE begins it, and there is no line -----BEGIN CERTIFICATE-----")]
+    #[error("neither DER nor PEM: no SEQUENCE begins it, and it is no text with a line -----BEGIN CERTIFICATE-----")]
     Neither,
     /// The input is a text, and this certificate of it has no octets.
     #[error("no certificate: {0}")]

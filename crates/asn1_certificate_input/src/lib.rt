@@ -19,9 +19,9 @@
 //!   `specs/Inputs.antt`).
 //! - A certificate is shown as its lines or its DER (`IsShown` of `specs/Shown.antt`): its octets are read as the valid certificate
 //!   whose DER they are, if there is one (`IsReadOf` of `specs/Certificates.antt`).
-//! - With `is_strict` the octets of each certificate that is shown are the very octets that writing a certificate makes (`canonical` of
-//!   `IsShown`). Without, no departure is answered only of such octets, and a departure that is answered is one: the octets break
-//!   this rule at this position, or differ there from what is written (`AnswersDeparture` of `specs/Departures.antt`).
+//! - If no departure is answered of a certificate that is shown, its octets are the very octets that writing the certificate makes. A
+//!   departure that is answered is one: the octets break this rule at this position, or differ there from what is written (`departs`
+//!   of `IsShown`, by `AnswersDeparture` of `specs/Departures.antt`). With `is_strict` none is answered (`strict`).
 //! - An error is a true reason for which a certificate or an input is refused (`IsRefusalOf` and `IsRefusalOfInput` of
 //!   `specs/Refused.antt`). For a value in a name, and for parameters, its position is the one to which their path leads in the octets
 //!   (`specs/Positions.antt`).

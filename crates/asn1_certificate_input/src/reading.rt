@@ -96,8 +96,8 @@ fn refusal(alloc: Global, octets: &[u8], error: DecodeError) -> InputError
     }
 }
 
-/// The first rule of DER that octets break, if its position is before this one. It is the reason for which they are not read, unless it
-/// is of a time, whose form is not looked at in reading.
+/// The first rule of DER that octets break, if its position is before this one. There is none if that rule is one on times, whose form
+/// reading does not look at, also if octets behind the time break another.
 fn departure_before(octets: &[u8], end: usize) -> Option<Departure>
     ensures { IfSome result (λ d. Departs 64 Part.Other octets.now d.rule d.position) }
 {

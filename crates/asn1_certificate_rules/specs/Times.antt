@@ -18,10 +18,16 @@ abbrev pub is_fraction : List ℕ → Bool
 is_fraction [] = false
 is_fraction (o ∷ octets) = o == 46 && are_fraction_digits 48 octets
 
--- the octets are YYMMDDHHMMSSZ: twelve digits and Z
-abbrev pub is_utc_time : List ℕ → Bool
-is_utc_time octets = list_all is_ascii_digit (take 12 octets) && is_zone (drop 12 octets)
+-- The hours with which digits begin are 24, as midnight may be written in BER: in DER it is 000000 (11.7.5 and 11.8.3).
+abbrev pub are_hours_24 : List ℕ → Bool
+are_hours_24 (tens ∷ ones ∷ digits) = tens == 50 && ones == 52
+are_hours_24 _ = false
 
--- the octets are YYYYMMDDHHMMSSZ: fourteen digits, a fraction of seconds or none, and Z
+-- the octets are YYMMDDHHMMSSZ: twelve digits, whose hours are not 24, and Z
+abbrev pub is_utc_time : List ℕ → Bool
+is_utc_time octets = list_all is_ascii_digit (take 12 octets) && not (are_hours_24 (drop 6 (take 12 octets))) && is_zone (drop 12 octets)
+
+-- the octets are YYYYMMDDHHMMSSZ: fourteen digits, whose hours are not 24, a fraction of seconds or none, and Z
 abbrev pub is_generalized_time : List ℕ → Bool
-is_generalized_time octets = list_all is_ascii_digit (take 14 octets) && (is_zone (drop 14 octets) || is_fraction (drop 14 octets))
+is_generalized_time octets =
+    list_all is_ascii_digit (take 14 octets) && not (are_hours_24 (drop 8 (take 14 octets))) && (is_zone (drop 14 octets) || is_fraction (drop 14 octets))

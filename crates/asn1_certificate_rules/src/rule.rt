@@ -37,10 +37,10 @@ pub enum Rule {
     /// The components of a SET are in ascending order by their tags (10.3), and the elements of a SET OF by their encodings (11.6).
     #[error("the elements of a set are not in ascending order (X.690, 10.3 and 11.6)")]
     SetOrder,
-    /// A GeneralizedTime has seconds, a fraction without trailing zeros or none, and Z (11.7).
+    /// A GeneralizedTime has seconds, a fraction without trailing zeros or none, and Z, and its hours are not 24 (11.7).
     #[error("a GeneralizedTime is not in the form of DER (X.690, 11.7)")]
     GeneralizedTime,
-    /// A UTCTime has seconds and Z (11.8).
+    /// A UTCTime has seconds and Z, and its hours are not 24 (11.8).
     #[error("a UTCTime is not in the form of DER (X.690, 11.8)")]
     UtcTime,
 }
