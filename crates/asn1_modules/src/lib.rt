@@ -16,8 +16,6 @@ mod collector;
 mod messages;
 mod modules;
 mod source;
-#[cfg(test)]
-mod tests;
 mod types;
 mod values;
 
