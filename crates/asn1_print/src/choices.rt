@@ -1,0 +1,75 @@
+//! The alternatives of CHOICE types.
+use crate::components::tree_of;
+use crate::plan::Plan;
+use crate::types::PartTexts;
+use asn1_names::Place;
+use asn1_resolved::{Alternative, Alternatives};
+use asn1_rust_code::{Tagging, TypeName};
+use asn1_rust_components::ChoiceType;
+use asn1_rust_names::{TakenNames, camel_case};
+use std::alloc::AllocError;
+
+/// A CHOICE of alternatives that were lowered.
+pub(crate) fn choice_with(
+    plan: &mut Plan<'_>,
+    alternatives: &Alternatives<'_>,
+    lowered: Vec<asn1_rust_components::Alternative>,
+    place: Place,
+) -> Result<ChoiceType, AllocError> {
+    if alternatives.root.is_empty() {
+        plan.error(
+            place,
+            "a CHOICE without an alternative in its root is not supported",
+        )?;
+    }
+    Ok(ChoiceType {
+        crate_name: plan.text(plan.request.crate_name)?,
+        alternatives: lowered,
+        extension_index: if alternatives.is_extensible {
+            Some(alternatives.root.len())
+        } else {
+            None
+        },
+    })
+}
+
+/// An alternative whose type has this name.
+pub(crate) fn alternative_with(
+    plan: &mut Plan<'_>,
+    alternative: &Alternative<'_>,
+    texts: PartTexts,
+    tagging: Tagging,
+    definition: TypeName,
+    variants: &mut TakenNames,
+) -> Result<asn1_rust_components::Alternative, AllocError> {
+    let alloc = plan.alloc;
+    let tree = tree_of(
+        plan,
+        &alternative.definition,
+        &definition,
+        alternative.place,
+    )?;
+    let camel = camel_case(alloc, alternative.name)?;
+    let shown = texts.notation.as_str();
+    let notation = format!(in alloc; "`{shown}`")?;
+    Ok(asn1_rust_components::Alternative {
+        name: plan.text(texts.name.as_str())?,
+        variant: variants.take(variant_name(camel.as_str()))?,
+        notation,
+        definition,
+        tagging,
+        tree,
+    })
+}
+
+/// The name of a variant: another, if it is a word of clauses.
+pub(crate) fn variant_name(name: &str) -> &str {
+    match name.as_bytes() {
+        b"Type" => "TypeItem",
+        b"Some" => "SomeItem",
+        b"None" => "NoneItem",
+        b"Ok" => "OkItem",
+        b"Err" => "ErrItem",
+        _ => name,
+    }
+}

@@ -1,0 +1,238 @@
+//! The components of SEQUENCE and SET types.
+use crate::defaults::default_of;
+use crate::notation::component_text;
+use crate::plan::Plan;
+use crate::tags::{Beginning, first_tags, least_rank, universal};
+use crate::types::PartTexts;
+use asn1_names::Place;
+use asn1_resolved::{Component, Components, Type, Usage};
+use asn1_rust_code::{Import, TagNumber, Tagging, TypeName};
+use asn1_rust_components::{Constructed, Tree};
+use asn1_rust_names::{TakenNames, snake_case};
+use std::alloc::{AllocError, Global};
+
+/// The greatest number of components of a type.
+const MOST: usize = 144;
+
+/// The number of references that are followed from a type.
+pub(crate) fn steps_of(plan: &Plan<'_>) -> usize {
+    plan.request.schema.types.len().saturating_add(64)
+}
+
+// The indices of components, those with a lesser rank first.
+fn order_of(plan: &Plan<'_>, ranks: &[u64]) -> Result<Vec<usize>, AllocError> {
+    let mut order: Vec<(u64, usize)> = Vec::new(plan.alloc);
+    for (index, rank) in ranks.iter().enumerate() {
+        order.push((*rank, index))?;
+    }
+    order.sort()?;
+    let mut indices = Vec::new(plan.alloc);
+    for (_, index) in &order {
+        indices.push(*index)?;
+    }
+    Ok(indices)
+}
+
+/// A SEQUENCE or a SET of components that were lowered.
+pub(crate) fn constructed_with(
+    plan: &mut Plan<'_>,
+    components: &Components<'_>,
+    lowered: Vec<asn1_rust_components::Component>,
+    tag: Option<TagNumber>,
+    is_set: bool,
+) -> Result<Constructed, AllocError> {
+    if let (true, Some(first)) = (lowered.len() > MOST, components.root.as_slice().first()) {
+        plan.error(
+            first.place,
+            "a type of more than 144 components is not supported",
+        )?;
+    }
+    let table = if is_set {
+        table_of(plan, components)?
+    } else {
+        Vec::new(plan.alloc)
+    };
+    Ok(Constructed {
+        tag,
+        components: lowered,
+        extension_index: if components.is_extensible {
+            Some(components.root.len())
+        } else {
+            None
+        },
+        table,
+        trees: Vec::new(plan.alloc),
+    })
+}
+
+// The indices of the components of a SET, in the order of their tags.
+fn table_of(plan: &Plan<'_>, components: &Components<'_>) -> Result<Vec<usize>, AllocError> {
+    let mut ranks = Vec::new(plan.alloc);
+    for component in &components.root {
+        let rank = least_rank(plan.alloc, plan.request.schema, &component.definition)?;
+        ranks.push(rank)?;
+    }
+    order_of(plan, ranks.as_slice())
+}
+
+/// A group of components that were lowered.
+pub(crate) fn group_with(
+    alloc: Global,
+    components: Vec<asn1_rust_components::Component>,
+    trees: Vec<Tree>,
+) -> Constructed {
+    Constructed {
+        tag: None,
+        components,
+        extension_index: None,
+        table: Vec::new(alloc),
+        trees,
+    }
+}
+
+/// A component whose type has this name.
+pub(crate) fn component_with(
+    plan: &mut Plan<'_>,
+    component: &Component<'_>,
+    texts: PartTexts,
+    tagging: Tagging,
+    definition: TypeName,
+    fields: &mut TakenNames,
+    is_addition: bool,
+) -> Result<asn1_rust_components::Component, AllocError> {
+    let alloc = plan.alloc;
+    let snake = snake_case(alloc, component.name)?;
+    let usage = usage_of(plan, component, &definition, is_addition)?;
+    let shown = texts.notation.as_str();
+    let notation = format!(in alloc; "`{shown}`")?;
+    Ok(asn1_rust_components::Component {
+        name: plan.text(texts.name.as_str())?,
+        field: fields.take(snake.as_str())?,
+        notation,
+        definition,
+        tagging,
+        usage,
+        is_addition,
+    })
+}
+
+// Whether a component may be absent in Rust.
+fn usage_of(
+    plan: &mut Plan<'_>,
+    component: &Component<'_>,
+    name: &TypeName,
+    is_addition: bool,
+) -> Result<asn1_rust_components::Usage, AllocError> {
+    match &component.usage {
+        Usage::Required => {
+            if is_addition {
+                Ok(asn1_rust_components::Usage::Optional)
+            } else {
+                Ok(asn1_rust_components::Usage::Required)
+            }
+        }
+        Usage::Optional => Ok(asn1_rust_components::Usage::Optional),
+        Usage::Default(value) => {
+            let place = component.place;
+            default_of(plan, value, &component.definition, name, place, is_addition)
+        }
+    }
+}
+
+/// The component that is the group of a module.
+pub(crate) fn group_component(
+    plan: &Plan<'_>,
+    module: &str,
+    name: &str,
+    summary: String,
+    fields: &mut TakenNames,
+) -> Result<asn1_rust_components::Component, AllocError> {
+    let field = fields.take("additions")?;
+    let constant = constant_name(plan, module)?;
+    let mut definition = plan.local_type(module, name)?;
+    let trees = plan.local_type(module, constant.as_str())?;
+    for import in &trees.imports {
+        definition.imports.push(import.copy(plan.alloc)?)?;
+    }
+    Ok(asn1_rust_components::Component {
+        name: plan.text(field.as_str())?,
+        field,
+        notation: summary,
+        definition,
+        tagging: Tagging::Untagged,
+        usage: asn1_rust_components::Usage::Group(constant),
+        is_addition: true,
+    })
+}
+
+/// The definition of a group in ASN.1.
+pub(crate) fn group_text(plan: &Plan<'_>, group: &[Component<'_>]) -> Result<String, AllocError> {
+    let mut text = plan.text("[[ ")?;
+    for (index, component) in group.iter().enumerate() {
+        if index != 0 {
+            text.push_str(", ")?;
+        }
+        let part = component_text(plan.alloc, plan.request.sources, component.place)?;
+        text.push_str(part.as_str())?;
+    }
+    text.push_str(" ]]")?;
+    Ok(text)
+}
+
+// The constant with the trees of the type of a module.
+fn constant_name(plan: &Plan<'_>, module: &str) -> Result<String, AllocError> {
+    let mut constant = String::new(plan.alloc);
+    for octet in module.as_bytes() {
+        constant.push(char::from(octet.to_ascii_uppercase()))?;
+    }
+    Ok(constant)
+}
+
+/// The trees of tags of a type, of which code has this name.
+pub(crate) fn tree_of(
+    plan: &mut Plan<'_>,
+    definition: &Type<'_>,
+    name: &TypeName,
+    place: Place,
+) -> Result<Tree, AllocError> {
+    let steps = steps_of(plan);
+    match first_tags(plan.request.schema, definition, steps) {
+        Beginning::Leaf(tag) => Ok(Tree::Leaf(tag)),
+        Beginning::Choice(index) => {
+            let module = match plan.types.get(index) {
+                Some(planned) if planned.external.is_none() => plan.text(planned.module.as_str())?,
+                _ => {
+                    plan.error(
+                        place,
+                        "a CHOICE of another crate has no tag of its own here",
+                    )?;
+                    plan.text("aliases")?
+                }
+            };
+            choice_tree(plan, module.as_str())
+        }
+        Beginning::Inline => {
+            let mut module = plan.text("aliases")?;
+            if let Some(import) = name.imports.as_slice().first() {
+                module = plan.text(import.path.as_str().trim_start_matches("crate::"))?;
+            }
+            choice_tree(plan, module.as_str())
+        }
+        Beginning::Any => {
+            plan.error(
+                place,
+                "an open type has no tag by which it is told from others",
+            )?;
+            Ok(Tree::Leaf(universal(0)))
+        }
+    }
+}
+
+// The trees of the CHOICE of a module.
+fn choice_tree(plan: &Plan<'_>, module: &str) -> Result<Tree, AllocError> {
+    Ok(Tree::Choice(Import {
+        is_foreign: false,
+        path: format!(in plan.alloc; "crate::{module}")?,
+        name: constant_name(plan, module)?,
+    }))
+}

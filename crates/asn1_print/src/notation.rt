@@ -1,0 +1,246 @@
+//! The text of definitions, as comments have it.
+use asn1_modules::Source;
+use asn1_names::Place;
+use asn1_notation::{
+    Assignment, Component, ComponentItem, Definition, Module, Type, TypeKind, Usage,
+};
+use asn1_notation_text::{Printer, print_type, print_value};
+use std::alloc::{AllocError, Global};
+
+/// The greatest number of octets of a definition in one line.
+const WIDTH: usize = 100;
+
+/// Appends octets. One that is not of ASCII becomes a question mark.
+pub(crate) fn push_octets(text: &mut String, octets: &[u8]) -> Result<(), AllocError> {
+    for octet in octets {
+        let is_shown = octet.is_ascii_graphic() || *octet == b' ';
+        text.push(if is_shown { char::from(*octet) } else { '?' })?;
+    }
+    Ok(())
+}
+
+/// Octets as a text.
+pub(crate) fn text_of(alloc: Global, octets: &[u8]) -> Result<String, AllocError> {
+    let mut text = String::new(alloc);
+    push_octets(&mut text, octets)?;
+    Ok(text)
+}
+
+// The text of a type.
+fn type_text(alloc: Global, source: &[u8], definition: &Type) -> Result<String, AllocError> {
+    let mut printer = Printer::new(alloc, source);
+    print_type(&mut printer, definition)?;
+    let octets = printer.into_text();
+    text_of(alloc, octets.as_slice())
+}
+
+/// The text of an assignment.
+pub(crate) fn assignment_text(
+    alloc: Global,
+    source: &[u8],
+    assignment: &Assignment,
+) -> Result<String, AllocError> {
+    let name = text_of(alloc, assignment.name.octets(source))?;
+    let name = name.as_str();
+    match &assignment.definition {
+        Definition::Type(definition) => {
+            let text = type_text(alloc, source, definition)?;
+            let text = text.as_str();
+            format!(in alloc; "{name} ::= {text}")
+        }
+        Definition::Value(definition, value) => {
+            let text = type_text(alloc, source, definition)?;
+            let text = text.as_str();
+            let mut printer = Printer::new(alloc, source);
+            print_value(&mut printer, value)?;
+            let octets = printer.into_text();
+            let value = text_of(alloc, octets.as_slice())?;
+            let value = value.as_str();
+            format!(in alloc; "{name} {text} ::= {value}")
+        }
+    }
+}
+
+// The text of a component.
+fn text_of_component(
+    alloc: Global,
+    source: &[u8],
+    component: &Component,
+) -> Result<String, AllocError> {
+    let mut text = text_of(alloc, component.name.octets(source))?;
+    text.push_str(" ")?;
+    let definition = type_text(alloc, source, &component.definition)?;
+    text.push_str(definition.as_str())?;
+    match &component.usage {
+        Usage::Required => {}
+        Usage::Optional => text.push_str(" OPTIONAL")?,
+        Usage::Default(value) => {
+            text.push_str(" DEFAULT ")?;
+            let mut printer = Printer::new(alloc, source);
+            print_value(&mut printer, value)?;
+            let octets = printer.into_text();
+            push_octets(&mut text, octets.as_slice())?;
+        }
+    }
+    Ok(text)
+}
+
+/// The text of the component or the alternative whose name is at a place.
+pub(crate) fn component_text(
+    alloc: Global,
+    sources: &[Source<'_>],
+    place: Place,
+) -> Result<String, AllocError> {
+    let mut text = String::new(alloc);
+    if let Some(source) = sources.get(place.text) {
+        let start = place.span.start;
+        push_in_modules(alloc, &mut text, source.text, source.modules, start)?;
+    }
+    Ok(text)
+}
+
+// Appends the text of the component in modules whose name is at an offset.
+fn push_in_modules(
+    alloc: Global,
+    text: &mut String,
+    source: &[u8],
+    modules: &[Module],
+    start: usize,
+) -> Result<(), AllocError> {
+    for module in modules {
+        push_in_assignments(alloc, text, source, module.assignments.as_slice(), start)?;
+    }
+    Ok(())
+}
+
+// Appends the text of the component in definitions whose name is at an offset.
+fn push_in_assignments(
+    alloc: Global,
+    text: &mut String,
+    source: &[u8],
+    assignments: &[Assignment],
+    start: usize,
+) -> Result<(), AllocError> {
+    for assignment in assignments {
+        if let Definition::Type(definition) = &assignment.definition {
+            push_found(alloc, text, source, definition, start)?;
+        }
+    }
+    Ok(())
+}
+
+// Appends the text of the component in a type whose name is at an offset.
+#[cycle(find)]
+fn push_found(
+    alloc: Global,
+    text: &mut String,
+    source: &[u8],
+    definition: &Type,
+    start: usize,
+) -> Result<(), AllocError> {
+    match &definition.kind {
+        TypeKind::Sequence(items) => push_item(alloc, text, source, items.as_slice(), start),
+        TypeKind::Set(items) => push_item(alloc, text, source, items.as_slice(), start),
+        TypeKind::Choice(items) => push_item(alloc, text, source, items.as_slice(), start),
+        TypeKind::SequenceOf(_, element) => push_found(alloc, text, source, element, start),
+        TypeKind::SetOf(_, element) => push_found(alloc, text, source, element, start),
+        TypeKind::Tagged(_, inner) => push_found(alloc, text, source, inner, start),
+        _ => Ok(()),
+    }
+}
+
+// Appends the text of the item whose name is at an offset.
+#[cycle(find)]
+fn push_item(
+    alloc: Global,
+    text: &mut String,
+    source: &[u8],
+    items: &[ComponentItem],
+    start: usize,
+) -> Result<(), AllocError> {
+    for item in items {
+        push_one(alloc, text, source, item, start)?;
+    }
+    Ok(())
+}
+
+// Appends the text of an item, if its name or one in it is at an offset.
+#[cycle(find)]
+fn push_one(
+    alloc: Global,
+    text: &mut String,
+    source: &[u8],
+    item: &ComponentItem,
+    start: usize,
+) -> Result<(), AllocError> {
+    match item {
+        ComponentItem::Component(component) => {
+            if component.name.start == start {
+                let found = text_of_component(alloc, source, component)?;
+                return text.push_str(found.as_str());
+            }
+            push_found(alloc, text, source, &component.definition, start)
+        }
+        ComponentItem::Group(_, _, items) => {
+            push_item(alloc, text, source, items.as_slice(), start)
+        }
+        _ => Ok(()),
+    }
+}
+
+/// The lines of a comment with a definition: one line if it is short, or else one for each part in its braces.
+pub(crate) fn definition_lines(
+    alloc: Global,
+    title: &str,
+    definition: &str,
+) -> Result<Vec<String>, AllocError> {
+    let mut lines = Vec::new(alloc);
+    if definition.len() <= WIDTH {
+        lines.push(format!(in alloc; "`{definition}`")?)?;
+        return Ok(lines);
+    }
+    lines.push(String::from_str(alloc, title)?)?;
+    lines.push(String::new(alloc))?;
+    lines.push(String::from_str(alloc, "```text")?)?;
+    push_parts(alloc, &mut lines, definition)?;
+    lines.push(String::from_str(alloc, "```")?)?;
+    Ok(lines)
+}
+
+// Appends the lines of a definition: a new one behind its first brace, behind each comma in its braces, and at its last brace.
+fn push_parts(alloc: Global, lines: &mut Vec<String>, definition: &str) -> Result<(), AllocError> {
+    let mut line = String::new(alloc);
+    let mut depth = 0usize;
+    for character in definition.chars() {
+        if character == '{' {
+            depth = depth.saturating_add(1);
+        }
+        if character == '}' && depth == 1 {
+            lines.push(replace(alloc, &mut line)?)?;
+        }
+        if character == '}' {
+            depth = depth.saturating_sub(1);
+        }
+        if character != ' ' || !is_blank(line.as_str()) {
+            line.push(character)?;
+        }
+        if depth == 1 && (character == '{' || character == ',') && !is_blank(line.as_str()) {
+            lines.push(replace(alloc, &mut line)?)?;
+            line.push_str("    ")?;
+        }
+    }
+    lines.push(line)?;
+    Ok(())
+}
+
+// Whether a line has nothing but spaces.
+fn is_blank(line: &str) -> bool {
+    line.bytes().all(|octet| octet == b' ')
+}
+
+// The line without spaces at its end; it is empty afterwards.
+fn replace(alloc: Global, line: &mut String) -> Result<String, AllocError> {
+    let done = String::from_str(alloc, line.as_str().trim_end())?;
+    *line = String::new(alloc);
+    Ok(done)
+}

@@ -1,0 +1,327 @@
+//! The names of the definitions of a schema, and the files as far as they were made.
+use crate::request::{PrintedFile, Request};
+use asn1_names::Place;
+use asn1_resolved::{Problem, Severity, Type, TypeKind};
+use asn1_rust_code::{Import, TagNumber, TypeName, class_word, order_of};
+use asn1_rust_components::{Alias, Constant, Marker};
+use asn1_rust_names::{TakenNames, camel_case, snake_case};
+use asn1_rust_types::ModuleNames;
+use std::alloc::{AllocError, Global};
+
+/// The names that a file of a type imports or brings in, so that no type of a schema has one of them.
+const RESERVED: &[&str] = &[
+    "AllocError",
+    "Any",
+    "AsnType",
+    "BitString",
+    "BmpString",
+    "Box",
+    "Choice",
+    "ChoiceType",
+    "Constraints",
+    "ConstrainedInteger",
+    "ConstructedType",
+    "Debug",
+    "Decode",
+    "DecodeByIndex",
+    "DecodeChoice",
+    "DecodeChoiceByIndex",
+    "DecodeError",
+    "DecodeFields",
+    "DecodeSetByIndex",
+    "Decoded",
+    "Decoder",
+    "Drop",
+    "Encode",
+    "EncodeChoice",
+    "EncodeError",
+    "EncodeFields",
+    "Encoder",
+    "Enumerated",
+    "EnumeratedItems",
+    "EnumerationItem",
+    "Eq",
+    "Err",
+    "Explicit",
+    "Field",
+    "FieldTable",
+    "GeneralString",
+    "GeneralizedTime",
+    "Global",
+    "GraphicString",
+    "Ia5String",
+    "Identifier",
+    "Implicit",
+    "Integer",
+    "IsWellTagged",
+    "Lib",
+    "None",
+    "NumericString",
+    "ObjectDescriptor",
+    "ObjectIdentifier",
+    "OctetString",
+    "Ok",
+    "Option",
+    "PartialEq",
+    "Prim",
+    "PrintableString",
+    "Rattle",
+    "Result",
+    "SetOf",
+    "Some",
+    "String",
+    "Syntax",
+    "Tag",
+    "TagTree",
+    "Tagging",
+    "TeletexString",
+    "Type",
+    "TypeTable",
+    "UniversalString",
+    "UtcTime",
+    "Utf8String",
+    "Vec",
+    "VisibleString",
+];
+
+/// The modules that a crate has beside those of types.
+const MODULES: &[&str] = &[
+    "aliases",
+    "lib",
+    "main",
+    "tags",
+    "tests",
+    "constants",
+    "std",
+    "core",
+];
+
+/// The file of a definition, if it has one of its own, and its name in Rust.
+#[derive(Drop)]
+pub(crate) struct PlannedType {
+    /// The name in Rust.
+    pub(crate) name: String,
+    /// The module, or `aliases`.
+    pub(crate) module: String,
+    /// The place of a type that exists already, in the list of these.
+    pub(crate) external: Option<usize>,
+}
+
+/// The files of a crate, as far as they were made.
+#[derive(Drop)]
+pub(crate) struct Plan<'a> {
+    pub(crate) alloc: Global,
+    pub(crate) request: Request<'a>,
+    pub(crate) types: Vec<PlannedType>,
+    taken_names: TakenNames,
+    taken_modules: TakenNames,
+    pub(crate) files: Vec<PrintedFile>,
+    pub(crate) modules: Vec<ModuleNames>,
+    pub(crate) aliases: Vec<Alias>,
+    pub(crate) markers: Vec<Marker>,
+    pub(crate) constants: Vec<Constant>,
+    pub(crate) problems: Vec<Problem>,
+}
+
+/// Whether a type has a file of its own.
+pub(crate) fn has_file(definition: &Type<'_>) -> bool {
+    match &definition.kind {
+        TypeKind::Sequence(_) => true,
+        TypeKind::Set(_) => true,
+        TypeKind::Choice(_) => true,
+        TypeKind::Enumerated(_) => true,
+        TypeKind::Tagged(tag, inner) => !tag.is_explicit && is_constructed(&inner.kind),
+        _ => false,
+    }
+}
+
+// Whether a type is a SEQUENCE or a SET.
+fn is_constructed(kind: &TypeKind<'_>) -> bool {
+    match kind {
+        TypeKind::Sequence(_) => true,
+        TypeKind::Set(_) => true,
+        _ => false,
+    }
+}
+
+/// The plan of a schema, with the names of its types.
+pub(crate) fn plan_of(alloc: Global, request: Request<'_>) -> Result<Plan<'_>, AllocError> {
+    let mut plan = Plan {
+        alloc,
+        request,
+        types: Vec::new(alloc),
+        taken_names: TakenNames::new(alloc),
+        taken_modules: TakenNames::new(alloc),
+        files: Vec::new(alloc),
+        modules: Vec::new(alloc),
+        aliases: Vec::new(alloc),
+        markers: Vec::new(alloc),
+        constants: Vec::new(alloc),
+        problems: Vec::new(alloc),
+    };
+    for module in MODULES {
+        let _module = plan.taken_modules.take(module)?;
+    }
+    for definition in &request.schema.types {
+        let planned = plan.planned(definition.name, has_file(&definition.definition))?;
+        plan.types.push(planned)?;
+    }
+    Ok(plan)
+}
+
+impl<'a> Plan<'a> {
+    // The names of a definition.
+    fn planned(&mut self, name: &[u8], has_file: bool) -> Result<PlannedType, AllocError> {
+        let external = self
+            .request
+            .externs
+            .iter()
+            .position(|external| external.name == name);
+        if let Some(index) = external {
+            if let Some(found) = self.request.externs.get(index) {
+                return Ok(PlannedType {
+                    name: self.text(found.rust_name)?,
+                    module: self.text(found.path)?,
+                    external,
+                });
+            }
+        }
+        let camel = camel_case(self.alloc, name)?;
+        let name = self.new_name(camel.as_str())?;
+        let module = if has_file {
+            self.new_module(name.as_str())?
+        } else {
+            self.text("aliases")?
+        };
+        Ok(PlannedType {
+            name,
+            module,
+            external: None,
+        })
+    }
+
+    /// A text of its own.
+    pub(crate) fn text(&self, text: &str) -> Result<String, AllocError> {
+        String::from_str(self.alloc, text)
+    }
+
+    /// A name for a type that no other has.
+    pub(crate) fn new_name(&mut self, name: &str) -> Result<String, AllocError> {
+        if RESERVED.iter().any(|reserved| *reserved == name) {
+            let other = format!(in self.alloc; "{name}Type")?;
+            return self.taken_names.take(other.as_str());
+        }
+        self.taken_names.take(name)
+    }
+
+    /// A module for the type of this name that no other has.
+    pub(crate) fn new_module(&mut self, name: &str) -> Result<String, AllocError> {
+        let module = snake_case(self.alloc, name.as_bytes())?;
+        self.taken_modules.take(module.as_str())
+    }
+
+    /// Adds a module, with the names that the crate passes on.
+    pub(crate) fn add_module(
+        &mut self,
+        module: &str,
+        is_public: bool,
+        names: Vec<String>,
+    ) -> Result<(), AllocError> {
+        let names = ModuleNames {
+            order: order_of(self.alloc, module)?,
+            module: self.text(module)?,
+            is_public,
+            names,
+        };
+        self.modules.push(names)?;
+        Ok(())
+    }
+
+    /// Reports what cannot be printed.
+    pub(crate) fn error(&mut self, place: Place, text: &str) -> Result<(), AllocError> {
+        self.report(place, Severity::Error, text)
+    }
+
+    /// Reports what is not printed.
+    pub(crate) fn warn(&mut self, place: Place, text: &str) -> Result<(), AllocError> {
+        self.report(place, Severity::Warning, text)
+    }
+
+    fn report(&mut self, place: Place, severity: Severity, text: &str) -> Result<(), AllocError> {
+        let problem = Problem {
+            place,
+            severity,
+            text: Vec::from_slice(self.alloc, text.as_bytes())?,
+        };
+        self.problems.push(problem)?;
+        Ok(())
+    }
+
+    /// A type of the language.
+    pub(crate) fn plain_type(&self, text: &str) -> Result<TypeName, AllocError> {
+        Ok(TypeName {
+            text: self.text(text)?,
+            imports: Vec::new(self.alloc),
+        })
+    }
+
+    /// A type of the library of types.
+    pub(crate) fn library_type(&self, name: &str) -> Result<TypeName, AllocError> {
+        self.imported_type(true, "asn1_schema", name)
+    }
+
+    /// A type of a module.
+    pub(crate) fn imported_type(
+        &self,
+        is_foreign: bool,
+        path: &str,
+        name: &str,
+    ) -> Result<TypeName, AllocError> {
+        let mut imports = Vec::new(self.alloc);
+        imports.push(Import {
+            is_foreign,
+            path: self.text(path)?,
+            name: self.text(name)?,
+        })?;
+        Ok(TypeName {
+            text: self.text(name)?,
+            imports,
+        })
+    }
+
+    /// A type of a module of the crate.
+    pub(crate) fn local_type(&self, module: &str, name: &str) -> Result<TypeName, AllocError> {
+        let path = format!(in self.alloc; "crate::{module}")?;
+        self.imported_type(false, path.as_str(), name)
+    }
+
+    /// The type with an index in the schema.
+    pub(crate) fn referred_type(&self, index: usize) -> Result<TypeName, AllocError> {
+        match self.types.get(index) {
+            Some(planned) => match planned.external {
+                Some(_) => {
+                    self.imported_type(true, planned.module.as_str(), planned.name.as_str())
+                }
+                None => self.local_type(planned.module.as_str(), planned.name.as_str()),
+            },
+            None => self.plain_type("()"),
+        }
+    }
+
+    /// The type that names a tag.
+    pub(crate) fn marker_type(&mut self, tag: TagNumber) -> Result<TypeName, AllocError> {
+        for marker in &self.markers {
+            if marker.tag == tag {
+                return self.local_type("tags", marker.name.as_str());
+            }
+        }
+        let class = class_word(tag.class);
+        let number = tag.number;
+        let wanted = format!(in self.alloc; "{class}{number}")?;
+        let camel = camel_case(self.alloc, wanted.as_bytes())?;
+        let name = self.new_name(camel.as_str())?;
+        let answer = self.local_type("tags", name.as_str())?;
+        self.markers.push(Marker { name, tag })?;
+        Ok(answer)
+    }
+}

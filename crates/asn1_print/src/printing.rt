@@ -1,0 +1,227 @@
+//! A schema as the files of a crate.
+use crate::lowering::{FileNames, add_file, type_name};
+use crate::notation::text_of;
+use crate::plan::{Plan, has_file, plan_of};
+use crate::recursion::report_cycles;
+use crate::request::{Printed, PrintedFile, Request};
+use crate::types::{Owner, tag_number};
+use crate::values::{add_value, numbers_of, origin_text};
+use asn1_notation::Module;
+use asn1_resolved::{NamedNumber, Type, TypeDefinition, TypeKind};
+use asn1_rust_code::order_of;
+use asn1_rust_components::{Alias, alias_file, constant_file, marker_file};
+use asn1_rust_names::TakenNames;
+use asn1_rust_types::root_file;
+use std::alloc::{AllocError, Global};
+
+/// The files of a crate with the types of a schema, and what cannot be printed of it.
+///
+/// The error of this call is that of memory. If a problem is an error, the files are incomplete.
+pub fn print_crate(alloc: Global, request: Request<'_>) -> Result<Printed, AllocError> {
+    let mut plan = plan_of(alloc, request)?;
+    report_cycles(&mut plan)?;
+    for (index, definition) in request.schema.types.iter().enumerate() {
+        add_definition(&mut plan, index, definition)?;
+    }
+    let mut names = TakenNames::new(alloc);
+    for definition in &request.schema.values {
+        add_value(&mut plan, definition, &mut names)?;
+    }
+    add_aliases(&mut plan)?;
+    add_markers(&mut plan)?;
+    add_constants(&mut plan)?;
+    add_root(&mut plan)?;
+    let Plan {
+        files,
+        problems,
+        ..
+    } = plan;
+    Ok(Printed { files, problems })
+}
+
+// Adds a definition, unless its type exists already.
+fn add_definition(
+    plan: &mut Plan<'_>,
+    index: usize,
+    definition: &TypeDefinition<'_>,
+) -> Result<(), AllocError> {
+    let alloc = plan.alloc;
+    let (name, module) = match plan.types.get(index) {
+        Some(planned) if planned.external.is_none() => (
+            plan.text(planned.name.as_str())?,
+            plan.text(planned.module.as_str())?,
+        ),
+        _ => return Ok(()),
+    };
+    let asn1_name = text_of(alloc, definition.name)?;
+    let asn1_module = text_of(alloc, definition.module)?;
+    let notation = origin_text(plan, definition.origin)?;
+    let shown = asn1_name.as_str();
+    let shown_module = asn1_module.as_str();
+    let summary = format!(in alloc; "`{shown}` of the module `{shown_module}`.")?;
+    let content = if has_file(&definition.definition) {
+        ""
+    } else {
+        "Content"
+    };
+    let rust_name = name.as_str();
+    let inner_name = format!(in alloc; "{rust_name}{content}")?;
+    let owner = Owner {
+        name: inner_name.as_str(),
+        asn1_name: shown,
+        summary: summary.as_str(),
+        notation: notation.as_str(),
+    };
+    if !has_file(&definition.definition) {
+        return add_alias(plan, &definition.definition, name, owner);
+    }
+    let names = FileNames {
+        name: rust_name,
+        module: module.as_str(),
+        tag: None,
+    };
+    match &definition.definition.kind {
+        TypeKind::Tagged(tag, inner) => {
+            let tag = Some(tag_number(*tag));
+            add_file(plan, inner, FileNames { tag, ..names }, owner)
+        }
+        _ => add_file(plan, &definition.definition, names, owner),
+    }
+}
+
+// Adds a name for a type.
+fn add_alias(
+    plan: &mut Plan<'_>,
+    definition: &Type<'_>,
+    name: String,
+    owner: Owner<'_>,
+) -> Result<(), AllocError> {
+    let target = type_name(plan, definition, owner)?;
+    let (kind, named) = named_numbers(definition);
+    let numbers = numbers_of(plan, name.as_str(), kind, named)?;
+    let notation = owner.notation;
+    let alias = Alias {
+        name,
+        notation: format!(in plan.alloc; "`{notation}`")?,
+        definition: target,
+        numbers,
+    };
+    plan.aliases.push(alias)?;
+    Ok(())
+}
+
+// The names of an INTEGER or a BIT STRING, and the type of their constants.
+fn named_numbers<'t, 'a>(definition: &'t Type<'a>) -> (&'static str, &'t [NamedNumber<'a>]) {
+    match &definition.kind {
+        TypeKind::Integer(numbers) => ("i128", numbers.as_slice()),
+        TypeKind::BitString(numbers) => ("usize", numbers.as_slice()),
+        _ => ("i128", &[]),
+    }
+}
+
+// Adds a file that is no type, with the names that the crate passes on.
+fn add_other(
+    plan: &mut Plan<'_>,
+    module: &str,
+    text: String,
+    is_public: bool,
+    names: Vec<String>,
+) -> Result<(), AllocError> {
+    let path = format!(in plan.alloc; "src/{module}.rt")?;
+    plan.files.push(PrintedFile { path, text })?;
+    plan.add_module(module, is_public, names)
+}
+
+// Names in the order of `rt fmt`.
+fn in_order(plan: &Plan<'_>, names: Vec<String>) -> Result<Vec<String>, AllocError> {
+    let mut ordered: Vec<(String, String)> = Vec::new(plan.alloc);
+    for name in names {
+        ordered.push((order_of(plan.alloc, name.as_str())?, name))?;
+    }
+    ordered.sort()?;
+    let mut sorted = Vec::new(plan.alloc);
+    for (_, name) in ordered {
+        sorted.push(name)?;
+    }
+    Ok(sorted)
+}
+
+// A page of one line.
+fn page(plan: &Plan<'_>, line: &str) -> Result<Vec<String>, AllocError> {
+    let mut lines = Vec::new(plan.alloc);
+    lines.push(plan.text(line)?)?;
+    Ok(lines)
+}
+
+// Adds the file with the names of types.
+fn add_aliases(plan: &mut Plan<'_>) -> Result<(), AllocError> {
+    if plan.aliases.is_empty() {
+        return Ok(());
+    }
+    let page = page(plan, "Types that are other types under names of their own.")?;
+    let text = alias_file(plan.alloc, page.as_slice(), plan.aliases.as_slice())?;
+    let mut names = Vec::new(plan.alloc);
+    for alias in &plan.aliases {
+        names.push(plan.text(alias.name.as_str())?)?;
+        if let Some(numbers) = &alias.numbers {
+            names.push(plan.text(numbers.name.as_str())?)?;
+        }
+    }
+    let names = in_order(plan, names)?;
+    add_other(plan, "aliases", text, false, names)
+}
+
+// Adds the file with the types that name tags.
+fn add_markers(plan: &mut Plan<'_>) -> Result<(), AllocError> {
+    if plan.markers.is_empty() {
+        return Ok(());
+    }
+    let page = page(plan, "The tags that types name by a type.")?;
+    let text = marker_file(plan.alloc, page.as_slice(), plan.markers.as_slice())?;
+    let names = Vec::new(plan.alloc);
+    add_other(plan, "tags", text, true, names)
+}
+
+// Adds the file with constants.
+fn add_constants(plan: &mut Plan<'_>) -> Result<(), AllocError> {
+    if plan.constants.is_empty() {
+        return Ok(());
+    }
+    let page = page(plan, "The values that the modules define.")?;
+    let text = constant_file(plan.alloc, page.as_slice(), plan.constants.as_slice())?;
+    let names = Vec::new(plan.alloc);
+    add_other(plan, "constants", text, true, names)
+}
+
+// Adds the root file.
+fn add_root(plan: &mut Plan<'_>) -> Result<(), AllocError> {
+    let alloc = plan.alloc;
+    plan.modules.sort()?;
+    let mut lines = Vec::new(alloc);
+    lines.push(plan.text(
+        "The types of these modules of ASN.1, in files made by `asn1_compile`:",
+    )?)?;
+    lines.push(String::new(alloc))?;
+    for source in plan.request.sources {
+        push_module_names(alloc, &mut lines, source.text, source.modules)?;
+    }
+    let text = root_file(alloc, lines.as_slice(), plan.modules.as_slice())?;
+    let path = plan.text("src/lib.rt")?;
+    plan.files.push(PrintedFile { path, text })?;
+    Ok(())
+}
+
+// Appends the names of modules, a line each.
+fn push_module_names(
+    alloc: Global,
+    lines: &mut Vec<String>,
+    text: &[u8],
+    modules: &[Module],
+) -> Result<(), AllocError> {
+    for module in modules {
+        let name = text_of(alloc, module.name.octets(text))?;
+        let name = name.as_str();
+        lines.push(format!(in alloc; "- `{name}`")?)?;
+    }
+    Ok(())
+}

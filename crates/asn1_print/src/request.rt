@@ -1,0 +1,45 @@
+//! What is asked of the printer, and what it answers.
+use asn1_modules::Source;
+use asn1_resolved::{Problem, Schema};
+
+/// A schema to print as a crate.
+#[derive(Clone, Copy)]
+pub struct Request<'a> {
+    /// The name of the crate.
+    pub crate_name: &'a str,
+    /// The texts, with their trees.
+    pub sources: &'a [Source<'a>],
+    /// The schema of the texts.
+    pub schema: &'a Schema<'a>,
+    /// Types that exist already.
+    pub externs: &'a [Extern<'a>],
+}
+
+/// A type that exists already.
+#[derive(Clone, Copy)]
+pub struct Extern<'a> {
+    /// The name in ASN.1.
+    pub name: &'a [u8],
+    /// The crate or the module in it, as `asn1_recursive`.
+    pub path: &'a str,
+    /// The name in Rust.
+    pub rust_name: &'a str,
+}
+
+/// A file of a crate.
+#[derive(Drop)]
+pub struct PrintedFile {
+    /// The path in the folder of the crate.
+    pub path: String,
+    /// The text.
+    pub text: String,
+}
+
+/// The files of a crate, and what is wrong with the schema.
+#[derive(Drop)]
+pub struct Printed {
+    /// The files. They are incomplete if there is an error.
+    pub files: Vec<PrintedFile>,
+    /// What cannot be printed, or not all of it.
+    pub problems: Vec<Problem>,
+}
