@@ -11,7 +11,6 @@
 //! | `recoding` | a value that goes from one codec to another |
 //! | `der_buffers` | what a buffer of DER sorts and rejects |
 //! | `der_decoder` | the order of a SET's elements, presence by the next tag, and long contents |
-//! | `normal_forms` | elements of BER, and their normal forms |
 //! | `big_types` | types of many components, through DER |
 //! | `price` | the first type of docs/TYPES.md, through packed bytes and DER |
 #![tactic(auto)]
@@ -32,8 +31,6 @@ mod der_decoder;
 mod encoding;
 #[cfg(test)]
 mod memory;
-#[cfg(test)]
-mod normal_forms;
 #[cfg(test)]
 mod price;
 #[cfg(test)]
