@@ -6,7 +6,6 @@
 //! | [`CallRules`], [`Calls`] | a codec whose calls can be made, and the calls of a case |
 //! | [`Request`], [`Codec`] | a line that asks a codec over bytes, and these codecs |
 //! | [`TypeCase`], [`try_named`] | what is tried of many types, and the types by their names |
-//! | [`try_representative`] | the same of fewer types, each kind among them |
 //! | [`Failure`], [`is_same`] | the reason why a case failed, and the comparison of two values |
 //! | [`made`], [`node_chain`] | values that tests and programs make |
 //!
@@ -29,6 +28,6 @@ pub use call_rules::{CallRules, Calls, NAME, is_same};
 pub use calls::each_call_comes_back;
 pub use codec::Codec;
 pub use failure::Failure;
-pub use named_types::{TypeCase, try_named, try_representative};
+pub use named_types::{TypeCase, try_named};
 pub use nested::node_chain;
 pub use request::Request;

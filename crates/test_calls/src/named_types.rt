@@ -39,68 +39,15 @@ type Type2 = Implicit<ApplicationTag<3>, VisibleString>;
 
 /// The answer of the type of this name, if there is one.
 pub fn try_named<C: TypeCase>(case: &C, name: &str) -> Option<C::Answer> {
-    match try_representative(case, name) {
-        Some(answer) => Some(answer),
-        None => number(case, name),
-    }
-}
-
-/// The answer of the type of this name, if it is one of those that represent the others: of each kind of type at least one.
-pub fn try_representative<C: TypeCase>(case: &C, name: &str) -> Option<C::Answer> {
-    match name {
-        "bool" => Some(case.try_type::<bool>()),
-        "u8" => Some(case.try_type::<u8>()),
-        "Integer" => Some(case.try_type::<Integer>()),
-        "ObjectIdentifier" => Some(case.try_type::<ObjectIdentifier>()),
-        "BitString" => Some(case.try_type::<BitString>()),
-        "BmpString" => Some(case.try_type::<BmpString>()),
-        "Plate" => Some(case.try_type::<Plate>()),
-        "[u8;2]" => Some(case.try_type::<[u8; 2]>()),
-        "SetOf<u8>" => Some(case.try_type::<SetOf<u8>>()),
-        "Box<u8>" => Some(case.try_type::<Box<u8>>()),
-        "InstanceOf<u8>" => Some(case.try_type::<InstanceOf<u8>>()),
-        "Option<bool>" => Some(case.try_type::<Option<bool>>()),
-        _ => sequence(case, name),
-    }
-}
-
-/// Those that are a SEQUENCE.
-fn sequence<C: TypeCase>(case: &C, name: &str) -> Option<C::Answer> {
-    match name {
-        "Person" => Some(case.try_type::<Person>()),
-        "Profile" => Some(case.try_type::<Profile>()),
-        "Visit" => Some(case.try_type::<Visit>()),
-        "Gauge" => Some(case.try_type::<Gauge>()),
-        "Pair" => Some(case.try_type::<Pair<bool, bool>>()),
-        "Pair<u8,u8>" => Some(case.try_type::<Pair<u8, u8>>()),
-        "Notice" => Some(case.try_type::<Notice>()),
-        "Settings" => Some(case.try_type::<Settings>()),
-        "Labelled" => Some(case.try_type::<Labelled>()),
-        "Node" => Some(case.try_type::<Node>()),
-        "Envelope" => Some(case.try_type::<Envelope>()),
-        _ => set_or_choice(case, name),
-    }
-}
-
-/// Those that are a SET, a CHOICE or an ENUMERATED.
-fn set_or_choice<C: TypeCase>(case: &C, name: &str) -> Option<C::Answer> {
-    match name {
-        "Badge" => Some(case.try_type::<Badge>()),
-        "Ticket" => Some(case.try_type::<Ticket>()),
-        "Shape" => Some(case.try_type::<Shape>()),
-        "Corner" => Some(case.try_type::<Corner>()),
-        "Color" => Some(case.try_type::<Color>()),
-        "Open" => Some(case.try_type::<Open>()),
-        "Filter" => Some(case.try_type::<Filter>()),
-        "Nested" => Some(case.try_type::<Nested>()),
-        _ => None,
-    }
+    number(case, name)
 }
 
 /// Those whose values are numbers.
 fn number<C: TypeCase>(case: &C, name: &str) -> Option<C::Answer> {
     match name {
+        "bool" => Some(case.try_type::<bool>()),
         "()" => Some(case.try_type::<()>()),
+        "u8" => Some(case.try_type::<u8>()),
         "u16" => Some(case.try_type::<u16>()),
         "u32" => Some(case.try_type::<u32>()),
         "u64" => Some(case.try_type::<u64>()),
@@ -111,7 +58,9 @@ fn number<C: TypeCase>(case: &C, name: &str) -> Option<C::Answer> {
         "i64" => Some(case.try_type::<i64>()),
         "i128" => Some(case.try_type::<i128>()),
         "isize" => Some(case.try_type::<isize>()),
+        "Integer" => Some(case.try_type::<Integer>()),
         "1..10" => Some(case.try_type::<OneToTen>()),
+        "ObjectIdentifier" => Some(case.try_type::<ObjectIdentifier>()),
         _ => string(case, name),
     }
 }
@@ -119,6 +68,7 @@ fn number<C: TypeCase>(case: &C, name: &str) -> Option<C::Answer> {
 /// Strings, and open types.
 fn string<C: TypeCase>(case: &C, name: &str) -> Option<C::Answer> {
     match name {
+        "BitString" => Some(case.try_type::<BitString>()),
         "OctetString" => Some(case.try_type::<OctetString>()),
         "String" => Some(case.try_type::<String>()),
         "VisibleString" => Some(case.try_type::<VisibleString>()),
@@ -128,6 +78,7 @@ fn string<C: TypeCase>(case: &C, name: &str) -> Option<C::Answer> {
         "PrintableString" => Some(case.try_type::<PrintableString>()),
         "NumericString" => Some(case.try_type::<NumericString>()),
         "TeletexString" => Some(case.try_type::<TeletexString>()),
+        "BmpString" => Some(case.try_type::<BmpString>()),
         "Any" => Some(case.try_type::<Any>()),
         _ => list(case, name),
     }
@@ -138,6 +89,7 @@ fn list<C: TypeCase>(case: &C, name: &str) -> Option<C::Answer> {
     match name {
         "Vec<bool>" => Some(case.try_type::<Vec<bool>>()),
         "Vec<u8>" => Some(case.try_type::<Vec<u8>>()),
+        "[u8;2]" => Some(case.try_type::<[u8; 2]>()),
         "Array<bool,2>" => Some(case.try_type::<Array<bool, 2>>()),
         "Vec<1..10>" => Some(case.try_type::<Vec<OneToTen>>()),
         "Vec<()>" => Some(case.try_type::<Vec<()>>()),
@@ -146,6 +98,7 @@ fn list<C: TypeCase>(case: &C, name: &str) -> Option<C::Answer> {
         "Vec<Vec<bool>>" => Some(case.try_type::<Vec<Vec<bool>>>()),
         "Vec<Person>" => Some(case.try_type::<Vec<Person>>()),
         "SetOf<u16>" => Some(case.try_type::<SetOf<u16>>()),
+        "SetOf<u8>" => Some(case.try_type::<SetOf<u8>>()),
         "SetOf<i32>" => Some(case.try_type::<SetOf<i32>>()),
         _ => wrapper(case, name),
     }
@@ -154,8 +107,11 @@ fn list<C: TypeCase>(case: &C, name: &str) -> Option<C::Answer> {
 /// Types that hold a value, or put it under a tag.
 fn wrapper<C: TypeCase>(case: &C, name: &str) -> Option<C::Answer> {
     match name {
+        "Option<bool>" => Some(case.try_type::<Option<bool>>()),
         "PhantomData" => Some(case.try_type::<PhantomData<u8>>()),
+        "Box<u8>" => Some(case.try_type::<Box<u8>>()),
         "Cow<u8>" => Some(case.try_type::<Cow<'static, u8>>()),
+        "InstanceOf<u8>" => Some(case.try_type::<InstanceOf<u8>>()),
         "[1]bool" => Some(case.try_type::<Explicit<ContextTag<1>, bool>>()),
         "[30]bool" => Some(case.try_type::<Implicit<ContextTag<30>, bool>>()),
         "[31]bool" => Some(case.try_type::<Implicit<ContextTag<31>, bool>>()),
@@ -190,17 +146,44 @@ fn type_of_x690<C: TypeCase>(case: &C, name: &str) -> Option<C::Answer> {
         "Type5" => Some(case.try_type::<Implicit<ContextTag<2>, VisibleString>>()),
         "PersonnelRecord" => Some(case.try_type::<PersonnelRecord>()),
         "RdnSequence" => Some(case.try_type::<RdnSequence>()),
+        _ => sequence(case, name),
+    }
+}
+
+/// The sample types that are a SEQUENCE.
+fn sequence<C: TypeCase>(case: &C, name: &str) -> Option<C::Answer> {
+    match name {
+        "Person" => Some(case.try_type::<Person>()),
+        "Profile" => Some(case.try_type::<Profile>()),
+        "Visit" => Some(case.try_type::<Visit>()),
+        "Gauge" => Some(case.try_type::<Gauge>()),
+        "Pair" => Some(case.try_type::<Pair<bool, bool>>()),
+        "Pair<u8,u8>" => Some(case.try_type::<Pair<u8, u8>>()),
+        "Pair<1..10,u8>" => Some(case.try_type::<Pair<OneToTen, u8>>()),
+        "Pair<u8,1..10>" => Some(case.try_type::<Pair<u8, OneToTen>>()),
+        "Notice" => Some(case.try_type::<Notice>()),
+        "Settings" => Some(case.try_type::<Settings>()),
+        "Labelled" => Some(case.try_type::<Labelled>()),
+        "Node" => Some(case.try_type::<Node>()),
+        "Envelope" => Some(case.try_type::<Envelope>()),
+        "Price" => Some(case.try_type::<Price>()),
         _ => other(case, name),
     }
 }
 
-/// More types that hold others.
+/// The other sample types.
 fn other<C: TypeCase>(case: &C, name: &str) -> Option<C::Answer> {
     match name {
-        "Pair<1..10,u8>" => Some(case.try_type::<Pair<OneToTen, u8>>()),
-        "Pair<u8,1..10>" => Some(case.try_type::<Pair<u8, OneToTen>>()),
-        "Price" => Some(case.try_type::<Price>()),
+        "Plate" => Some(case.try_type::<Plate>()),
+        "Badge" => Some(case.try_type::<Badge>()),
+        "Ticket" => Some(case.try_type::<Ticket>()),
         "Hollow" => Some(case.try_type::<Hollow>()),
+        "Shape" => Some(case.try_type::<Shape>()),
+        "Corner" => Some(case.try_type::<Corner>()),
+        "Color" => Some(case.try_type::<Color>()),
+        "Open" => Some(case.try_type::<Open>()),
+        "Filter" => Some(case.try_type::<Filter>()),
+        "Nested" => Some(case.try_type::<Nested>()),
         _ => None,
     }
 }

@@ -4,7 +4,7 @@ use asn1_enc::{Encode, EncodeError};
 use asn1_rules::CanonicalError;
 use std::alloc::Global;
 use std::fmt;
-use test_calls::{Codec, Request, TypeCase, try_named, try_representative};
+use test_calls::{Codec, Request, TypeCase, try_named};
 
 /// As many nested scopes as the other codec needs.
 const ENOUGH: usize = usize::MAX;
@@ -37,11 +37,17 @@ pub(crate) enum Answer {
     NotWrittenByOther(EncodeError),
 }
 
-/// An action that is asked of every type.
+/// The action of a request.
 #[derive(Clone, Copy, Drop)]
 enum Action {
     /// To read a value from all of the bytes.
     Read,
+    /// To read a value from the front of the bytes.
+    ReadFront,
+    /// To read a value from all of the bytes, if writing it makes the same bytes.
+    ReadCanonical,
+    /// To read values one after another, as long as writing each makes the same bytes.
+    ReadStream,
     /// To write the value that the other codec reads from the bytes.
     Write,
 }
@@ -51,56 +57,23 @@ impl Action {
     fn of_name(name: &str) -> Option<Action> {
         match name {
             "read" => Some(Action::Read),
+            "front" => Some(Action::ReadFront),
+            "canonical" => Some(Action::ReadCanonical),
+            "stream" => Some(Action::ReadStream),
             "write" => Some(Action::Write),
             _ => None,
         }
     }
 }
 
-/// A way of reading that is asked of the representative types alone, since each type adds to what has to be compiled.
-#[derive(Clone, Copy, Drop)]
-enum Way {
-    /// A value from the front of the bytes.
-    Front,
-    /// A value from all of the bytes, if writing it makes the same bytes.
-    Canonical,
-    /// Values one after another, as long as writing each makes the same bytes.
-    Stream,
-}
-
-impl Way {
-    /// The way of this name.
-    fn of_name(name: &str) -> Option<Way> {
-        match name {
-            "front" => Some(Way::Front),
-            "canonical" => Some(Way::Canonical),
-            "stream" => Some(Way::Stream),
-            _ => None,
-        }
-    }
-}
-
 /// A request for a value of some type.
-#[derive(Clone, Copy, Drop)]
+#[derive(Drop)]
 struct Question<'a> {
     alloc: Global,
     request: &'a Request<'a>,
+    action: Action,
     /// The codec on the other side of the value.
     other: Codec,
-}
-
-/// A question, with the action.
-#[derive(Drop)]
-struct WholeCase<'a> {
-    question: Question<'a>,
-    action: Action,
-}
-
-/// A question, with the way of reading.
-#[derive(Drop)]
-struct ReadingCase<'a> {
-    question: Question<'a>,
-    way: Way,
 }
 
 /// The answer to a request, if its words are some that `main` lists.
@@ -108,36 +81,22 @@ pub(crate) fn answer_to(alloc: Global, request: &Request<'_>) -> Option<Answer> 
     let question = Question {
         alloc,
         request,
+        action: Action::of_name(request.action)?,
         other: Codec::of_name(request.word)?,
     };
-    match Action::of_name(request.action) {
-        Some(action) => try_named(&WholeCase { question, action }, request.type_name),
-        None => {
-            let way = Way::of_name(request.action)?;
-            try_representative(&ReadingCase { question, way }, request.type_name)
-        }
-    }
+    try_named(&question, request.type_name)
 }
 
-impl TypeCase for WholeCase<'_> {
+impl TypeCase for Question<'_> {
     type Answer = Answer;
 
     fn try_type<T: Encode + Decode>(&self) -> Answer {
         match self.action {
-            Action::Read => self.question.read::<T>(),
-            Action::Write => self.question.write::<T>(),
-        }
-    }
-}
-
-impl TypeCase for ReadingCase<'_> {
-    type Answer = Answer;
-
-    fn try_type<T: Encode + Decode>(&self) -> Answer {
-        match self.way {
-            Way::Front => self.question.read_front::<T>(),
-            Way::Canonical => self.question.read_canonical::<T>(),
-            Way::Stream => self.question.read_stream::<T>(),
+            Action::Read => self.read::<T>(),
+            Action::ReadFront => self.read_front::<T>(),
+            Action::ReadCanonical => self.read_canonical::<T>(),
+            Action::ReadStream => self.read_stream::<T>(),
+            Action::Write => self.write::<T>(),
         }
     }
 }

@@ -11,7 +11,7 @@
 //! | `CODEC TYPE DEPTH write OTHER BYTES` | the codec writes the value that the other one reads | the bytes |
 //!
 //! `CODEC` and `OTHER` are `packed`, `tag` or `der`; the first of them may open `DEPTH` nested scopes. `TYPE` is a name of
-//! `crates/test_calls/src/named_types.rt`, after `front`, `canonical` and `stream` one of `try_representative` there. `BYTES` are in hexadecimal, with spaces wherever they help. Lines that are empty or begin
+//! `crates/test_calls/src/named_types.rt`. `BYTES` are in hexadecimal, with spaces wherever they help. Lines that are empty or begin
 //! with `#` are written as they are.
 //!
 //! The stored run is the test. The answers in `stdout` were made by hand or with another tool: X.690's examples, OpenSSL, and a

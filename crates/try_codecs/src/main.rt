@@ -14,8 +14,8 @@
 //! | `drop LEVELS` | such a value is made and dropped | the same |
 //! | `table -` | a list of tags is made with a table that does not fit, whatever the codec and the type | the error |
 //!
-//! `CODEC` is as in `test_vectors`, and `TYPE` a name of `try_representative` of `test_calls`; after `nest` and `drop` it is `node`,
-//! `not` or `and` for two kinds of filter, `nested` or `open`. Lines that are empty or begin with `#` are written as they are, and ` ; ` begins a comment.
+//! `CODEC` and `TYPE` are as in `test_vectors`; after `nest` and `drop` the type is `node`, `not` or `and` for two kinds of filter,
+//! `nested` or `open`. Lines that are empty or begin with `#` are written as they are, and ` ; ` begins a comment.
 //!
 //! `bench/run.py` runs it, to measure how deep the machine's stack reaches, to damage bytes for as long as is wanted, and to refuse
 //! each growth in turn; how fast codecs are is the job of `measure_codecs`. No contract covers the answers: that a valid value

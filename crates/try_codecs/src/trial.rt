@@ -7,7 +7,7 @@ use crate::report::{Answer, Report};
 use asn1_dec::{Decode, DecodeError};
 use asn1_enc::Encode;
 use std::alloc::Global;
-use test_calls::{Codec, Failure, Request, TypeCase, is_same, try_representative};
+use test_calls::{Codec, Failure, Request, TypeCase, is_same, try_named};
 
 /// What is tried.
 #[derive(Clone, Copy, Drop)]
@@ -64,7 +64,7 @@ pub(crate) fn answer_to(alloc: Global, request: &Request<'_>) -> Option<Answer> 
         bytes: &request.bytes,
         action: Action::of_name(request.action, request.word)?,
     };
-    try_representative(&trial, request.type_name)
+    try_named(&trial, request.type_name)
 }
 
 impl TypeCase for Trial<'_> {
