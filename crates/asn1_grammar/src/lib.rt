@@ -21,6 +21,8 @@ mod modules;
 mod parsed;
 mod plain_constraints;
 mod plain_types;
+#[cfg(test)]
+mod tests;
 mod types;
 mod values;
 mod words;

@@ -16,6 +16,8 @@ mod collector;
 mod messages;
 mod modules;
 mod source;
+#[cfg(test)]
+mod tests;
 mod types;
 mod values;
 

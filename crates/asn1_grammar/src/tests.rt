@@ -1,33 +1,10 @@
-# tokens: each kind of item (X.680, 12)
-A-1::=INTEGER -- a - b -- (-5..0,...) /* 1 /* 2 */ " */ b--
-"say ""x"""'01 1'B'0A'H]]-- end
-# tokens: no text
+use crate::{Cause, Construct, Expected, Owner, parse};
+use asn1_notation::Span;
+use std::alloc::Global;
+use std::process::Abort;
 
-# tokens: one line
-ab
-# tokens: the second line
-a
-
-# tokens: CARRIAGE RETURN ends no line
-a
-
-xy
-# tokens: a character with which nothing begins
-a #
-# tokens: a leading zero
-a 07
-# tokens: a comment without an end
-a /* b /* */ 
-# tokens: a string without an end
-"a""
-# tokens: digits without an end
-'0
-# tokens: no binary digits
-'2'B
-# tokens: a character beyond ASCII in a name
-A ::= café
-# module: every construct that is taken
--- Every construct that is taken.
+// A module with every construct that is taken.
+const EVERY_CONSTRUCT: &[u8] = b"-- Every construct that is taken.
 Every-Construct { iso(1) member-body(2) 840 every(1) }
 DEFINITIONS AUTOMATIC TAGS EXTENSIBILITY IMPLIED ::=
 BEGIN
@@ -44,7 +21,7 @@ yes BOOLEAN ::= TRUE
 nothing NULL ::= NULL
 bits BIT STRING ::= '0110'B
 octets OCTET STRING ::= 'CA FE'H
-text UTF8String ::= "say ""yes"""
+text UTF8String ::= \"say \"\"yes\"\"\"
 arcs OBJECT IDENTIFIER ::= { iso(1) 2 Other-Module.other last(limit) }
 named Shape ::= circle : { radius 5, filled TRUE }
 empty Numbers ::= {}
@@ -59,8 +36,8 @@ Color ::= ENUMERATED { red, green(5), ..., blue(limit) }
 Count ::= INTEGER { none(0), below(-1) } (MIN<..<0 | 5 | 7..MAX)
 Part ::= INTEGER (0..255) (1 | 2 EXCEPT 2, ..., 300)
 Mixed ::= INTEGER (ALL EXCEPT (1..5) INTERSECTION (0..9) UNION 12)
-Word ::= IA5String (FROM ("a".."z" | "A".."Z") ^ SIZE (1..limit))
-Regular ::= VisibleString (PATTERN "[a-z]*")
+Word ::= IA5String (FROM (\"a\"..\"z\" | \"A\"..\"Z\") ^ SIZE (1..limit))
+Regular ::= VisibleString (PATTERN \"[a-z]*\")
 Packed ::= OCTET STRING (CONTAINING Shape ENCODED BY { joint-iso-itu-t asn1(1) 2 })
 Coded ::= BIT STRING (ENCODED BY { iso 1 })
 Included ::= INTEGER (INCLUDES Part)
@@ -94,22 +71,54 @@ Narrow ::= Whole (WITH COMPONENTS { number (0..5) PRESENT, any ABSENT, open OPTI
 Elements ::= SEQUENCE OF INTEGER (WITH COMPONENT (1..5))
 
 END
-# module: REAL
-M DEFINITIONS ::= BEGIN A ::= REAL END
-# module: the errors of all definitions
-M DEFINITIONS ::= BEGIN A ::= REAL B ::= NULL C ::= SET { C } D { X } ::= NULL e NULL ::= NULL END
-# module: no comma after a component
-M DEFINITIONS ::= BEGIN A ::= SET { a NULL b NULL } END
-# names: undefined names, with the nearest that is defined
-M DEFINITIONS ::= BEGIN A ::= SET { a Numbr, b [limt] NULL } Number ::= INTEGER limit INTEGER ::= 1 END
-# names: names that are defined twice
-M DEFINITIONS ::= BEGIN A ::= NULL A ::= SET { } END
-# names: imports
-M DEFINITIONS ::= BEGIN IMPORTS Other, Thrd FROM N Far FROM O; A ::= SET { a Other, b N.Third, c Third } END
-        N DEFINITIONS ::= BEGIN EXPORTS Third; Other ::= NULL Third ::= NULL END
-# names: names of items are no references
-M DEFINITIONS ::= BEGIN
-        Color ::= ENUMERATED { red, green(last) } Flags ::= BIT STRING { first(0) } last INTEGER ::= 5
-        A ::= SET { a Color DEFAULT red, b Flags DEFAULT { first }, c INTEGER (0..last), d Color DEFAULT grey }
-        root OBJECT IDENTIFIER ::= { iso standard 3 } leaf OBJECT IDENTIFIER ::= { root arc(last) 5 }
-        lost OBJECT IDENTIFIER ::= { stem 5 } END
+";
+
+fn assert_read(rt: &impl Abort, alloc: Global, text: &[u8], errors: usize, definitions: usize) {
+    let parsed = parse(alloc, text).expect(rt, "memory");
+    let module = parsed.modules.get(0).expect(rt, "a module");
+    assert!(rt; parsed.errors.len() == errors && module.assignments.len() == definitions);
+}
+
+fn assert_refused(rt: &impl Abort, alloc: Global, text: &[u8], start: usize, cause: Cause) {
+    let parsed = parse(alloc, text).expect(rt, "memory");
+    let error = parsed.errors.get(0).copied().expect(rt, "an error");
+    assert!(rt; error.found.start == start && error.cause == cause);
+}
+
+// The cause that something was expected behind what is named by the octet here.
+fn after(expected: Expected, owner: Owner, start: usize) -> Cause {
+    let end = start.saturating_add(1);
+    Cause::ExpectedAfter(expected, owner, Span { start, end })
+}
+
+#[test]
+fn every_construct_is_read(rt: HostRuntime) {
+    assert_read(&rt, rt.alloc(), EVERY_CONSTRUCT, 0, 32);
+}
+
+#[test]
+fn refusals_name_the_place(rt: HostRuntime) {
+    let alloc = rt.alloc();
+    assert_refused(
+        &rt,
+        alloc,
+        b"M DEFINITIONS ::= BEGIN A ::= REAL END",
+        30,
+        Cause::NotTaken(Construct::Real),
+    );
+}
+
+#[test]
+fn the_errors_of_all_definitions_are_told(rt: HostRuntime) {
+    let text =
+        b"M DEFINITIONS ::= BEGIN A ::= REAL B ::= NULL C ::= SET { C } D { X } ::= NULL e NULL ::= NULL END";
+    assert_read(&rt, rt.alloc(), text, 3, 2);
+}
+
+#[test]
+fn what_was_expected_is_told(rt: HostRuntime) {
+    let alloc = rt.alloc();
+    let text = b"M DEFINITIONS ::= BEGIN A ::= SET { a NULL b NULL } END";
+    let cause = after(Expected::CloseBraceOrComma, Owner::Component, 36);
+    assert_refused(&rt, alloc, text, 43, cause);
+}
