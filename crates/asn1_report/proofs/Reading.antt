@@ -55,24 +55,24 @@ read_to_end_if_ok (Ok understood) r mid_r new_r w mid_w new_w c bytes count befo
 -- no more than some bytes are left, and these are no more than one read gives
 no_more_than_a_read : {given : List ℕ} {before written : Option (List ℕ)} (bytes : List ℕ) → HasTakenSome given (length bytes) before written → length bytes ≤ one_read →
     HasTakenSome given one_read before written
-no_more_than_a_read bytes some few = record { taken = some.taken; left = some.left; parts = some.parts; few = (let here = some.few in omega arith); text = some.text }
+no_more_than_a_read bytes some at_most = record { taken = some.taken; left = some.left; parts = some.parts; at_most = (let here = some.at_most in omega arith); text = some.text }
 
 -- memory runs out at the end
 pub read_but_end : (r mid_r new_r w mid_w new_w : Option (List ℕ)) (c : Checker) (bytes : List ℕ) → length bytes ≤ one_read → ReadUpTo r mid_r w mid_w c →
     Consumes mid_r new_r bytes → Keeps mid_w new_w → ReadInPart r new_r w new_w
-read_but_end r mid_r new_r w mid_w new_w c bytes few before took kept = record {
+read_but_end r mid_r new_r w mid_w new_w c bytes at_most before took kept = record {
   given = before.given ++ bytes;
   took = Consumes-trans r mid_r new_r before.given bytes before.took took;
-  some = record { taken = before.given; left = bytes; parts = refl; few = few; text = Appends-kept w mid_w new_w (text_for (whole_lines before.given)) before.taken.text kept };
+  some = record { taken = before.given; left = bytes; parts = refl; at_most = at_most; text = Appends-kept w mid_w new_w (text_for (whole_lines before.given)) before.taken.text kept };
 }
 
 -- or where bytes are taken
 pub read_in_part : (r mid_r new_r w mid_w new_w : Option (List ℕ)) (c : Checker) (bytes : List ℕ) → length bytes ≤ one_read → ReadUpTo r mid_r w mid_w c →
     Consumes mid_r new_r bytes → TakesSome bytes mid_w new_w c → ReadInPart r new_r w new_w
-read_in_part r mid_r new_r w mid_w new_w c bytes few before took accepts = record {
+read_in_part r mid_r new_r w mid_w new_w c bytes at_most before took accepts = record {
   given = before.given ++ bytes;
   took = Consumes-trans r mid_r new_r before.given bytes before.took took;
-  some = no_more_than_a_read bytes (accepts.after before.given w before.taken) few;
+  some = no_more_than_a_read bytes (accepts.after before.given w before.taken) at_most;
 }
 
 -- At the end of the input the report is written, and the answer says whether all was understood.
@@ -108,6 +108,6 @@ some_written r new_r w mid_w new_w part kept = (
   part.some.taken,
   part.some.left,
   subst (Consumes r new_r) part.some.parts part.took,
-  part.some.few,
+  part.some.at_most,
   Appends-kept w mid_w new_w (text_for (whole_lines part.some.taken)) part.some.text kept,
 )

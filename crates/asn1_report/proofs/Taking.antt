@@ -149,7 +149,7 @@ some_taken bytes rest u v w a b before kept = record {
     taken = given ++ before.front;
     left = rest;
     parts = ap (λ xs. given ++ xs) before.parts ∙ sym (append_assoc given before.front rest);
-    few = (let all = ap length before.parts ∙ length-append before.front rest in omega arith);
+    at_most = (let all = ap length before.parts ∙ length-append before.front rest in omega arith);
     text = Appends-kept before_all v w (text_for (whole_lines (given ++ before.front))) (before.accepts.after given before_all taken).text kept;
   };
 }

@@ -33,7 +33,7 @@ pub record HasTakenSome (given : List ℕ) (most : ℕ) (before written : Option
   pub taken : List ℕ
   pub left : List ℕ
   pub parts : given ≡ taken ++ left
-  pub few : length left ≤ most
+  pub at_most : length left ≤ most
   pub text : Appends before written (text_for (whole_lines taken))
 
 -- A checker takes some of these bytes, from the first on, after all that it has taken before.
