@@ -1,4 +1,4 @@
--- One more output behind those of the values before.
+-- One more output after those of the values before.
 use Rattle.std.proofs.Common.{◌≡◌, ℕ, ◌+◌, ◌<◌, List, [], ◌∷◌, ◌++◌, length, take, get_or, sym, subst, append_assoc, append-nil, ◌∙◌}
 use Rattle.std.specs.Prelude.{Contains, Vec}
 use Rattle.std.specs.declared.alloc.Global.{Global}

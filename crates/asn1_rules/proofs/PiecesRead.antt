@@ -12,7 +12,7 @@ use Rattle.asn1_rules.specs.UnreadBytes.{Remains}
 use Rattle.asn1_rules.specs.States.{State, appended}
 use Rattle.asn1_rules.proofs.UnreadBytes.{all_came, one_failed}
 
--- The next piece is put behind what is unread.
+-- The next piece is put after what is unread.
 next_piece : (pieces : List (Bor (List ℕ))) (i : ℕ) (d : Bor (List ℕ)) (unread : List ℕ) → i < length pieces →
     unread ++ joined (drop i pieces) ≡ (unread ++ (get_or pieces i d).now) ++ joined (drop (i + 1) pieces)
 next_piece pieces i d unread lt =
@@ -22,7 +22,7 @@ next_piece pieces i d unread lt =
     ∙ ap (λ l. unread ++ l) (flat_map-cons (λ p. p.now) piece others)
     ∙ sym (append_assoc unread piece.now (joined others))
 
--- Behind the last piece there is nothing.
+-- After the last piece there is nothing.
 pub no_piece_left : (pieces : List (Bor (List ℕ))) (i : ℕ) (unread : List ℕ) → length pieces ≤ i → unread ++ joined (drop i pieces) ≡ unread
 no_piece_left pieces i unread all = ap (λ l. unread ++ joined l) (drop_all i pieces all) ∙ append-nil unread
 
@@ -36,7 +36,7 @@ at_most_of None k n P ended = omega arith
 at_most_of (Some e) k n P ended = let less : k < n = ended.0 in omega arith
 
 module _ {R V : Type 0} (F : Fronts R V) (reader : R) where
-  -- A piece was put behind what was unread, and values were taken.
+  -- A piece was put after what was unread, and values were taken.
   pub piece_read : (old new : State R) (pieces : List (Bor (List ℕ))) (i : ℕ) (d : Bor (List ℕ)) (ws more vs : List V) (unread : List ℕ) →
       old.reader ≡ reader → new ≡ appended (get_or pieces i d).now old → i < length pieces → IsSteady F reader →
       ((us : List V) (behind : List ℕ) → IsSteady F new.reader → Remains F new.reader ws us (new.unread ++ behind) → Remains F new.reader more us (unread ++ behind)) →

@@ -17,7 +17,7 @@ module _ {R V : Type 0} (F : Fronts R V) (old new : State R) where
   kept item e is (inl (w, came, t)) = cc
   kept item e is (inr (d, failed, k)) = let same : d ≡ e = cc in subst (Kept F old new) same k
 
-  -- A value came: what remains begins behind it.
+  -- A value came: what remains begins after it.
   pub remains_behind : (law : IsLawful F) (first : R) (ws vs : List V) (v : V) (behind : List ℕ) → old.reader ≡ first → IsSteady F first →
       Took F old new v → Remains F first ws vs (old.unread ++ behind) → Remains F first (ws ++ v ∷ []) vs (new.unread ++ behind)
   remains_behind law first ws vs v behind same steady t before =

@@ -34,6 +34,11 @@ module _ {V : Type 0} (F : Format (Vec ℕ Global)) (m : Meaning V) where
   abbrev pub IsSpelled : V → List ℕ → Type 0
   IsSpelled v bytes = (depth : ℕ) × IsWrittenAs depth v bytes
 
+  -- Bytes that writing one of these values makes are the same as those that writing the other makes. A value that `read_canonical`
+  -- answers is written as the bytes that were read.
+  abbrev pub HaveOneSpelling : V → V → Type 0
+  HaveOneSpelling v w = (own other : List ℕ) → AreOctets own → AreOctets other → IsSpelled v own → IsSpelled w other → own ≡ other
+
   module _ (eq : V → V → Bool) (refusals : Refusals) (depth : ℕ) (input : Vec ℕ Global) where
     -- An answer that reading this input may give. Of an input that carries the own records of a valid value it is an equal value,
     -- and of one that carries records which the type refuses it is the error of the type, unless memory runs out or the depth is

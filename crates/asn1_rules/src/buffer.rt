@@ -16,7 +16,7 @@ impl Buffer {
     ghost use Rattle.asn1_rules.specs.Sources.{rest_of};
     ghost use Rattle.asn1_rules.specs.States.{Drops};
 
-    /// A buffer of these bytes, of which none has been read, and these behind them.
+    /// A buffer of these bytes, of which none has been read, and these after them.
     ///
     /// # Errors
     /// [`AllocError`], if memory runs out.
@@ -37,7 +37,7 @@ impl Buffer {
         &self.bytes[self.start..]
     }
 
-    /// Puts a piece behind the bytes. The cost is that of the piece, amortized: `Vec` grows by a
+    /// Puts a piece after the bytes. The cost is that of the piece, amortized: `Vec` grows by a
     /// factor.
     ///
     /// # Errors
