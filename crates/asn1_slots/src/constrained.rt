@@ -1,8 +1,7 @@
 //! The calls that read a component into its slot under constraints of its own.
 ghost use Rattle.asn1_laws.specs.DecodeErrors.{lacks_name, reason};
 ghost use Rattle.asn1_model.specs.ConstraintSets.{constraint_set};
-ghost use Rattle.asn1_model.specs.Records.{in_additions, in_root};
-ghost use Rattle.asn1_slots.specs.Filling.{Fills, FillsOnce, FillsOptional};
+ghost use Rattle.asn1_slots.specs.Filling.{Fills, FillsOnce};
 ghost use Rattle.asn1_slots.specs.Taggings.{under_constraints};
 ghost use Rattle.std.specs.Prelude.{◌≡◌, false, IfErr, OnOk};
 
@@ -27,44 +26,6 @@ pub fn required_with_constraints<T: Decode, D: Decoder>(
 {
     let tag = tag.unwrap_or(T::tag());
     *slot = Some(T::decode_with_tag_and_constraints(decoder, tag, constraints)?);
-    Ok(())
-}
-
-/// The same of a component that may be absent, or has a default.
-#[inline(always)]
-pub fn optional_with_constraints<T: Decode, D: Decoder>(
-    slot: &mut Option<T>,
-    decoder: &mut D,
-    tag: Option<Tag>,
-    constraints: &Constraints<'_>,
-) -> Decoded
-    ensures read { FillsOptional D.reader in_root
-        (under_constraints tag (constraint_set constraints.now) T.meaning) T.eq decoder.old
-        decoder.new slot.new result }
-    ensures same_depth { OnOk result (D.reader.depth_left decoder.new ≡
-        D.reader.depth_left decoder.old) }
-{
-    let tag = tag.unwrap_or(T::tag());
-    *slot = decoder.decode_optional_with_tag_and_constraints(tag, constraints)?;
-    Ok(())
-}
-
-/// The same of an addition.
-#[inline(always)]
-pub fn addition_with_constraints<T: Decode, D: Decoder>(
-    slot: &mut Option<T>,
-    decoder: &mut D,
-    tag: Option<Tag>,
-    constraints: &Constraints<'_>,
-) -> Decoded
-    ensures read { FillsOptional D.reader in_additions
-        (under_constraints tag (constraint_set constraints.now) T.meaning) T.eq decoder.old
-        decoder.new slot.new result }
-    ensures same_depth { OnOk result (D.reader.depth_left decoder.new ≡
-        D.reader.depth_left decoder.old) }
-{
-    let tag = tag.unwrap_or(T::tag());
-    *slot = decoder.decode_extension_addition_with_tag_and_constraints(tag, constraints)?;
     Ok(())
 }
 

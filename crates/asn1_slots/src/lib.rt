@@ -17,12 +17,12 @@
 //! | [`decode_fields_naming_errors`], [`decode_sequence_naming_errors`] | read components, and a SEQUENCE under a tag; errors name the component |
 //! | [`DecodeSetByIndex`], [`decode_set_by_index`] | a SET, whose components come in any order; errors name the component |
 //! | [`required`], [`optional`], [`addition`], [`group`], [`decode_unique`] | read a component into its slot, and answer [`Decoded`] |
-//! | [`required_with_constraints`], [`optional_with_constraints`], [`addition_with_constraints`], [`decode_unique_with_constraints`] | the same under constraints of the component's own |
+//! | [`required_with_constraints`], [`decode_unique_with_constraints`] | the same under constraints of the component's own |
 //! | [`or_default`], [`or_empty`] | the value in the slot of a component with a default |
 //! | [`missing`] | the name of a required component of a SET, if its slot is empty |
 //! | [`DecodeChoiceByIndex`] | a CHOICE: its cases, and how its alternatives are read |
 //! | [`from_tag_by_index`], [`from_tag_by_table`] | read the alternative that can begin with a tag |
-//! | [`alternative`], [`alternative_with_constraints`] | read the value of an alternative |
+//! | [`alternative`] | reads the value of an alternative |
 //! | [`index_of_tag`] | the index of the alternative that can begin with a tag |
 //! | [`Tagging`] | the tagging of a component or an alternative, as the type's list has it |
 //! | [`laws`] | a component with a default is absent if it has the default, and only then |
@@ -78,12 +78,9 @@ pub use by_index::{
     decode_sequence_naming_errors,
 };
 pub use calls::{Decoded, addition, decode_unique, group, optional, required};
-pub use cases::{alternative, alternative_with_constraints};
+pub use cases::alternative;
 pub use choice_by_index::{DecodeChoiceByIndex, from_tag_by_index, from_tag_by_table};
-pub use constrained::{
-    addition_with_constraints, decode_unique_with_constraints, optional_with_constraints,
-    required_with_constraints,
-};
+pub use constrained::{decode_unique_with_constraints, required_with_constraints};
 pub use set_by_index::{DecodeSetByIndex, decode_set_by_index};
 pub use slot_values::{missing, or_default, or_empty};
 pub use tag_indices::index_of_tag;
