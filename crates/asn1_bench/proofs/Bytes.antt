@@ -22,7 +22,7 @@ one_cut : (bytes : List ℕ) (m n : ℕ) → byte_cut bytes m → byte_cut bytes
 one_cut [] m n a b = absurd a
 one_cut (byte ∷ bytes) m n a b = a ∙ sym b
 
--- bytes behind change nothing
+-- trailing bytes change nothing
 pub bytes_steady : (reader : ByteReader) → IsSteady byte_fronts reader
 bytes_steady reader = record {
   cut_remains = λ bytes behind n cut. cut_remains bytes behind n cut;

@@ -1,4 +1,4 @@
--- Fronts of packed bytes: bytes behind change nothing, and what was written is one.
+-- Fronts of packed bytes: trailing bytes change nothing, and what was written is one.
 use Rattle.std.proofs.Common.{◌≡◌, ℕ, Bool, true, false, List, [], ◌∷◌, ◌++◌, Some, ap, sym, subst, refl, ◌∙◌, arith, append-nil, length, length-append}
 use Rattle.asn1_bench.specs.Fronts.{IsCut, cut_within, packed_fronts}
 use Rattle.asn1_bench.specs.declared.reader.BenchReader.{BenchReader}
@@ -20,7 +20,7 @@ use Rattle.asn1_rules.proofs.ItemFronts.{belongs, steady}
 use Rattle.asn1_rules.specs.Fronts.{BelongsTo, IsSteady}
 use Rattle.asn1_rules.specs.ItemFronts.{CutsItems}
 
--- bytes behind change nothing
+-- trailing bytes change nothing
 cut_remains : (bytes behind : List ℕ) (n : ℕ) → IsCut bytes n → IsCut (bytes ++ behind) n
 cut_remains bytes behind n cut = record {
   header = extend cut.header behind;

@@ -8,7 +8,7 @@ use Rattle.asn1_bench.proofs.Fronts.{packed_belongs, packed_steady}
 use Rattle.asn1_bench.proofs.Sizes.{below, below_left, below_right, digits_abs, inside_below, not_carried}
 use Rattle.asn1_bench.specs.Carried.{CarriesWith}
 use Rattle.asn1_bench.specs.Format.{item_format}
-use Rattle.asn1_bench.specs.OneOutput.{AreOrdered, HasOrderIn, HaveOneSpelling, HaveOrderInEach, IsOrdered}
+use Rattle.asn1_bench.specs.OneOutput.{AreOrdered, HasOrderIn, HaveOrderInEach, IsOrdered}
 use Rattle.asn1_items.proofs.OneBits.{one_bits}
 use Rattle.asn1_items.specs.Contents.{AreUnits, IsContent}
 use Rattle.asn1_items.specs.Headers.{tag_bytes}
@@ -22,7 +22,7 @@ use Rattle.asn1_model.specs.Meaning.{Meaning, own_records}
 use Rattle.asn1_model.specs.Orders.{SameRecord, SameAll, SameRecords, equal, one_by_one, in_any_order, at_end, next}
 use Rattle.asn1_model.specs.Records.{Content, Record, Records, StringKind, null, boolean, number, discriminant, arcs, bits, units, octet, utf8, visible, general, graphic, ia5, printable, numeric, teletex, bmp, scalar, scope, open_type, presence_mark, none, more, held, listed, listed-held}
 use Rattle.asn1_model.specs.Tags.{head_tag}
-use Rattle.asn1_rules.specs.CanonicalReading.{AreOctets, EqualHaveSameRecords, HasOneSpelling}
+use Rattle.asn1_rules.specs.CanonicalReading.{AreOctets, EqualHaveSameRecords, HasOneSpelling, HaveOneSpelling}
 use Rattle.asn1_tags.specs.declared.tags.Tag.{Tag}
 use Rattle.asn1_values.proofs.Digits.{digits_of-magnitude}
 use Rattle.asn1_values.specs.Numbers.{magnitude, signed}
@@ -126,7 +126,7 @@ module _ (marks : MarkBytes) where
   module _ {V : Type 0} (P : Type 0) (m : Meaning V) where
     module _ (eq : V → V → Bool) (same : EqualHaveSameRecords m eq) where
       -- Equal values have one spelling,
-      pub equal_spelling : (v w : V) → HasOrderIn m w → eq v w ≡ true → HaveOneSpelling m (item_format P marks) v w
+      pub equal_spelling : (v w : V) → HasOrderIn m w → eq v w ≡ true → HaveOneSpelling (item_format P marks) m v w
       equal_spelling v w ordered alike own other octets too x y =
           carried_once (own_records m v) (own_records m w) (same v w alike) ordered own other octets too
           (subst (λ l. CarriesWith marks l (own_records m v)) x.1.has_bytes x.1.written.carried)

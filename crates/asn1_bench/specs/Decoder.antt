@@ -8,7 +8,7 @@ use Rattle.asn1_items.specs.Contents.{LooksLike}
 use Rattle.asn1_items.specs.Headers.{Header, Meets, header_at, is_one_item}
 use Rattle.asn1_items.specs.Kinds.{kind_of_scope}
 use Rattle.asn1_items.specs.Items.{HasBytes, HaveBytes, MarkBytes, read_with}
-use Rattle.asn1_items.specs.Slices.{IsTaken, left_inside}
+use Rattle.asn1_items.specs.Slices.{IsItemTaken, left_inside}
 use Rattle.asn1_items.specs.declared.header.ExpectedHeader.{ExpectedHeader}
 use Rattle.asn1_items.specs.declared.header.ExpectedHeader.TheVariants.{Content, Scope, Alternative, Any}
 use Rattle.asn1_items.specs.declared.kinds.ScopeKind.TheVariants as scope_kind
@@ -57,7 +57,7 @@ abbrev pub TakesItem : ExpectedHeader → DecodeState → DecodeState → Result
 TakesItem expected old new result =
     (h : Header) (inside back : List ℕ) → old.failed ≡ false → header_at (left_inside old.slices) ≡ Some h →
     h.body ≡ inside ++ back → h.size ≡ length inside → Meets expected h →
-    MatchResult result (λ i. IsTaken i h.tag inside back old.slices new.slices) (λ _. ⊥)
+    MatchResult result (λ i. IsItemTaken i h.tag inside back old.slices new.slices) (λ _. ⊥)
 
 -- a call that reads each content under this tag which has the bytes and the kind of this one, with any constraints
 abbrev pub ReadsContentLike : {D X V : Type 0} → Reader D → Tag → (X → model.Content) → (X → Type 0) → (V → X → Type 0) → D → D → Result V DecodeError → Type 0

@@ -1,10 +1,9 @@
 -- The records with one output in bytes of items, and the types whose values have one spelling.
-use Rattle.std.specs.Prelude.{◌≡◌, ⊤, Bool, List, ℕ, Vec, false, true}
+use Rattle.std.specs.Prelude.{◌≡◌, ⊤, ℕ, Vec, false}
 use Rattle.std.specs.declared.alloc.Global.{Global}
 use Rattle.asn1_model.specs.Meaning.{Meaning, own_records}
 use Rattle.asn1_model.specs.Orders.{is_unordered}
 use Rattle.asn1_model.specs.Records.{Record, Records, scalar, scope, open_type, presence_mark, none, more, held}
-use Rattle.asn1_rules.specs.CanonicalReading.{AreOctets, IsSpelled}
 use Rattle.asn1_rules.specs.Rules.{Format}
 
 -- The order of what is inside means something, at any depth: there is no SET and no SET OF (X.680, 27 and 28).
@@ -28,8 +27,3 @@ module _ {V : Type 0} (m : Meaning V) where
     -- The same of each valid value of the type.
     abbrev pub HaveOrderInEach : Type 0
     HaveOrderInEach = (v : V) → m.IsOfType v → m.IsValid F.accepts v → HasOrderIn v
-
-    -- Bytes that writing one of these values makes are the same as those that writing the other makes.
-    abbrev pub HaveOneSpelling : V → V → Type 0
-    HaveOneSpelling v w =
-        (own other : List ℕ) → AreOctets own → AreOctets other → IsSpelled F m v own → IsSpelled F m w other → own ≡ other

@@ -1,8 +1,8 @@
 //! Laws of one spelling: records without sets have one output, and so values without sets have one spelling.
 ghost use Rattle.asn1_bench.specs.Format.{packed_format};
-ghost use Rattle.asn1_bench.specs.OneOutput.{HasOrderIn, HaveOneSpelling, HaveOrderInEach};
+ghost use Rattle.asn1_bench.specs.OneOutput.{HasOrderIn, HaveOrderInEach};
 ghost use Rattle.asn1_model.specs.Meaning.{IsWellTagged, own_records};
-ghost use Rattle.asn1_rules.specs.CanonicalReading.{AreOctets, EqualHaveSameRecords, HasOneSpelling};
+ghost use Rattle.asn1_rules.specs.CanonicalReading.{AreOctets, EqualHaveSameRecords, HasOneSpelling, HaveOneSpelling};
 ghost use Rattle.asn1_rules.specs.Fronts.{BelongsTo, IsSteady};
 ghost use Rattle.std.specs.Prelude.{◌≡◌, Vec, true, ℕ};
 ghost use Rattle.std.specs.declared.alloc.Global.{Global};
@@ -21,7 +21,7 @@ use asn1_rules::{CanonicalReader, FrontReader, Rules};
 /// The elements of a set have packed bytes in every order, since the codec writes them in the order in which it has them.
 pub fn equal_values_have_one_spelling<T: AsnType + PartialEq>()
     ensures { EqualHaveSameRecords T.meaning T.eq → (v w : T) → HasOrderIn T.meaning w →
-        T.eq v w ≡ true → HaveOneSpelling T.meaning packed_format v w }
+        T.eq v w ≡ true → HaveOneSpelling packed_format T.meaning v w }
 {}
 
 /// A law of one spelling: bytes that carry the records of a value are its only spelling, if equal values of its type have the same

@@ -35,7 +35,7 @@ pub fn what_is_too_long_has_no_output<P: Presence>()
         (item_writer {P = P} P.mark_bytes).rejects rs → ¬ CarriesWith P.mark_bytes bytes rs }
 {}
 
-/// A law of the reader: bytes behind change nothing, and an input has one front at most (`steady`); and for each type that can
+/// A law of the reader: trailing bytes change nothing, and an input has one front at most (`steady`); and for each type that can
 /// be inside others, what the rules write is a front of the value that was written (`belongs`).
 #[tactic(auto, using(crate::proofs::Fronts::packed_steady, crate::proofs::Fronts::packed_belongs))]
 pub fn the_reader_belongs_to_the_rules<T: Decode>(reader: &BenchReader)
@@ -61,7 +61,7 @@ pub fn the_reader_cuts_one_item<T: Decode>(reader: &BenchReader)
         highest (own_records T.meaning v) }
 {}
 
-/// A law of [`ByteReader`]: it takes the first byte of an input for a value, and nothing else (`front`); bytes behind change nothing
+/// A law of [`ByteReader`]: it takes the first byte of an input for a value, and nothing else (`front`); trailing bytes change nothing
 /// (`steady`).
 #[tactic(auto, using(crate::proofs::Bytes::byte_front_is_first, crate::proofs::Bytes::bytes_steady))]
 pub fn the_byte_reader_takes_one_byte(reader: &ByteReader)

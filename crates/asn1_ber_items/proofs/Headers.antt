@@ -55,7 +55,7 @@ header_shorter bytes h is = by (identifier_at bytes) refl is
 pub some_bytes : (left : List ℕ) (h : Header) → header_at left ≡ Some h → left ≡ [] → ⊥
 some_bytes left h at none = let e : None ≡ Some h = sym (ap header_at none) ∙ at in cc
 
--- the bytes after a header, cut behind as many as its length says
+-- the bytes after a header, cut after as many as its length says
 pub cut_there : (h : Header) (size : ℕ) (contents back : List ℕ) → h.size ≡ Some size → size ≤ length h.rest → contents ≡ take size h.rest → back ≡ drop size h.rest → IsDefinite h contents back
 cut_there h size contents back is enough first later = record {
   size = is ∙ ap Some (sym (ap length first ∙ length-take-le size h.rest enough));

@@ -1,4 +1,4 @@
--- The element with which bytes begin, apart from those behind it.
+-- The element with which bytes begin, apart from those after it.
 use Rattle.std.proofs.Common.{◌≡◌, ◌⊎◌, inl, inr, ℕ, Bool, true, false, List, [], ◌∷◌, ◌++◌, None, Some, length, take, drop, refl, ap, sym, subst, ◌∙◌}
 use Rattle.std.proofs.Math.Seq.{drop-append_seam, take-append_seam}
 use Rattle.std.specs.Borrow.{Bor}

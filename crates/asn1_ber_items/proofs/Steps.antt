@@ -54,7 +54,7 @@ steps_out es outer e left back written new are ends after appended consistent =
           (ends_behind outer e left written back a.added ends after b a.is normal (subst (λ l. Comes outer (AreLast normal) back l) a.joined comes));
     }
 
--- less is left to do behind an element that ends
+-- less is left to do after an element that ends
 extent_less : (x : Extent) (left back : List ℕ) (n : ℕ) → left ≡ end_of x back → IsAfter x back → 2 * (length back + n) < 2 * (length left + (n + bytes_after x)) + 1
 extent_less (Definite after) left back n ends after_is = omega (arith, ap length ends, ap length after_is)
 extent_less Indefinite left back n ends after_is = omega (arith, ap length ends)

@@ -23,7 +23,7 @@ long_size_at count bytes = if nat_le count (length bytes) && nat_lt (magnitude (
     then Some (record { size = Some (magnitude (take count bytes)); rest = drop count bytes })
     else None
 
--- the length behind a first octet of 128 or more, less 128: none begins an indefinite length (8.1.3.6), and 127 no length
+-- the length after a first octet of 128 or more, less 128: none begins an indefinite length (8.1.3.6), and 127 no length
 abbrev pub later_size_at : ℕ → List ℕ → Option Measured
 later_size_at count rest = if nat_eq count 0 then Some (record { size = None; rest = rest })
     else (if nat_eq count 127 then None else long_size_at count rest)

@@ -19,12 +19,12 @@ pub record IsDefinite (h : Header) (contents back : List ℕ) : Type 0 where
 pub data Spells : List ℕ → List ℕ → List ℕ → Type 0 where
   -- no element
   nothing : (bytes : List ℕ) → Spells bytes [] bytes
-  -- a primitive element, with the same contents octets, and others behind it
+  -- a primitive element, with the same contents octets, and others after it
   primitive : (bytes contents own back others rest : List ℕ) (h : Header) → BeginWith false h bytes → IsDefinite h contents back →
       IsElement h.tag false contents own → Spells back others rest → Spells bytes (own ++ others) rest
   -- a constructed element of a definite length: its contents octets are elements
   definite : (bytes contents inside own back others rest : List ℕ) (h : Header) → BeginWith true h bytes → IsDefinite h contents back →
       Spells contents inside [] → IsElement h.tag true inside own → Spells back others rest → Spells bytes (own ++ others) rest
-  -- a constructed element of an indefinite length: elements, and two zeros behind them
+  -- a constructed element of an indefinite length: elements, and two zeros after them
   indefinite : (bytes inside own back others rest : List ℕ) (h : Header) → BeginWith true h bytes → h.size ≡ None →
       Spells h.rest inside (0 ∷ 0 ∷ back) → IsElement h.tag true inside own → Spells back others rest → Spells bytes (own ++ others) rest

@@ -16,7 +16,7 @@ pub record AreLast (normal left written : List ℕ) : Type 0 where
   pub spell : Spells left others []
   pub are : normal ≡ written ++ others
 
--- what is left behind the elements inside an open element, if these bytes follow it
+-- what is left after the elements inside an open element, if these bytes follow it
 abbrev pub end_of : Extent → List ℕ → List ℕ
 end_of (Definite after) back = []
 end_of Indefinite back = 0 ∷ 0 ∷ back
@@ -79,14 +79,14 @@ bytes_behind (e ∷ es) = bytes_after e.extent + bytes_behind es
 abbrev pub work : Walk → ℕ
 work walk = 2 * (length walk.left.now + bytes_behind walk.begun.items) + length walk.begun.items
 
--- These bytes are behind an open element of this tag: its contents octets from here on are elements, of which it is made.
+-- These bytes follow an open element of this tag: its contents octets from here on are elements, of which it is made.
 pub record IsClosing (tag : Tag) (extent : Extent) (left own back : List ℕ) : Type 0 where
   pub others : List ℕ
   pub spell : Spells left others (end_of extent back)
   pub after : IsAfter extent back
   pub element : IsElement tag true others own
 
--- The bytes are those of a primitive element, and those behind it.
+-- The bytes are those of a primitive element, and those after it.
 pub record IsCopy (own back mine after : List ℕ) : Type 0 where
   pub own_is : mine ≡ own
   pub back_is : after ≡ back
@@ -96,7 +96,7 @@ pub data IsEnd : List ℕ → Type 0 where
   nothing_left : IsEnd []
   end_octets : (back : List ℕ) → IsEnd (0 ∷ 0 ∷ back)
 
--- The first of the elements is one of which this holds, and others are behind it.
+-- The first of the elements is one of which this holds, and others are after it.
 pub record IsSplit (Is : List ℕ → List ℕ → Type 0) (others rest : List ℕ) : Type 0 where
   pub own : List ℕ
   pub back : List ℕ

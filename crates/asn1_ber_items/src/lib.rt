@@ -1,7 +1,7 @@
 //! Elements of BER (X.690, 8.1), in any of their spellings, and their normal form.
 //!
 //! BER writes an element in many ways: a length may have more octets than it needs, and a constructed element may have an
-//! indefinite length, with end-of-contents octets behind the elements inside. [`normal_form`] answers the same elements with definite
+//! indefinite length, with end-of-contents octets after the elements inside. [`normal_form`] answers the same elements with definite
 //! lengths of the fewest octets, as DER has them, so what reads elements of DER reads those of BER too.
 //!
 //! | Item | What it is |

@@ -32,7 +32,7 @@ pub(crate) fn read_size(bytes: &[u8]) -> Result<Measured<'_>, ItemError>
     read_later_size(usize::from(*first - 128), rest)
 }
 
-/// Reads a length behind a first octet that is this number and 128.
+/// Reads a length after a first octet that is this number and 128.
 fn read_later_size(count: usize, octets: &[u8]) -> Result<Measured<'_>, ItemError>
     ensures only { IfOk result (λ m. later_size_at count octets.now ≡ Some (measured_of m)) }
     ensures found { (m : MeasuredView) → later_size_at count octets.now ≡ Some m → IsOk result }

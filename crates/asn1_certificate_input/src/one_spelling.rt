@@ -1,8 +1,7 @@
 //! Laws of the spelling of certificates.
 ghost use Rattle.asn1_der.specs.Format.{der_format};
-ghost use Rattle.asn1_der.specs.OneOutput.{HaveOneSpelling};
 ghost use Rattle.asn1_model.specs.Meaning.{own_records};
-ghost use Rattle.asn1_rules.specs.CanonicalReading.{AreOctets, HasOneSpelling};
+ghost use Rattle.asn1_rules.specs.CanonicalReading.{AreOctets, HasOneSpelling, HaveOneSpelling};
 ghost use Rattle.std.specs.Prelude.{◌≡◌, Vec, true, ℕ};
 ghost use Rattle.std.specs.declared.alloc.Global.{Global};
 
@@ -14,7 +13,7 @@ use asn1_x509::Certificate;
 pub fn equal_certificates_have_one_spelling()
     ensures equal { (one other : Certificate) →
         ⟦<Certificate as PartialEq>⟧.eq one other ≡ true →
-        HaveOneSpelling ⟦<Certificate as AsnType>⟧.meaning one other }
+        HaveOneSpelling der_format ⟦<Certificate as AsnType>⟧.meaning one other }
     ensures only { (output : Vec ℕ Global) (certificate : Certificate) → AreOctets output.items →
         der_format.carries output (own_records ⟦<Certificate as AsnType>⟧.meaning certificate) →
         HasOneSpelling der_format ⟦<Certificate as AsnType>⟧.meaning

@@ -1,4 +1,4 @@
--- Elements are cut off: bytes behind change nothing, what is cut off is one element, and so is what was written.
+-- Elements are cut off: trailing bytes change nothing, what is cut off is one element, and so is what was written.
 use Rattle.std.proofs.Common.{◌≡◌, ℕ, ◌≤◌, Bool, false, List, [], ◌∷◌, ◌++◌, Some, ap, sym, subst, ◌∙◌, arith, append-nil, drop, length, length-append, length-drop, refl, take}
 use Rattle.std.proofs.Math.Seq.{take-append_seam}
 use Rattle.std.proofs.lemmas.List.{take-append-drop}

@@ -7,7 +7,7 @@ use Rattle.asn1_der_items.specs.Bytes.{HasDer, HaveDer, HoldsInOrder}
 use Rattle.asn1_der_items.specs.Series.{IsAlone}
 use Rattle.asn1_der_items.specs.declared.content_order.ContentOrder.{ContentOrder}
 use Rattle.asn1_der_items.specs.declared.content_order.ContentOrder.TheVariants.{AsDefined, ByTag, ByEncoding, Chosen}
-use Rattle.asn1_der.specs.Decoder.{AreInOrder, BeginWithScope, HoldsOthers, IsExpected, IsFirstOf, IsInside, IsParsed}
+use Rattle.asn1_der.specs.Decoder.{AreInOrder, BeginWithScope, HoldsOthers, IsExpected, IsFirstOf, IsInsideElement, IsParsed}
 use Rattle.asn1_der.specs.declared.parsed_element.ParsedElement.{ParsedElement}
 use Rattle.asn1_der_items.specs.Elements.{Element}
 use Rattle.asn1_items.specs.Slices.{left_inside}
@@ -25,7 +25,7 @@ pub record Inside (content_order : ContentOrder) (t : Tag) (rs : Records) (own :
   pub alone : IsAlone element own
   pub tag : element.tag ≡ t
   pub inside : List ℕ
-  pub is : IsInside content_order element own inside
+  pub is : IsInsideElement content_order element own inside
   pub have : HaveDer rs inside
 
 inside_of : (content_order : ContentOrder) (t : Tag) (rs : Records) (own : List ℕ) → HoldsInOrder content_order t (HaveDer rs) own → Inside content_order t rs own
@@ -68,7 +68,7 @@ asked_tag None own t same is = is
 asked_tag (Some asked) own t same is = same ∙ is
 
 -- what is inside an element is in the order of the form
-in_order : (content_order : ContentOrder) (e : Element) (own inside : List ℕ) → IsInside content_order e own inside → AreInOrder content_order inside
+in_order : (content_order : ContentOrder) (e : Element) (own inside : List ℕ) → IsInsideElement content_order e own inside → AreInOrder content_order inside
 in_order AsDefined e own inside is = tt
 in_order ByTag e own inside is = is.1
 in_order ByEncoding e own inside is = is.1
@@ -76,14 +76,14 @@ in_order Chosen e own inside is = tt
 
 -- and so it is where a scope was opened
 pub opened_in_order : (content_order : ContentOrder) (parsed : ParsedElement) (inside : List ℕ) (old new : DecodeState) (tag : Tag) (result : Result Opened DecodeError) →
-    ((e : Element) (own : List ℕ) → IsParsed parsed e own → IsInside content_order e own inside) → IfOk result (IsOpen old new tag inside) → OnOk result (AreInOrder content_order (left_inside new.slices))
+    ((e : Element) (own : List ℕ) → IsParsed parsed e own → IsInsideElement content_order e own inside) → IfOk result (IsOpen old new tag inside) → OnOk result (AreInOrder content_order (left_inside new.slices))
 opened_in_order content_order parsed inside old new tag (Err e) is opened = tt
 opened_in_order content_order parsed inside old new tag (Ok w) is opened =
     let e : Element = record { tag = parsed.tag; constructed = parsed.constructed; contents = parsed.contents.now; rest = [] } in
     subst (AreInOrder content_order) (sym opened.inside_is) (in_order content_order e parsed.bytes.now inside (is e parsed.bytes.now (record { tag = refl; constructed = refl; contents = refl; bytes = refl })))
 
 -- an element that was opened holds others
-holds_others : (content_order : ContentOrder) (e : Element) (own inside : List ℕ) → IsInside content_order e own inside → HoldsOthers content_order e
+holds_others : (content_order : ContentOrder) (e : Element) (own inside : List ℕ) → IsInsideElement content_order e own inside → HoldsOthers content_order e
 holds_others AsDefined e own inside is = is.constructed
 holds_others ByTag e own inside is = is.0.constructed
 holds_others ByEncoding e own inside is = is.0.constructed
@@ -91,7 +91,7 @@ holds_others Chosen e own inside is = tt
 
 -- and it is the first one
 pub begin_with_scope : (content_order : ContentOrder) (tag : Option Tag) (parsed : ParsedElement) (inside bytes : List ℕ) (result : Result Opened DecodeError) → IsFirstOf parsed bytes → IfSome tag (λ t. parsed.tag ≡ t) →
-    ((e : Element) (own : List ℕ) → IsParsed parsed e own → IsInside content_order e own inside) → OnOk result (BeginWithScope content_order tag bytes)
+    ((e : Element) (own : List ℕ) → IsParsed parsed e own → IsInsideElement content_order e own inside) → OnOk result (BeginWithScope content_order tag bytes)
 begin_with_scope content_order tag parsed inside bytes (Err e) first under is = tt
 begin_with_scope content_order tag parsed inside bytes (Ok w) first under is =
     let e : Element = record { tag = parsed.tag; constructed = parsed.constructed; contents = parsed.contents.now; rest = first.rest } in

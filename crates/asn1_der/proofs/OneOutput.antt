@@ -7,7 +7,7 @@ use Rattle.std.specs.declared.alloc.Global.{Global}
 use Rattle.asn1_der.proofs.Cuts.{der_belongs, der_steady}
 use Rattle.asn1_der.specs.Cuts.{cut_within, der_fronts}
 use Rattle.asn1_der.specs.Format.{Carries, der_format}
-use Rattle.asn1_der.specs.OneOutput.{HasDistinctSetsIn, HasNoSet, HaveDistinctSetsInEach, HaveNoSet, HaveOneOutput, HaveOneSpelling, IsNoSet}
+use Rattle.asn1_der.specs.OneOutput.{HasDistinctSetsIn, HasNoSet, HaveDistinctSetsInEach, HaveNoSet, HaveOneOutput, IsNoSet}
 use Rattle.asn1_der.specs.declared.reader.DerReader.{DerReader}
 use Rattle.asn1_der_items.proofs.Canonical.{same_ders}
 use Rattle.asn1_der_items.proofs.DistinctSets.{all_distinct}
@@ -18,7 +18,7 @@ use Rattle.asn1_model.specs.Meaning.{Meaning, IsWellTagged, own_records}
 use Rattle.asn1_model.specs.Orders.{SameRecord, SameAll, SameRecords, at_end, equal, in_any_order, one_by_one, next}
 use Rattle.asn1_model.specs.Records.{Head, Record, Records, alternative, explicit_tag, held, listed, more, none, open_type, presence_mark, scalar, scope, sequence, sequence_of, set, set_of}
 use Rattle.asn1_rules.specs.CanonicalFronts.{HasOneSpellingEach}
-use Rattle.asn1_rules.specs.CanonicalReading.{AreOctets, EqualHaveSameRecords, HasOneSpelling}
+use Rattle.asn1_rules.specs.CanonicalReading.{AreOctets, EqualHaveSameRecords, HasOneSpelling, HaveOneSpelling}
 
 distinct_in : (h : Head) (rs : Records) → IsNoSet h → AreDistinctIn h rs
 distinct_in (sequence t table n) rs free = tt
@@ -57,14 +57,14 @@ octets_below (byte ∷ bytes) all = (omega (arith, All-head (λ b. b < 2 ^ 8) by
 
 module _ {V : Type 0} (m : Meaning V) where
   -- Values with the same records have one spelling,
-  pub one_spelling : (v w : V) → SameRecords (own_records m v) (own_records m w) → HasDistinctSetsIn m v → HaveOneSpelling m v w
-  one_spelling v w same distinct own other below above x y =
-      one_output (own_records m v) (own_records m w) same distinct own other below above
+  pub one_spelling : (v w : V) → SameRecords (own_records m v) (own_records m w) → HasDistinctSetsIn m v → HaveOneSpelling der_format m v w
+  one_spelling v w same distinct own other octets too x y =
+      one_output (own_records m v) (own_records m w) same distinct own other (octets_below own octets) (octets_below other too)
       (subst (λ octets. Carries octets (own_records m v)) x.1.has_bytes x.1.written.carried)
       (subst (λ octets. Carries octets (own_records m w)) y.1.has_bytes y.1.written.carried)
 
   module _ (eq : V → V → Bool) (same : EqualHaveSameRecords m eq) where
-    pub equal_spelling : (v w : V) → HasDistinctSetsIn m v → eq v w ≡ true → HaveOneSpelling m v w
+    pub equal_spelling : (v w : V) → HasDistinctSetsIn m v → eq v w ≡ true → HaveOneSpelling der_format m v w
     equal_spelling v w distinct alike = one_spelling v w (same v w alike) distinct
 
     -- which is what was written of one of them.

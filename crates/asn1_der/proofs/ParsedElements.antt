@@ -2,14 +2,14 @@
 use Rattle.std.proofs.Common.{◌≡◌, ℕ, ◌-◌, List, ◌++◌, Some, length, length-append, take, refl, sym, ap, ◌∙◌, arith}
 use Rattle.std.proofs.Math.Seq.{take-append_seam}
 use Rattle.asn1_der_items.specs.Series.{IsAlone}
-use Rattle.asn1_der.specs.Decoder.{IsTaken}
+use Rattle.asn1_der.specs.Decoder.{IsElementTaken}
 use Rattle.asn1_der.specs.declared.parsed_element.ParsedElement.{ParsedElement}
 use Rattle.asn1_der_items.proofs.TrailingBytes.{element_at-append, element_before}
 use Rattle.asn1_der_items.specs.Elements.{Element, element_at}
 use Rattle.asn1_items.specs.Slices.{left_inside}
 use Rattle.asn1_items.specs.declared.slices.Slices.{Slices}
 
--- what is found where an element is alone, with more behind
+-- what is found where an element is alone, and where trailing bytes follow
 pub found_before : (e found : Element) (own back left : List ℕ) → IsAlone e own → left ≡ own ++ back → element_at left ≡ Some found →
     found ≡ record { tag = e.tag; constructed = e.constructed; contents = e.contents; rest = back }
 found_before e found own back left alone is at =
@@ -25,7 +25,7 @@ front_of own back n is =
 
 pub was_taken : (parsed : ParsedElement) (e found : Element) (own back left : List ℕ) (new : Slices) → IsAlone e own → left ≡ own ++ back → element_at left ≡ Some found →
     parsed.tag ≡ found.tag → parsed.constructed ≡ found.constructed → parsed.contents.now ≡ found.contents →
-    parsed.bytes.now ≡ take (length left - length found.rest) left → left_inside new ≡ found.rest → IsTaken parsed e own back new
+    parsed.bytes.now ≡ take (length left - length found.rest) left → left_inside new ≡ found.rest → IsElementTaken parsed e own back new
 was_taken parsed e found own back left new alone is at tag form contents bytes rest =
     let same = found_before e found own back left alone is at in
     let behind : found.rest ≡ back = ap (λ (x : Element). x.rest) same in

@@ -10,7 +10,7 @@ use Rattle.asn1_der_items.specs.declared.content_order.ContentOrder.{ContentOrde
 use Rattle.asn1_der_items.specs.declared.content_order.ContentOrder.TheVariants.{AsDefined, ByTag, ByEncoding, Chosen}
 use Rattle.asn1_der.proofs.Arranging.{CanBeRearranged}
 use Rattle.asn1_der.specs.Sorting.{AreSorted}
-use Rattle.asn1_der.specs.WrittenElements.{IsFront, IsHeld, IsOpenScope, IsWritten}
+use Rattle.asn1_der.specs.WrittenElements.{IsFront, IsHeld, IsOpenScope, IsWrittenAsElements}
 use Rattle.asn1_der.specs.declared.frame.Frame.{Frame}
 use Rattle.asn1_der.specs.declared.sorting.Order.{Order}
 use Rattle.asn1_der.specs.declared.sorting.Order.TheVariants.{Tags, Encodings}
@@ -56,7 +56,7 @@ one_record : (r : Record) (bytes : List ℕ) → HasDer r bytes → HaveDer (hel
 one_record r bytes p = record { first = bytes; others = []; is_first = p; are_others = refl; are = sym (append-nil bytes) }
 
 -- more records in the innermost list
-followed : (w : Written) (fs : List Frame) (bytes more : List ℕ) (ss : List Record) → IsWritten w fs bytes → HaveDer (held ss) more → IsWritten (followed_by w ss) fs (bytes ++ more)
+followed : (w : Written) (fs : List Frame) (bytes more : List ℕ) (ss : List Record) → IsWrittenAsElements w fs bytes → HaveDer (held ss) more → IsWrittenAsElements (followed_by w ss) fs (bytes ++ more)
 followed (outermost rs) [] bytes more ss p q = der-append rs ss bytes more p q
 followed (outermost rs) (f ∷ fs) bytes more ss p q = absurd p
 followed (in_scope h rs w) [] bytes more ss p q = absurd p
@@ -81,11 +81,11 @@ followed (in_group table rs w) fs bytes more ss p q = record {
 }
 
 -- a record was appended
-pub appended : (fs : List Frame) (bytes new : List ℕ) (r : Record) → Appended (HasDer r) bytes new → (w : Written) → IsWritten w (reverse fs) bytes → IsWritten (followed_by w (r ∷ [])) (reverse fs) new
-appended fs bytes new r a w wrote = subst (λ l. IsWritten (followed_by w (r ∷ [])) (reverse fs) l) (sym a.joined) (followed w (reverse fs) bytes a.added (r ∷ []) wrote (one_record r a.added a.is))
+pub appended : (fs : List Frame) (bytes new : List ℕ) (r : Record) → Appended (HasDer r) bytes new → (w : Written) → IsWrittenAsElements w (reverse fs) bytes → IsWrittenAsElements (followed_by w (r ∷ [])) (reverse fs) new
+appended fs bytes new r a w wrote = subst (λ l. IsWrittenAsElements (followed_by w (r ∷ [])) (reverse fs) l) (sym a.joined) (followed w (reverse fs) bytes a.added (r ∷ []) wrote (one_record r a.added a.is))
 
 pub scalar_appended : (fs : List Frame) (bytes new : List ℕ) (t : Tag) (k : ConstraintSet) (n : Name) (x y : Content) → unlabelled x ≡ y → Appended (HoldsContents (HasContents y) t false) bytes new → (w : Written) →
-    IsWritten w (reverse fs) bytes → IsWritten (followed_by w (scalar t k n x ∷ [])) (reverse fs) new
+    IsWrittenAsElements w (reverse fs) bytes → IsWrittenAsElements (followed_by w (scalar t k n x ∷ [])) (reverse fs) new
 scalar_appended fs bytes new t k n x y is a =
     appended fs bytes new (scalar t k n x) (record {
       added = a.added;
@@ -94,24 +94,24 @@ scalar_appended fs bytes new t k n x y is a =
     })
 
 -- a presence mark leaves the bytes as they are
-pub mark_appended : (fs : List Frame) (bytes : List ℕ) (m : model.PresenceMark) (w : Written) → IsWritten w (reverse fs) bytes → IsWritten (followed_by w (presence_mark m ∷ [])) (reverse fs) bytes
+pub mark_appended : (fs : List Frame) (bytes : List ℕ) (m : model.PresenceMark) (w : Written) → IsWrittenAsElements w (reverse fs) bytes → IsWrittenAsElements (followed_by w (presence_mark m ∷ [])) (reverse fs) bytes
 mark_appended fs bytes m = appended fs bytes bytes (presence_mark m) (record { added = []; is = refl; joined = sym (append-nil bytes) })
 
 -- scopes
 reverse-last : (fs : List Frame) (f : Frame) → reverse (fs ++ f ∷ []) ≡ f ∷ reverse fs
 reverse-last fs f = reverse-append fs (f ∷ [])
 
-pub scope_begun : (fs gs : List Frame) (f : Frame) (h : Head) (bytes new : List ℕ) → Appended (IsFront f.content_order f.tag) bytes new → f.start ≡ length new → f.tag ≡ head_tag h → f.content_order ≡ content_order_of h → gs ≡ fs ++ f ∷ [] → (w : Written) → IsWritten w (reverse fs) bytes →
-    IsWritten (in_scope h [] w) (reverse gs) new
+pub scope_begun : (fs gs : List Frame) (f : Frame) (h : Head) (bytes new : List ℕ) → Appended (IsFront f.content_order f.tag) bytes new → f.start ≡ length new → f.tag ≡ head_tag h → f.content_order ≡ content_order_of h → gs ≡ fs ++ f ∷ [] → (w : Written) → IsWrittenAsElements w (reverse fs) bytes →
+    IsWrittenAsElements (in_scope h [] w) (reverse gs) new
 scope_begun fs gs f h bytes new a starts tag content_order outer w wrote =
-    subst (λ l. IsWritten (in_scope h [] w) l new) (sym (ap reverse outer ∙ reverse-last fs f))
+    subst (λ l. IsWrittenAsElements (in_scope h [] w) l new) (sym (ap reverse outer ∙ reverse-last fs f))
     (record { before = bytes; front = a.added; inside = []; outside = wrote; begins = a.is; are = a.joined ∙ sym (append-nil (bytes ++ a.added)); starts = starts ∙ ap length a.joined; tag = tag; content_order = content_order; have_der = refl })
 
-pub scope_of : (fs gs : List Frame) (f : Frame) (h : Head) (rs : List Record) (bytes : List ℕ) (w : Written) → fs ≡ gs ++ f ∷ [] → IsWritten (in_scope h rs w) (reverse fs) bytes → IsOpenScope (λ before. IsWritten w (reverse gs) before) h rs f bytes
-scope_of fs gs f h rs bytes w outer wrote = subst (λ l. IsWritten (in_scope h rs w) l bytes) (ap reverse outer ∙ reverse-last gs f) wrote
+pub scope_of : (fs gs : List Frame) (f : Frame) (h : Head) (rs : List Record) (bytes : List ℕ) (w : Written) → fs ≡ gs ++ f ∷ [] → IsWrittenAsElements (in_scope h rs w) (reverse fs) bytes → IsOpenScope (λ before. IsWrittenAsElements w (reverse gs) before) h rs f bytes
+scope_of fs gs f h rs bytes w outer wrote = subst (λ l. IsWrittenAsElements (in_scope h rs w) l bytes) (ap reverse outer ∙ reverse-last gs f) wrote
 
-pub no_scope : (fs : List Frame) (h : Head) (rs : List Record) (bytes : List ℕ) (w : Written) → fs ≡ [] → IsWritten (in_scope h rs w) (reverse fs) bytes → ⊥
-no_scope fs h rs bytes w none wrote = subst (λ l. IsWritten (in_scope h rs w) (reverse l) bytes) none wrote
+pub no_scope : (fs : List Frame) (h : Head) (rs : List Record) (bytes : List ℕ) (w : Written) → fs ≡ [] → IsWrittenAsElements (in_scope h rs w) (reverse fs) bytes → ⊥
+no_scope fs h rs bytes w none wrote = subst (λ l. IsWrittenAsElements (in_scope h rs w) (reverse l) bytes) none wrote
 
 -- what a scope holds is a record
 pub held_as_defined : (h : Head) (rs : List Record) (inside own : List ℕ) (t : Tag) (content_order : ContentOrder) → t ≡ head_tag h → content_order ≡ content_order_of h → content_order ≡ AsDefined → HaveDer (held rs) inside → IsElement t true inside own → IsHeld h rs own
@@ -194,7 +194,7 @@ not_chosen h rs inside t content_order tag is chosen have other =
     inr (subst (λ f. CannotHold f (head_tag h) (HaveDer (held rs))) (sym chosen ∙ is) (record { inside = inside; are = have; not = λ one. other (subst (λ u. IsElementOf u inside) (sym tag) one) }))
 
 -- groups
-pub group_begun : (fs : List Frame) (bytes : List ℕ) (table : Table Row) (w : Written) → IsWritten w (reverse fs) bytes → IsWritten (in_group table [] w) (reverse fs) bytes
+pub group_begun : (fs : List Frame) (bytes : List ℕ) (table : Table Row) (w : Written) → IsWrittenAsElements w (reverse fs) bytes → IsWrittenAsElements (in_group table [] w) (reverse fs) bytes
 group_begun fs bytes table w wrote = record { first = bytes; others = []; is_first = wrote; are_others = refl; are = sym (append-nil bytes) }
 
 marks_are_nothing : (rs : List Record) (bytes : List ℕ) → presence_marks_alone rs ≡ true → HaveDer (held rs) bytes → bytes ≡ []
@@ -221,14 +221,14 @@ group_has_no_trace table rs bytes have = by (presence_marks_alone rs) refl
       are = refl;
     }
 
-pub group_ended : (fs : List Frame) (bytes : List ℕ) (table : Table Row) (rs : List Record) (w : Written) → IsWritten (in_group table rs w) (reverse fs) bytes → IsWritten (followed_by w (group_records table (Some rs))) (reverse fs) bytes
+pub group_ended : (fs : List Frame) (bytes : List ℕ) (table : Table Row) (rs : List Record) (w : Written) → IsWrittenAsElements (in_group table rs w) (reverse fs) bytes → IsWrittenAsElements (followed_by w (group_records table (Some rs))) (reverse fs) bytes
 group_ended fs bytes table rs w wrote =
-    subst (λ l. IsWritten (followed_by w (group_records table (Some rs))) (reverse fs) l) (sym wrote.are) (followed w (reverse fs) wrote.first wrote.others (group_records table (Some rs)) wrote.is_first (group_has_no_trace table rs wrote.others wrote.are_others))
+    subst (λ l. IsWrittenAsElements (followed_by w (group_records table (Some rs))) (reverse fs) l) (sym wrote.are) (followed w (reverse fs) wrote.first wrote.others (group_records table (Some rs)) wrote.is_first (group_has_no_trace table rs wrote.others wrote.are_others))
 
 -- what was written at the end
-pub finished : (fs : List Frame) (bytes : List ℕ) (rs : List Record) → IsWritten (outermost rs) (reverse fs) bytes → HaveDer (held rs) bytes
+pub finished : (fs : List Frame) (bytes : List ℕ) (rs : List Record) → IsWrittenAsElements (outermost rs) (reverse fs) bytes → HaveDer (held rs) bytes
 finished fs bytes rs wrote = top (reverse fs) wrote
   where
-    top : (gs : List Frame) → IsWritten (outermost rs) gs bytes → HaveDer (held rs) bytes
+    top : (gs : List Frame) → IsWrittenAsElements (outermost rs) gs bytes → HaveDer (held rs) bytes
     top [] p = p
     top (f ∷ gs) p = absurd p

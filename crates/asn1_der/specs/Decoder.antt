@@ -53,7 +53,7 @@ pub record IsFirstOf (parsed : ParsedElement) (bytes : List ℕ) : Type 0 where
   pub at : element_at bytes ≡ Some (record { tag = parsed.tag; constructed = parsed.constructed; contents = parsed.contents.now; rest = rest })
 
 -- It was taken, and the bytes after it are left.
-pub record IsTaken (parsed : ParsedElement) (e : Element) (own back : List ℕ) (new : Slices) : Type 0 where
+pub record IsElementTaken (parsed : ParsedElement) (e : Element) (own back : List ℕ) (new : Slices) : Type 0 where
   pub seen : IsParsed parsed e own
   pub left : left_inside new ≡ back
 
@@ -68,11 +68,11 @@ pub record IsHolding (e : Element) (inside : List ℕ) : Type 0 where
   pub contents : e.contents ≡ inside
 
 -- The contents of an element of these bytes that holds records in this order.
-abbrev pub IsInside : ContentOrder → Element → List ℕ → List ℕ → Type 0
-IsInside AsDefined e own inside = IsHolding e inside
-IsInside ByTag e own inside = IsHolding e inside × AreElements AscendByTag inside
-IsInside ByEncoding e own inside = IsHolding e inside × AreElements AscendByEncoding inside
-IsInside Chosen e own inside = own ≡ inside
+abbrev pub IsInsideElement : ContentOrder → Element → List ℕ → List ℕ → Type 0
+IsInsideElement AsDefined e own inside = IsHolding e inside
+IsInsideElement ByTag e own inside = IsHolding e inside × AreElements AscendByTag inside
+IsInsideElement ByEncoding e own inside = IsHolding e inside × AreElements AscendByEncoding inside
+IsInsideElement Chosen e own inside = own ≡ inside
 
 -- The bytes have the order: elements ascend by their tags in a SET, and by their encodings in a SET OF.
 abbrev pub AreInOrder : ContentOrder → List ℕ → Type 0

@@ -6,7 +6,6 @@ use Rattle.asn1_der_items.specs.DistinctTags.{HaveDistinctSets}
 use Rattle.asn1_model.specs.Meaning.{Meaning, own_records}
 use Rattle.asn1_model.specs.Orders.{SameRecords}
 use Rattle.asn1_model.specs.Records.{Head, Record, Records, scalar, scope, open_type, presence_mark, none, more, held, sequence, set, sequence_of, set_of, explicit_tag, alternative}
-use Rattle.asn1_rules.specs.CanonicalReading.{IsSpelled}
 
 -- what holds records is no SET (X.680, 27); it may be a SET OF
 abbrev pub IsNoSet : Head → Type 0
@@ -35,13 +34,6 @@ HaveOneOutput rs ss =
     (own other : List ℕ) → AllBelowBase 256 own → AllBelowBase 256 other → Carries own rs → Carries other ss → own ≡ other
 
 module _ {V : Type 0} (m : Meaning V) where
-  -- Octets that writing one of these values makes are the same as those that writing the other makes. A value that
-  -- `read_canonical` answers is written as the octets that were read.
-  abbrev pub HaveOneSpelling : V → V → Type 0
-  HaveOneSpelling v w =
-      (own other : List ℕ) → AllBelowBase 256 own → AllBelowBase 256 other → IsSpelled der_format m v own → IsSpelled der_format m w other →
-      own ≡ other
-
   -- In each SET in a value the components have distinct tags (X.680, 27.3).
   abbrev pub HasDistinctSetsIn : V → Type 0
   HasDistinctSetsIn v = HaveDistinctSets (held (own_records m v))

@@ -41,12 +41,12 @@ pub record IsOpenScope (IsOutside : List ℕ → Type 0) (h : Head) (rs : List R
 
 -- The records that have been written, with the frames innermost first. An open group leaves no trace: its records follow those
 -- outside it.
-abbrev pub IsWritten : Written → List Frame → List ℕ → Type 0
-IsWritten (outermost rs) [] bytes = HaveDer (held rs) bytes
-IsWritten (outermost rs) (f ∷ fs) bytes = ⊥
-IsWritten (in_scope h rs w) [] bytes = ⊥
-IsWritten (in_scope h rs w) (f ∷ fs) bytes = IsOpenScope (λ before. IsWritten w fs before) h rs f bytes
-IsWritten (in_group table rs w) fs bytes = IsJoined (λ before. IsWritten w fs before) (HaveDer (held rs)) bytes
+abbrev pub IsWrittenAsElements : Written → List Frame → List ℕ → Type 0
+IsWrittenAsElements (outermost rs) [] bytes = HaveDer (held rs) bytes
+IsWrittenAsElements (outermost rs) (f ∷ fs) bytes = ⊥
+IsWrittenAsElements (in_scope h rs w) [] bytes = ⊥
+IsWrittenAsElements (in_scope h rs w) (f ∷ fs) bytes = IsOpenScope (λ before. IsWrittenAsElements w fs before) h rs f bytes
+IsWrittenAsElements (in_group table rs w) fs bytes = IsJoined (λ before. IsWrittenAsElements w fs before) (HaveDer (held rs)) bytes
 
 -- The bytes are the DER of a record of this head, which holds these records, in some order where the order means nothing.
 pub record IsHeld (h : Head) (rs : List Record) (bytes : List ℕ) : Type 0 where
@@ -82,7 +82,7 @@ marks_have (r ∷ rs) e (inr none) = marks_have rs ((both_true (is_presence_mark
 -- The buffer in the order in which it is written, where sets have been sorted. It does not take records that have no DER.
 abbrev pub written_der : BufferForm DerBuffer
 written_der = record {
-  wrote = λ b w. IsWritten w (reverse b.outer.items) b.bytes.items;
+  wrote = λ b w. IsWrittenAsElements w (reverse b.outer.items) b.bytes.items;
   rejects = λ rs. SomeHasNoDer (held rs);
   have_bytes = λ rs bytes. HaveDer (held rs) bytes;
 }

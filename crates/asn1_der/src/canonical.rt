@@ -1,11 +1,11 @@
 //! Laws of one spelling: records have one DER, and so values with the same records have one spelling.
 ghost use Rattle.asn1_der.specs.Format.{Carries, der_format};
-ghost use Rattle.asn1_der.specs.OneOutput.{HasDistinctSetsIn, HaveDistinctSetsInEach, HaveNoSet, HaveOneOutput, HaveOneSpelling};
+ghost use Rattle.asn1_der.specs.OneOutput.{HasDistinctSetsIn, HaveDistinctSetsInEach, HaveNoSet, HaveOneOutput};
 ghost use Rattle.asn1_der_items.specs.DistinctTags.{HaveDistinctSets};
 ghost use Rattle.asn1_model.specs.Meaning.{IsWellTagged, own_records};
 ghost use Rattle.asn1_model.specs.Orders.{SameRecords};
 ghost use Rattle.asn1_model.specs.Records.{Record, held};
-ghost use Rattle.asn1_rules.specs.CanonicalReading.{AreOctets, EqualHaveSameRecords, HasOneSpelling};
+ghost use Rattle.asn1_rules.specs.CanonicalReading.{AreOctets, EqualHaveSameRecords, HasOneSpelling, HaveOneSpelling};
 ghost use Rattle.asn1_rules.specs.Fronts.{BelongsTo, IsSteady};
 ghost use Rattle.std.specs.Int.Digits.{AllBelowBase};
 ghost use Rattle.std.specs.Prelude.{◌≡◌, List, Vec, true, ℕ};
@@ -41,9 +41,9 @@ pub fn records_with_an_output_are_not_rejected()
 /// DER, the two inputs were the same octets, and signed octets have no second form that is read as the same value.
 pub fn equal_values_have_one_spelling<T: AsnType + PartialEq>()
     ensures same_records { (v w : T) → SameRecords (own_records T.meaning v)
-        (own_records T.meaning w) → HasDistinctSetsIn T.meaning v → HaveOneSpelling T.meaning v w }
+        (own_records T.meaning w) → HasDistinctSetsIn T.meaning v → HaveOneSpelling der_format T.meaning v w }
     ensures equal { EqualHaveSameRecords T.meaning T.eq → (v w : T) →
-        HasDistinctSetsIn T.meaning v → T.eq v w ≡ true → HaveOneSpelling T.meaning v w }
+        HasDistinctSetsIn T.meaning v → T.eq v w ≡ true → HaveOneSpelling der_format T.meaning v w }
 {}
 
 /// A law of one spelling: octets that carry the records of a value are its only spelling, if equal values of its type have the same

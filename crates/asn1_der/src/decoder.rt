@@ -38,7 +38,7 @@ impl<'a> DerDecoder<'a> {
     ghost use Rattle.asn1_der_items.specs.Bytes.{HaveDer};
     ghost use Rattle.asn1_der_items.specs.Series.{IsAlone};
     ghost use Rattle.asn1_der_items.specs.declared.content_order.ContentOrder.TheVariants.{AsDefined};
-    ghost use Rattle.asn1_der.specs.Decoder.{AreInOrder, AreLeft, BeginWithPrimitive, BeginWithScope, IsFirstOf, IsTaken, IsExpected, Remains, der_reader, in_one_order};
+    ghost use Rattle.asn1_der.specs.Decoder.{AreInOrder, AreLeft, BeginWithPrimitive, BeginWithScope, IsFirstOf, IsElementTaken, IsExpected, Remains, der_reader, in_one_order};
     ghost use Rattle.asn1_der.specs.UnreadBytes.{unread};
     ghost use Rattle.asn1_items.specs.DecodeStates.{IsWithinBound, OpensExpected, ReadsExpectedHead, ReadsExpectedSet};
     ghost use Rattle.asn1_der_items.specs.Contents.{HasOctetsOf};
@@ -93,7 +93,7 @@ impl<'a> DerDecoder<'a> {
     fn take(&mut self) -> Result<ParsedElement<'a>, DecodeError>
         ensures took { (own back : List ℕ) (e : Element) → self.old.state.failed ≡ false →
             IsAlone e own → left_inside self.old.state.slices ≡ own ++ back →
-            MatchResult result (λ parsed. IsTaken parsed e own back self.new.state.slices)
+            MatchResult result (λ parsed. IsElementTaken parsed e own back self.new.state.slices)
             (λ _. ⊥) }
         ensures only { IfOk result (λ parsed.
             IsFirstOf parsed (left_inside self.old.state.slices)) }

@@ -24,7 +24,7 @@ pub fn the_codec_rejects_what_has_no_der(output: &Vec<u8>)
         HaveNoDer rs }
 {}
 
-/// A law of the reader: bytes behind change nothing, and an input has one front at most (`steady`); and for each type that can
+/// A law of the reader: trailing bytes change nothing, and an input has one front at most (`steady`); and for each type that can
 /// be inside others, what the rules write is a front of the value that was written (`belongs`).
 #[tactic(auto, using(crate::proofs::Cuts::der_steady, crate::proofs::Cuts::der_belongs))]
 pub fn the_reader_belongs_to_the_rules<T: Decode>(reader: &DerReader)

@@ -31,7 +31,7 @@
 //! a set is sorted, and the length is written, so bytes are moved only where a length has more octets. A CHOICE has no element of
 //! its own, and presence marks and groups of additions have no bytes. Components that are their DEFAULT are absent for every codec.
 //!
-//! - It has written the DER of the records (`HasDer` of `asn1_der_items`), in the scopes that are open (`IsWritten` of
+//! - It has written the DER of the records (`HasDer` of `asn1_der_items`), in the scopes that are open (`IsWrittenAsElements` of
 //!   `specs/WrittenElements.antt`), and keeps the laws of every encoder (`Encoder`). As types see it, the order inside sets means
 //!   nothing: the components of a SET come out by their tags, and the elements of a SET OF by their encodings
 //!   (`AreSorted` of `specs/Sorting.antt`).

@@ -1,5 +1,5 @@
 //! An element that was parsed, and its contents.
-ghost use Rattle.asn1_der.specs.Decoder.{IsInside, IsParsed};
+ghost use Rattle.asn1_der.specs.Decoder.{IsInsideElement, IsParsed};
 ghost use Rattle.asn1_der_items.specs.Elements.{Element};
 ghost use Rattle.std.specs.Prelude.{◌≡◌, IfSome, IsSome, IsSomeAnd, List, ℕ, false, true};
 
@@ -20,9 +20,9 @@ impl<'a> ParsedElement<'a> {
     /// The bytes inside, if and only if the element holds records in this order.
     pub(crate) fn inside(self, order: ContentOrder) -> Option<&'a [u8]>
         ensures found { (e : Element) (own inside : List ℕ) → IsParsed self.entry e own →
-            IsInside order e own inside → IsSomeAnd result (λ bytes. bytes.now ≡ inside) }
+            IsInsideElement order e own inside → IsSomeAnd result (λ bytes. bytes.now ≡ inside) }
         ensures only { (e : Element) (own : List ℕ) → IsParsed self.entry e own →
-            IfSome result (λ bytes. IsInside order e own bytes.now) }
+            IfSome result (λ bytes. IsInsideElement order e own bytes.now) }
     {
         match order {
             ContentOrder::AsDefined => self.held(),

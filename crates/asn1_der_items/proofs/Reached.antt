@@ -16,12 +16,12 @@ none_found bytes fails = by (element_at bytes) refl
     by None is = is
     by (Some e) is = absurd (never (fails e is))
 
--- behind no element is all
+-- all is after no element
 pub behind_none : (n : ℕ) (bytes : List ℕ) → n ≤ 0 → after_elements n bytes ≡ Some bytes
 behind_none zero bytes none = refl
 behind_none (suc n) bytes none = absurd (omega (arith, none))
 
--- behind one element, one less
+-- after one element, one less
 pub one_less : (n : ℕ) (bytes : List ℕ) (e : Element) → 0 < n → element_at bytes ≡ Some e → after_elements (n - 1) e.rest ≡ after_elements n bytes
 one_less zero bytes e some at = absurd (omega (arith, some))
 one_less (suc n) bytes e some at =
@@ -33,7 +33,7 @@ pub too_few : (n : ℕ) (bytes : List ℕ) → 0 < n → element_at bytes ≡ No
 too_few zero bytes some at = absurd (omega (arith, some))
 too_few (suc n) bytes some at = ap (λ o. option_and_then (λ (d : Element). after_elements n d.rest) o) at
 
--- what is behind elements is no longer than all
+-- what is after elements is no longer than all
 pub behind-shorter : (n : ℕ) (bytes left : List ℕ) → after_elements n bytes ≡ Some left → length left ≤ length bytes
 behind-shorter zero bytes left is = omega (arith, ap length (same bytes left is))
   where
@@ -54,7 +54,7 @@ after k m bound (Some p) is within = omega (arith, within p refl, added k p m is
     added : (k p m : ℕ) → Some (k + p) ≡ Some m → m ≡ k + p
     added k p m same = cc
 
--- a position in what is behind elements
+-- a position in what is after elements
 abbrev in_left : ℕ → List ℕ → List ℕ → Option ℕ
 in_left k path left = option_map (λ position. k - length left + position) (position_at_path left path)
 

@@ -1,4 +1,4 @@
--- More bytes behind change nothing of the element with which bytes begin, and what is left after it is shorter.
+-- Trailing bytes change nothing of the element with which bytes begin, and what is left after it is shorter.
 use Rattle.std.proofs.Common.{◌≡◌, ℕ, ◌+◌, ◌≤◌, ◌<◌, Bool, true, false, List, [], ◌++◌, Option, None, Some, append-nil, length, length-append, take, drop, refl, ap, sym, ◌∙◌, arith}
 use Rattle.std.proofs.lemmas.List.{take-append-drop}
 use Rattle.std.specs.Prelude.{nat_le, if◌then◌else◌}
@@ -14,11 +14,11 @@ use Rattle.asn1_der_items.specs.Series.{IsAlone}
 some_is : {A : Type 0} {x y : A} → Some x ≡ Some y → x ≡ y
 some_is e = cc
 
--- what was read, with these bytes behind what is left
+-- what was read, with these bytes after what is left
 abbrev pub element_before : Element → List ℕ → Element
 element_before e behind = record { tag = e.tag; constructed = e.constructed; contents = e.contents; rest = e.rest ++ behind }
 
--- the element stays with any bytes behind
+-- the element stays before any trailing bytes
 pub element_at-append : (bytes behind : List ℕ) (e : Element) → element_at bytes ≡ Some e → element_at (bytes ++ behind) ≡ Some (element_before e behind)
 element_at-append bytes behind e is = read_before element_leaves element_at bytes e (element_read bytes e is) behind
 

@@ -8,13 +8,13 @@ use Rattle.asn1_der_items.specs.Integers.{IsInteger}
 use Rattle.asn1_model.specs.Records.{Content, StringKind, null, boolean, number, discriminant, arcs, bits, units, teletex, bmp}
 
 -- The octets are these units of a TeletexString, of which each is one octet.
-pub record AreOctets (list octets : List ℕ) : Type 0 where
+pub record AreTeletexOctets (list octets : List ℕ) : Type 0 where
   pub are : octets ≡ list
   pub fit : All (λ unit. unit < 256) list
 
 -- The octets are these units of a string: two octets for each of a BMPString, and one for each of the other kinds (8.23).
 abbrev pub AreUnits : StringKind → List ℕ → List ℕ → Type 0
-AreUnits teletex list octets = AreOctets list octets
+AreUnits teletex list octets = AreTeletexOctets list octets
 AreUnits bmp list octets = AreTwos list octets
 AreUnits _ list octets = octets ≡ list
 

@@ -2,7 +2,7 @@
 use Rattle.std.specs.Prelude.{◌≡◌, ◌≢◌, ⊤, ℕ, zero, suc, ◌+◌, ◌-◌, List, [], None, Some, length, true}
 use Rattle.asn1_der_items.specs.Elements.{Element, element_at}
 
--- The bytes are elements, one behind another, of each of which this holds.
+-- The bytes are elements, one after another, of each of which this holds.
 pub data AreEach (Holds : Element → Type 0) : List ℕ → Type 0 where
   none_left : AreEach Holds []
   one_more : (bytes : List ℕ) (e : Element) → element_at bytes ≡ Some e → Holds e → AreEach Holds e.rest → AreEach Holds bytes
@@ -17,7 +17,7 @@ abbrev pub AreElementsDownTo : ℕ → List ℕ → Type 0
 AreElementsDownTo depth bytes = AreEach (HoldsElements depth) bytes
 
 -- At this position an element is due, and none begins; and all that is before it, down to this depth, are elements: it is the first byte,
--- or behind the element with which the bytes begin, or inside that.
+-- or after the element with which the bytes begin, or inside that.
 pub data IsFirstFault : ℕ → List ℕ → ℕ → Type 0 where
   here : (depth : ℕ) (bytes : List ℕ) → bytes ≢ [] → element_at bytes ≡ None → IsFirstFault depth bytes 0
   behind : (depth : ℕ) (bytes : List ℕ) (e : Element) (position : ℕ) → element_at bytes ≡ Some e → HoldsElements depth e →

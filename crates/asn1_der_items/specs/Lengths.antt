@@ -7,13 +7,13 @@ use Rattle.asn1_der_items.specs.declared.error.ElementError.TheVariants.{Memory}
 use Rattle.asn1_items.specs.Numbers.{Appended}
 
 -- A length below 128 is one octet (8.1.3.4).
-pub record IsShortLength (size : ℕ) (octets : List ℕ) : Type 0 where
+pub record IsShortForm (size : ℕ) (octets : List ℕ) : Type 0 where
   pub are : octets ≡ size ∷ []
   pub below : size < 128
 
 -- Any other is an octet that says how many follow, with bit 8 set, and the length in these, the highest first (8.1.3.5). It
 -- is below 2^64.
-pub record IsLongLength (size : ℕ) (octets : List ℕ) : Type 0 where
+pub record IsLongForm (size : ℕ) (octets : List ℕ) : Type 0 where
   pub digits : List ℕ
   pub are : octets ≡ (length digits + 128) ∷ digits
   pub value : magnitude digits ≡ size
@@ -23,7 +23,7 @@ pub record IsLongLength (size : ℕ) (octets : List ℕ) : Type 0 where
 
 -- The octets are this length.
 abbrev pub IsLength : ℕ → List ℕ → Type 0
-IsLength size octets = IsShortLength size octets ⊎ IsLongLength size octets
+IsLength size octets = IsShortForm size octets ⊎ IsLongForm size octets
 
 -- The bytes are these contents octets with their length in front of them.
 pub record IsMeasured (contents bytes : List ℕ) : Type 0 where

@@ -3,7 +3,7 @@ use Rattle.std.specs.Prelude.{ℕ, zero, suc, ◌+◌, ◌-◌, List, [], ◌∷
 use Rattle.std.specs.Option.{option_and_then, option_map}
 use Rattle.asn1_der_items.specs.Elements.{Element, element_at}
 
--- what is behind this many elements, where there are as many
+-- what is after this many elements, where there are as many
 abbrev pub after_elements : ℕ → List ℕ → Option (List ℕ)
 after_elements zero bytes = Some bytes
 after_elements (suc n) bytes = option_and_then (λ (e : Element). after_elements n e.rest) (element_at bytes)

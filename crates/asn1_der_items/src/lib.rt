@@ -38,7 +38,7 @@
 //!   ([`record_laws::presence_marks_have_no_bytes`]).
 //! - A record has no DER (`HasNoDer`) where some arcs or units have no octets, a CHOICE is not one element of its tag, or an open
 //!   type is not one element.
-//! - [`first_fault`] answers a position where an element is due and none begins, behind elements alone, down to the depth that is given
+//! - [`first_fault`] answers a position where an element is due and none begins, after elements alone, down to the depth that is given
 //!   (`IsFirstFault` of `specs/Faults.antt`; X.690, 8.1.1). If it answers none, the bytes are elements down to that depth
 //!   (`AreElementsDownTo`). Both never hold of the same bytes and the same depth
 //!   ([`fault_laws::bytes_with_a_fault_are_no_elements`]). [`position_at_path`] follows a path (`position_at_path` of `specs/Paths.antt`).

@@ -29,7 +29,7 @@ one_and_then L M read next bytes a b one other = record {
       ∙ other.whatever back;
 }
 
--- So the same is read with more bytes behind.
+-- So the same is read before trailing bytes.
 pub read_before : {A : Type 0} (L : Leaves A) (read : List ℕ → Option A) (bytes : List ℕ) (a : A) → IsReadOf L read bytes a → (behind : List ℕ) → read (bytes ++ behind) ≡ Some (L.leaving a (L.left a ++ behind))
 read_before L read bytes a r behind =
     ap (λ l. read (l ++ behind)) r.are ∙ ap read (append_assoc r.front (L.left a) behind) ∙ r.whatever (L.left a ++ behind)

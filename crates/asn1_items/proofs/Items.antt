@@ -24,7 +24,7 @@ pub use Rattle.asn1_items.proofs.Headers.{class_at-number, item_kind_at-byte, ki
 abbrev pub number_at_four : ℕ → ℕ
 number_at_four n = from_be_bytes w32 (to_be_bytes w32 n)
 
--- the header with more behind it
+-- the header before trailing bytes
 abbrev pub extend : Header → List ℕ → Header
 extend h ys = record { kind = h.kind; tag = h.tag; content = h.content; size = h.size; body = h.body ++ ys }
 
@@ -74,7 +74,7 @@ header_read (byte ∷ rest) h e = after_byte header_leaves header_at byte rest h
     by None e = cc
     by (Some kind) e = class_read kind rest h e
 
--- So the header stays with any bytes behind.
+-- So the header stays before any trailing bytes.
 pub header_at-append : (xs ys : List ℕ) (h : Header) → header_at xs ≡ Some h → header_at (xs ++ ys) ≡ Some (extend h ys)
 header_at-append xs ys h e = read_before header_leaves header_at xs h (header_read xs h e) ys
 

@@ -37,7 +37,7 @@ pub bits_of_one_more : (octets : List ℕ) (count : ℕ) (old new : List Bool) �
 bits_of_one_more octets count old new below so_far eight =
     (let e : (count + 1) * 8 ≡ count * 8 + 8 = omega arith in ap (λ n. take n new) e) ∙ eight ∙ ap (λ l. l ++ bits_of_octet (get_or octets count 0)) so_far ∙ sym (flat-more (take count octets) (get_or octets count 0)) ∙ ap (λ l. bits_of_octets l) (sym (take_more octets count 0 below))
 
--- Octets were written behind what was there, where the vector was filled up with zeros, and the bits that are no whole octet are left.
+-- Octets were written after what was there, where the vector was filled up with zeros, and the bits that are no whole octet are left.
 pub appended : (bits : List Bool) (before reserved pushed zeros behind written slack : List ℕ) (start count : ℕ) → reserved ≡ before → pushed ≡ reserved ++ unused_of bits ∷ [] → start ≡ length pushed → behind ≡ take (start + length bits / 8) pushed ++ zeros →
     count ≡ length written → AreOctetsOf bits start behind written → BitsAppended bits before (take count (written ++ slack)) (drop (length bits / 8 * 8) bits)
 appended bits before reserved pushed zeros behind written slack start count same pushed_is is behind_is long m =

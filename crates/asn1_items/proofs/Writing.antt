@@ -3,7 +3,7 @@ use Rattle.std.proofs.Common.{◌≡◌, ℕ, ◌+◌, ◌≤◌, ◌<◌, ◌^�
 use Rattle.std.proofs.Math.Seq.{take-append_seam}
 use Rattle.std.specs.Prelude.{Some, ◌&&◌, ◌||◌, not, if◌then◌else◌}
 use Rattle.asn1_laws.specs.Writing.{Written, outermost, in_scope, in_group, followed_by}
-use Rattle.asn1_items.specs.Buffers.{GroupIsInnermost, IsWritten, LeadsOut, TellsOfGroup, inward, is_in_group, is_in_scope}
+use Rattle.asn1_items.specs.Buffers.{GroupIsInnermost, IsWrittenAsItems, LeadsOut, TellsOfGroup, inward, is_in_group, is_in_scope}
 use Rattle.asn1_items.specs.Contents.{LooksLike}
 use Rattle.asn1_items.specs.Headers.{tag_bytes}
 use Rattle.asn1_items.specs.Kinds.{content_byte, item_byte, kind_of}
@@ -94,8 +94,8 @@ module _ (marks : MarkBytes) where
   one_record r bytes p = record { first = bytes; others = []; is_first = p; are_others = refl; are = sym (append-nil bytes) }
 
   -- more records in the innermost list
-  followed : (w : Written) (start : ℕ) (far : List ℕ) (groups : List Group) (bytes more : List ℕ) (rs : List model.Record) → IsWritten marks w start far groups bytes → HaveBytes (written_with marks) (held rs) more →
-      IsWritten marks (followed_by w rs) start far groups (bytes ++ more)
+  followed : (w : Written) (start : ℕ) (far : List ℕ) (groups : List Group) (bytes more : List ℕ) (rs : List model.Record) → IsWrittenAsItems marks w start far groups bytes → HaveBytes (written_with marks) (held rs) more →
+      IsWrittenAsItems marks (followed_by w rs) start far groups (bytes ++ more)
   followed (outermost before) start far [] bytes more rs p q = (p.0, bytes-append before rs bytes more p.1 q)
   followed (outermost before) start far (g ∷ groups) bytes more rs p q = absurd p
   followed (in_scope h before w) start far groups bytes more rs p q = record {
@@ -127,14 +127,14 @@ module _ (marks : MarkBytes) where
       )
 
   -- a record was appended
-  pub appended : (w : Written) (start : ℕ) (far : List ℕ) (groups : List Group) (bytes more new : List ℕ) (r : model.Record) → HasBytes (written_with marks) r more → new ≡ bytes ++ more → IsWritten marks w start far groups bytes →
-      IsWritten marks (followed_by w (r ∷ [])) start far groups new
+  pub appended : (w : Written) (start : ℕ) (far : List ℕ) (groups : List Group) (bytes more new : List ℕ) (r : model.Record) → HasBytes (written_with marks) r more → new ≡ bytes ++ more → IsWrittenAsItems marks w start far groups bytes →
+      IsWrittenAsItems marks (followed_by w (r ∷ [])) start far groups new
   appended w start far groups bytes more new r has is wrote =
-      subst (IsWritten marks (followed_by w (r ∷ [])) start far groups) (sym is) (followed w start far groups bytes more (r ∷ []) wrote (one_record r more has))
+      subst (IsWrittenAsItems marks (followed_by w (r ∷ [])) start far groups) (sym is) (followed w start far groups bytes more (r ∷ []) wrote (one_record r more has))
 
   -- what was written is an item of the content
   pub scalar_written : (y x : model.Content) (t : Tag) (c : ConstraintSet) (n : Name) (bytes new : List ℕ) → LooksLike y x → Appended (IsItemOf t y) bytes new → (start : ℕ) (far : List ℕ) (groups : List Group) (w : Written) →
-      IsWritten marks w start far groups bytes → IsWritten marks (followed_by w (scalar t c n x ∷ [])) start far groups new
+      IsWrittenAsItems marks w start far groups bytes → IsWrittenAsItems marks (followed_by w (scalar t c n x ∷ [])) start far groups new
   scalar_written y x t c n bytes new like a start far groups w wrote =
       appended w start far groups bytes a.added new (scalar t c n x) (record { inside = a.is.inside; is = like.bytes a.is.inside a.is.is; item = subst (λ k. IsItem item_kind.Content t (content_byte k ∷ []) a.is.inside a.added) like.kind a.is.item }) a.joined wrote
 
@@ -142,7 +142,7 @@ module _ (marks : MarkBytes) where
   scalar_too_long y x t c n like long = (long.0, like.bytes long.0 long.1, long.2)
 
   -- where the inside of an open scope begins, and how much was written before its header
-  scope_within : (h : model.Head) (rs : List model.Record) (w : Written) (start : ℕ) (far : List ℕ) (groups : List Group) (bytes : List ℕ) (s : IsWritten marks (in_scope h rs w) start far groups bytes) → (length s.before ≤ length bytes) × (start ≤ length bytes)
+  scope_within : (h : model.Head) (rs : List model.Record) (w : Written) (start : ℕ) (far : List ℕ) (groups : List Group) (bytes : List ℕ) (s : IsWrittenAsItems marks (in_scope h rs w) start far groups bytes) → (length s.before ≤ length bytes) × (start ≤ length bytes)
   scope_within h rs w start far groups bytes s =
       let header = item_byte (kind_of h) ∷ tag_bytes (head_tag h) in
       let size = ap length s.are ∙ length-append (s.before ++ header) (four_bytes s.link ++ s.inside) in
@@ -150,13 +150,13 @@ module _ (marks : MarkBytes) where
       (omega (arith, size, outside), omega (arith, size, outside, length-append (four_bytes s.link) s.inside, s.starts))
 
   -- and how much was written before an open group
-  group_within : (table : Table Row) (rs : List model.Record) (w : Written) (start : ℕ) (far : List ℕ) (g : Group) (groups : List Group) (bytes : List ℕ) → IsWritten marks (in_group table rs w) start far (g ∷ groups) bytes → g.start ≤ length bytes
+  group_within : (table : Table Row) (rs : List model.Record) (w : Written) (start : ℕ) (far : List ℕ) (g : Group) (groups : List Group) (bytes : List ℕ) → IsWrittenAsItems marks (in_group table rs w) start far (g ∷ groups) bytes → g.start ≤ length bytes
   group_within table rs w start far g groups bytes wrote =
       let s = wrote.1 in
       omega (arith, s.starts, ap length s.are ∙ length-append s.before (marks (model.group_start table) ++ s.inside))
 
   -- the inside of the innermost scope begins in what was written
-  pub start_within : (w : Written) (start : ℕ) (far : List ℕ) (groups : List Group) (bytes : List ℕ) → IsWritten marks w start far groups bytes → start ≤ length bytes
+  pub start_within : (w : Written) (start : ℕ) (far : List ℕ) (groups : List Group) (bytes : List ℕ) → IsWrittenAsItems marks w start far groups bytes → start ≤ length bytes
   start_within (outermost rs) start far [] bytes wrote = omega (arith, wrote.0)
   start_within (outermost rs) start far (g ∷ groups) bytes wrote = absurd wrote
   start_within (in_scope h rs w) start far groups bytes s = (scope_within h rs w start far groups bytes s).1
@@ -167,7 +167,7 @@ module _ (marks : MarkBytes) where
 
   -- a scope was opened
   pub scope_opened : (h : model.Head) (w : Written) (start link outer : ℕ) (far outer_far : List ℕ) (groups : List Group) (bytes new : List ℕ) → start ≡ length bytes + 10 → (head_tag h).value < 2 ^ 32 → link < 2 ^ 32 → LeadsOut link start far outer outer_far →
-      new ≡ (bytes ++ item_byte (kind_of h) ∷ tag_bytes (head_tag h)) ++ four_bytes link → IsWritten marks w outer outer_far groups bytes → IsWritten marks (in_scope h [] w) start far groups new
+      new ≡ (bytes ++ item_byte (kind_of h) ∷ tag_bytes (head_tag h)) ++ four_bytes link → IsWrittenAsItems marks w outer outer_far groups bytes → IsWrittenAsItems marks (in_scope h [] w) start far groups new
   scope_opened h w start link outer far outer_far groups bytes new starts tag_fits link_fits leads is wrote = record {
     before = bytes;
     link = link;
@@ -185,7 +185,7 @@ module _ (marks : MarkBytes) where
 
   -- a scope was closed
   pub scope_closed : (h : model.Head) (rs : List model.Record) (w : Written) (start link : ℕ) (far : List ℕ) (groups : List Group) (bytes new : List ℕ) (start' : ℕ) (far' : List ℕ) → PatchedAs bytes new start link →
-      ((outer : ℕ) (outer_far : List ℕ) → LeadsOut link start far outer outer_far → (start' ≡ outer) × (far' ≡ outer_far)) → IsWritten marks (in_scope h rs w) start far groups bytes → IsWritten marks (followed_by w (holding h rs ∷ [])) start' far' groups new
+      ((outer : ℕ) (outer_far : List ℕ) → LeadsOut link start far outer outer_far → (start' ≡ outer) × (far' ≡ outer_far)) → IsWrittenAsItems marks (in_scope h rs w) start far groups bytes → IsWrittenAsItems marks (followed_by w (holding h rs ∷ [])) start' far' groups new
   scope_closed h rs w start link far groups bytes new start' far' patched back s =
       let header = item_byte (kind_of h) ∷ tag_bytes (head_tag h) in
       let p = patched (s.before ++ header) s.inside s.link s.link_fits s.are (omega (arith, s.starts, length-append s.before header)) in
@@ -197,11 +197,11 @@ module _ (marks : MarkBytes) where
       } in
       let whole : new ≡ s.before ++ item = p.1 ∙ append_assoc s.before header (four_bytes (length s.inside) ++ s.inside) in
       let out = back s.outer s.outer_far (subst (λ l. LeadsOut l start far s.outer s.outer_far) (sym p.2) s.leads_out) in
-      let outside : IsWritten marks w start' far' groups s.before = subst (λ f. IsWritten marks w start' f groups s.before) (sym out.1) (subst (λ o. IsWritten marks w o s.outer_far groups s.before) (sym out.0) s.outside) in
+      let outside : IsWrittenAsItems marks w start' far' groups s.before = subst (λ f. IsWrittenAsItems marks w start' f groups s.before) (sym out.1) (subst (λ o. IsWrittenAsItems marks w o s.outer_far groups s.before) (sym out.0) s.outside) in
       appended w start' far' groups s.before item new (holding h rs) has whole outside
 
   -- where the inside of a scope begins after what was written, the list outside is no group's that is innermost
-  group_is_outside : (w : Written) (start : ℕ) (far : List ℕ) (groups : List Group) (bytes : List ℕ) (inside : ℕ) → length bytes < inside → IsWritten marks w start far groups bytes → ¬ GroupIsInnermost groups inside
+  group_is_outside : (w : Written) (start : ℕ) (far : List ℕ) (groups : List Group) (bytes : List ℕ) (inside : ℕ) → length bytes < inside → IsWrittenAsItems marks w start far groups bytes → ¬ GroupIsInnermost groups inside
   group_is_outside (outermost rs) start far [] bytes inside after wrote innermost = innermost
   group_is_outside (outermost rs) start far (g ∷ groups) bytes inside after wrote innermost = wrote
   group_is_outside (in_scope h rs w) start far groups bytes inside after s innermost =
@@ -211,24 +211,24 @@ module _ (marks : MarkBytes) where
       omega (arith, after, innermost, group_within table rs w start far g groups bytes wrote)
 
   -- which list is innermost
-  pub scope_is_innermost : (h : model.Head) (rs : List model.Record) (w : Written) (start : ℕ) (far : List ℕ) (groups : List Group) (bytes : List ℕ) → IsWritten marks (in_scope h rs w) start far groups bytes → ¬ GroupIsInnermost groups start
+  pub scope_is_innermost : (h : model.Head) (rs : List model.Record) (w : Written) (start : ℕ) (far : List ℕ) (groups : List Group) (bytes : List ℕ) → IsWrittenAsItems marks (in_scope h rs w) start far groups bytes → ¬ GroupIsInnermost groups start
   scope_is_innermost h rs w start far groups bytes s = group_is_outside w s.outer s.outer_far groups s.before start (omega (arith, s.starts)) s.outside
 
-  pub group_is_innermost : (table : Table Row) (rs : List model.Record) (w : Written) (start : ℕ) (far : List ℕ) (groups : List Group) (bytes : List ℕ) → IsWritten marks (in_group table rs w) start far groups bytes → GroupIsInnermost groups start
+  pub group_is_innermost : (table : Table Row) (rs : List model.Record) (w : Written) (start : ℕ) (far : List ℕ) (groups : List Group) (bytes : List ℕ) → IsWrittenAsItems marks (in_group table rs w) start far groups bytes → GroupIsInnermost groups start
   group_is_innermost table rs w start far [] bytes wrote = absurd wrote
   group_is_innermost table rs w start far (g ∷ groups) bytes wrote =
       let s = wrote.1 in
       omega (arith, s.starts, start_within w start far groups s.before s.outside)
 
   -- so a scope is innermost only where its inside begins after a header, and no group is innermost
-  pub not_in_scope : (w : Written) (start : ℕ) (far : List ℕ) (groups : List Group) (bytes : List ℕ) → IsWritten marks w start far groups bytes → is_in_scope w ≡ false → 10 ≤ start → ¬ GroupIsInnermost groups start → ⊥
+  pub not_in_scope : (w : Written) (start : ℕ) (far : List ℕ) (groups : List Group) (bytes : List ℕ) → IsWrittenAsItems marks w start far groups bytes → is_in_scope w ≡ false → 10 ≤ start → ¬ GroupIsInnermost groups start → ⊥
   not_in_scope (outermost rs) start far [] bytes wrote outside begins none = omega (arith, wrote.0, begins)
   not_in_scope (outermost rs) start far (g ∷ groups) bytes wrote outside begins none = wrote
   not_in_scope (in_scope h rs w) start far groups bytes wrote outside begins none = cc
   not_in_scope (in_group table rs w) start far groups bytes wrote outside begins none = none (group_is_innermost table rs w start far groups bytes wrote)
 
   -- and a group only where it is among the groups
-  pub not_in_group : (w : Written) (start : ℕ) (far : List ℕ) (groups : List Group) (bytes : List ℕ) → IsWritten marks w start far groups bytes → is_in_group w ≡ false → ¬ GroupIsInnermost groups start
+  pub not_in_group : (w : Written) (start : ℕ) (far : List ℕ) (groups : List Group) (bytes : List ℕ) → IsWrittenAsItems marks w start far groups bytes → is_in_group w ≡ false → ¬ GroupIsInnermost groups start
   not_in_group (outermost rs) start far [] bytes wrote outside innermost = innermost
   not_in_group (outermost rs) start far (g ∷ groups) bytes wrote outside innermost = wrote
   not_in_group (in_scope h rs w) start far groups bytes wrote outside innermost = scope_is_innermost h rs w start far groups bytes wrote innermost
@@ -236,7 +236,7 @@ module _ (marks : MarkBytes) where
 
   -- a group was opened
   pub group_opened : (table : Table Row) (w : Written) (start : ℕ) (far : List ℕ) (groups : List Group) (g : Group) (bytes new : List ℕ) → g.start ≡ length bytes → TellsOfGroup w g.outer_has_records → new ≡ bytes ++ marks (model.group_start table) →
-      IsWritten marks w start far groups bytes → IsWritten marks (in_group table [] w) start far (g ∷ groups) new
+      IsWrittenAsItems marks w start far groups bytes → IsWrittenAsItems marks (in_group table [] w) start far (g ∷ groups) new
   group_opened table w start far groups g bytes new begins flag is wrote = (
     flag,
     record {
@@ -251,8 +251,8 @@ module _ (marks : MarkBytes) where
 
   -- a group that is there was closed
   pub group_closed : (table : Table Row) (rs : List model.Record) (w : Written) (outer : ℕ) (far : List ℕ) (groups : List Group) (g : Group) (bytes new end : List ℕ) (some : Bool) → some ≡ true → new ≡ bytes ++ end → marks model.group_end ≡ end →
-      IsWritten marks (in_group table rs w) outer far (g ∷ groups) bytes → some ≡ not (presence_marks_alone rs) →
-      IsWritten marks (followed_by w (group_records table (Some rs))) outer far groups new × TellsOfGroup (followed_by w (group_records table (Some rs))) some
+      IsWrittenAsItems marks (in_group table rs w) outer far (g ∷ groups) bytes → some ≡ not (presence_marks_alone rs) →
+      IsWrittenAsItems marks (followed_by w (group_records table (Some rs))) outer far groups new × TellsOfGroup (followed_by w (group_records table (Some rs))) some
   group_closed table rs w outer far groups g bytes new end some there is ends wrote flag =
       let s = wrote.1 in
       let firm : presence_marks_alone rs ≡ false = not_alone (presence_marks_alone rs) (sym there ∙ flag) in
@@ -262,26 +262,26 @@ module _ (marks : MarkBytes) where
       (bytes-append rs (model.presence_mark model.group_end ∷ []) s.inside end s.have_bytes (one_record (model.presence_mark model.group_end) end (sym ends))) in
       let whole : new ≡ s.before ++ (start ++ (s.inside ++ end)) = is ∙ ap (λ l. l ++ end) s.are ∙ append_assoc s.before (start ++ s.inside) end ∙ ap (λ l. s.before ++ l) (append_assoc start s.inside end) in
       let firm_group : not (presence_marks_alone group) ≡ true = alone-append rs (model.presence_mark model.group_end ∷ []) ∙ ap (λ b. not b || false) firm in
-      subst (λ rest. IsWritten marks (followed_by w rest) outer far groups new × TellsOfGroup (followed_by w rest) some) (sym (group_alone table rs false firm)) (
-        subst (IsWritten marks (followed_by w group) outer far groups) (sym whole) (followed w outer far groups s.before (start ++ (s.inside ++ end)) group s.outside have),
+      subst (λ rest. IsWrittenAsItems marks (followed_by w rest) outer far groups new × TellsOfGroup (followed_by w rest) some) (sym (group_alone table rs false firm)) (
+        subst (IsWrittenAsItems marks (followed_by w group) outer far groups) (sym whole) (followed w outer far groups s.before (start ++ (s.inside ++ end)) group s.outside have),
         subst (TellsOfGroup (followed_by w group)) (sym there) (tells_of_records w group firm_group),
       )
 
   -- a group that is absent was closed
   pub absent_group_closed : (table : Table Row) (rs : List model.Record) (w : Written) (outer : ℕ) (far : List ℕ) (groups : List Group) (g : Group) (bytes cut new away : List ℕ) (some : Bool) → some ≡ false → cut ≡ take g.start bytes → new ≡ cut ++ away → marks model.group_absent ≡ away →
-      IsWritten marks (in_group table rs w) outer far (g ∷ groups) bytes → some ≡ not (presence_marks_alone rs) →
-      IsWritten marks (followed_by w (group_records table (Some rs))) outer far groups new × TellsOfGroup (followed_by w (group_records table (Some rs))) g.outer_has_records
+      IsWrittenAsItems marks (in_group table rs w) outer far (g ∷ groups) bytes → some ≡ not (presence_marks_alone rs) →
+      IsWrittenAsItems marks (followed_by w (group_records table (Some rs))) outer far groups new × TellsOfGroup (followed_by w (group_records table (Some rs))) g.outer_has_records
   absent_group_closed table rs w outer far groups g bytes cut new away some none cut_is is absent wrote flag =
       let s = wrote.1 in
       let alone : presence_marks_alone rs ≡ true = is_alone (presence_marks_alone rs) (sym none ∙ flag) in
       let kept : take g.start bytes ≡ s.before = ap (λ n. take n bytes) s.starts ∙ ap (take (length s.before)) s.are ∙ take-append_seam s.before (marks (model.group_start table) ++ s.inside) in
       let whole : new ≡ s.before ++ away = is ∙ ap (λ l. l ++ away) (cut_is ∙ kept) in
-      subst (λ rest. IsWritten marks (followed_by w rest) outer far groups new × TellsOfGroup (followed_by w rest) g.outer_has_records) (sym (group_alone table rs true alone)) (
+      subst (λ rest. IsWrittenAsItems marks (followed_by w rest) outer far groups new × TellsOfGroup (followed_by w rest) g.outer_has_records) (sym (group_alone table rs true alone)) (
         appended w outer far groups s.before away new (model.presence_mark model.group_absent) (sym absent) whole s.outside,
         tells_of_mark w model.group_absent g.outer_has_records wrote.0,
       )
 
   -- what was written at the end
-  pub finished : (start : ℕ) (far : List ℕ) (groups : List Group) (bytes : List ℕ) (rs : List model.Record) → IsWritten marks (outermost rs) start far groups bytes → HaveBytes (written_with marks) (held rs) bytes
+  pub finished : (start : ℕ) (far : List ℕ) (groups : List Group) (bytes : List ℕ) (rs : List model.Record) → IsWrittenAsItems marks (outermost rs) start far groups bytes → HaveBytes (written_with marks) (held rs) bytes
   finished start far [] bytes rs wrote = wrote.1
   finished start far (g ∷ groups) bytes rs wrote = absurd wrote

@@ -53,12 +53,12 @@ module _ (marks : MarkBytes) where
 
   -- The records that have been written. The number is the index at which the inside of the innermost open scope begins, and 0 if none
   -- is open. The lists have the indices that are far, and the open groups, both innermost first.
-  abbrev pub IsWritten : Written → ℕ → List ℕ → List Group → List ℕ → Type 0
-  IsWritten (outermost rs) start far [] bytes = (start ≡ 0) × HaveBytes (written_with marks) (held rs) bytes
-  IsWritten (outermost rs) start far (g ∷ gs) bytes = ⊥
-  IsWritten (in_scope h rs w) start far gs bytes = IsOpenScope (λ outer outer_far before. IsWritten w outer outer_far gs before) h rs start far bytes
-  IsWritten (in_group table rs w) start far [] bytes = ⊥
-  IsWritten (in_group table rs w) start far (g ∷ gs) bytes = TellsOfGroup w g.outer_has_records × IsOpenGroup (λ before. IsWritten w start far gs before) table rs g.start bytes
+  abbrev pub IsWrittenAsItems : Written → ℕ → List ℕ → List Group → List ℕ → Type 0
+  IsWrittenAsItems (outermost rs) start far [] bytes = (start ≡ 0) × HaveBytes (written_with marks) (held rs) bytes
+  IsWrittenAsItems (outermost rs) start far (g ∷ gs) bytes = ⊥
+  IsWrittenAsItems (in_scope h rs w) start far gs bytes = IsOpenScope (λ outer outer_far before. IsWrittenAsItems w outer outer_far gs before) h rs start far bytes
+  IsWrittenAsItems (in_group table rs w) start far [] bytes = ⊥
+  IsWrittenAsItems (in_group table rs w) start far (g ∷ gs) bytes = TellsOfGroup w g.outer_has_records × IsOpenGroup (λ before. IsWrittenAsItems w start far gs before) table rs g.start bytes
 
 -- what is open, innermost first
 abbrev pub inward : {A : Type 0} → List A → List A → List A
@@ -85,7 +85,7 @@ is_in_group (in_group table rs w) = true
 
 -- The buffer has written these records, in the lists that are open.
 abbrev pub HasWritten : MarkBytes → Written → Buffer → Type 0
-HasWritten marks w b = IsWritten marks w b.scope_start (inward [] b.far_starts.items) (inward [] b.groups.items) b.bytes.items × TellsOfGroup w b.has_records
+HasWritten marks w b = IsWrittenAsItems marks w b.scope_start (inward [] b.far_starts.items) (inward [] b.groups.items) b.bytes.items × TellsOfGroup w b.has_records
 
 module _ (marks : MarkBytes) where
   -- a call that appends records to the innermost list

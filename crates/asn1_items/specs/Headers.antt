@@ -1,4 +1,4 @@
--- The header of an item, as a function of the bytes, and the bytes that are one item. More bytes behind change nothing.
+-- The header of an item, as a function of the bytes, and the bytes that are one item. Trailing bytes change nothing.
 use Rattle.std.specs.Prelude.{◌≡◌, ℕ, zero, suc, Bool, false, Option, None, Some, List, [], ◌∷◌, nat_eq, length, ⊤}
 use Rattle.std.specs.Option.{option_and_then}
 use Rattle.std.specs.Int.{w32, from_be_bytes}

@@ -24,7 +24,7 @@ abbrev pub open_lists : Slices → ℕ
 open_lists s = vec_len s.outer
 
 -- An item was taken: of this tag, with this inside, and what follows is left.
-pub record IsTaken (i : Item) (t : Tag) (inside back : List ℕ) (old new : Slices) : Type 0 where
+pub record IsItemTaken (i : Item) (t : Tag) (inside back : List ℕ) (old new : Slices) : Type 0 where
   pub tag : i.tag ≡ t
   pub inside_is : i.body.now ≡ inside
   pub bytes : left_inside old ≡ i.bytes.now ++ back
@@ -33,4 +33,4 @@ pub record IsTaken (i : Item) (t : Tag) (inside back : List ℕ) (old new : Slic
 -- A call that takes the item that is next, and is what is wanted: it does not fail where the item is there whole.
 abbrev pub TakesItem : {E : Type 0} → ExpectedHeader → Slices → Slices → Result Item E → Type 0
 TakesItem expected old new result = (h : Header) (inside back : List ℕ) → header_at (left_inside old) ≡ Some h → h.body ≡ inside ++ back → h.size ≡ length inside → Meets expected h →
-    MatchResult result (λ i. IsTaken i h.tag inside back old new) (λ _. ⊥)
+    MatchResult result (λ i. IsItemTaken i h.tag inside back old new) (λ _. ⊥)

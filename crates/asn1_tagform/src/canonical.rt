@@ -1,7 +1,7 @@
 //! Laws of one spelling: values without sets have one spelling in the tag form.
-ghost use Rattle.asn1_bench.specs.OneOutput.{HasOrderIn, HaveOneSpelling};
+ghost use Rattle.asn1_bench.specs.OneOutput.{HasOrderIn};
 ghost use Rattle.asn1_model.specs.Meaning.{own_records};
-ghost use Rattle.asn1_rules.specs.CanonicalReading.{AreOctets, EqualHaveSameRecords, HasOneSpelling};
+ghost use Rattle.asn1_rules.specs.CanonicalReading.{AreOctets, EqualHaveSameRecords, HasOneSpelling, HaveOneSpelling};
 ghost use Rattle.asn1_tagform.specs.Format.{tag_format};
 ghost use Rattle.std.specs.Prelude.{◌≡◌, Vec, true, ℕ};
 ghost use Rattle.std.specs.declared.alloc.Global.{Global};
@@ -13,7 +13,7 @@ use asn1_model::AsnType;
 /// values of two inputs, these are the same bytes.
 pub fn equal_values_have_one_spelling<T: AsnType + PartialEq>()
     ensures { EqualHaveSameRecords T.meaning T.eq → (v w : T) → HasOrderIn T.meaning w →
-        T.eq v w ≡ true → HaveOneSpelling T.meaning tag_format v w }
+        T.eq v w ≡ true → HaveOneSpelling tag_format T.meaning v w }
 {}
 
 /// A law of one spelling: bytes that carry the records of a value are its only spelling, if equal values of its type have the same

@@ -1,6 +1,6 @@
 use Rattle.std.proofs.Common.{[], ◌∷◌, refl, sym, subst, arith}
 use Rattle.asn1_laws.specs.Writing.{followed_by}
-use Rattle.asn1_items.specs.Buffers.{IsWritten, inward}
+use Rattle.asn1_items.specs.Buffers.{IsWrittenAsItems, inward}
 use Rattle.asn1_model.specs.Records.{holding}
 use Rattle.asn1_items.proofs.Writing.{not_in_scope, not_so, scope_closed, scope_is_innermost, tells_of_record}
 use Rattle.asn1_items.proofs.buffer.Buffer.close_scope.Goals as goal
@@ -36,6 +36,6 @@ returns-clause-closed c = λ marks h rs w wrote.
     let patched = c.write_length.new.bytes.items in
     let rest = followed_by w (holding h rs ∷ []) in
     let closed = scope_closed marks h rs w old.scope_start c.in_ok-link.link (inward [] old.far_starts.items) groups old.bytes.items patched start far c.in_ok-link.ensures.written back.leads wrote.0 in (
-      subst (λ g. IsWritten marks rest start far (inward [] g.items) c.take_outer_start-self.new.self.bytes.items) (sym back.same_groups) (subst (λ b. IsWritten marks rest start far groups b.items) (sym back.same_bytes) closed),
+      subst (λ g. IsWrittenAsItems marks rest start far (inward [] g.items) c.take_outer_start-self.new.self.bytes.items) (sym back.same_groups) (subst (λ b. IsWrittenAsItems marks rest start far groups b.items) (sym back.same_bytes) closed),
       tells_of_record w (holding h rs) refl,
     )

@@ -1,6 +1,6 @@
 use Rattle.std.proofs.Common.{◌≡◌, ◌++◌, ◌∷◌, ◌<◌, ◌^◌, ◌+◌, [], sym, ap, subst, ◌∙◌, arith, length}
 use Rattle.asn1_laws.specs.Writing.{in_scope}
-use Rattle.asn1_items.specs.Buffers.{IsWritten, inward}
+use Rattle.asn1_items.specs.Buffers.{IsWrittenAsItems, inward}
 use Rattle.asn1_items.specs.Headers.{tag_bytes}
 use Rattle.asn1_items.specs.Kinds.{item_byte, kind_of, scope_byte}
 use Rattle.asn1_items.specs.Numbers.{four_bytes}
@@ -28,6 +28,6 @@ returns-clause-opened c = λ marks h w kind tag wrote.
     let tag_fits = subst (λ t. t.value < 2 ^ 32) (sym tag) c.in_ok-push_scope_header.ensures.fits in
     let leads = c.in_ok-link.ensures.leads further in
     let opened = scope_opened marks h w start link old.scope_start far was_far groups old.bytes.items headed starts tag_fits c.in_ok-link.ensures.fits leads header wrote.0 in (
-      subst (λ g. IsWritten marks (in_scope h [] w) start far (inward [] g.items) headed) (sym c.in_ok-link.ensures.same_groups) opened,
+      subst (λ g. IsWrittenAsItems marks (in_scope h [] w) start far (inward [] g.items) headed) (sym c.in_ok-link.ensures.same_groups) opened,
       tt,
     )
