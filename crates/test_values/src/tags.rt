@@ -152,6 +152,28 @@ fn leaves_are_distinct_at_any_depth(rt: HostRuntime) {
     assert_that(&rt, !TagTree::is_unique_set(COUSINS), "cousins");
 }
 
+/// Asserts that the leaf with this index has this tag, which no leaf before it has.
+fn assert_leaf(rt: &impl Abort, nodes: &[TagTree<'_>], index: usize, tag: Tag) {
+    assert_that(
+        rt,
+        TagTree::leaf_count(nodes).is_some(),
+        "the number of leaves",
+    );
+    if TagTree::leaf_count(nodes).is_some() {
+        let position = TagTree::leaf_position(&tag, nodes);
+        assert_that(rt, position == Some(index), "leaf_position");
+        assert_that(rt, TagTree::leaf_at(nodes, index) == Some(tag), "leaf_at");
+    }
+}
+
+#[test]
+fn leaves_are_found_by_tag_and_by_index(rt: HostRuntime) {
+    assert_leaf(&rt, DISTINCT, 0, Tag::EOC);
+    assert_leaf(&rt, DISTINCT, 5, Tag::new_context(2));
+    assert_leaf(&rt, DISTINCT, 7, Tag::new_private(1));
+    assert_leaf(&rt, COUSINS, 2, Tag::new_application(1));
+}
+
 const NOTHING_BELOW: &[TagTree<'static>] = &[leaf!(Universal 3), TagTree::Choice(C1_AND_NOTHING)];
 
 const ASCENDING_TREES: &[TagTree<'static>] = &[
