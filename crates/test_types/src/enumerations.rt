@@ -24,6 +24,7 @@ fn colors_are_found_by_number_and_name(rt: HostRuntime) {
     assert!(rt; is_found(Color::Green, 1, "green") && is_found(Color::Blue, 5, "blue"));
     assert!(rt; Color::from_discriminant(2).is_none() && Color::from_identifier("redd").is_none());
     assert!(rt; Color::Blue.enumeration_index() == 0 && Color::Green.enumeration_index() == 1);
+    assert!(rt; Color::Blue.is_extended_variant() && !Color::Green.is_extended_variant());
 }
 
 #[test]
