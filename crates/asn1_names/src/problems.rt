@@ -4,7 +4,7 @@ ghost use Rattle.asn1_names.specs.Accepted as spec;
 
 use crate::doubled::{DoubledName, find_doubled};
 use crate::imports::find_unknown_imports;
-use crate::names::{ImportedName, Names, UsedName};
+use crate::names::{ImportedName, Names, Place, UsedName};
 use crate::undefined::find_undefined;
 use std::alloc::{AllocError, Global};
 
@@ -17,6 +17,17 @@ pub enum NameProblem<'a> {
     UnknownImport(ImportedName<'a>),
     /// It is used, and is the name of no definition.
     Undefined(UsedName<'a>),
+}
+
+impl NameProblem<'_> {
+    /// The place of the name. Of a name that is defined twice it is the second.
+    pub fn place(&self) -> Place {
+        match self {
+            NameProblem::Doubled(doubled) => doubled.again.place,
+            NameProblem::UnknownImport(import) => import.place,
+            NameProblem::Undefined(used) => used.place,
+        }
+    }
 }
 
 // The names that are defined twice, then those that are imported and not defined, and those that are used and not defined.

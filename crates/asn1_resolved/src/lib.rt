@@ -28,6 +28,7 @@ mod constraints;
 mod problem;
 mod schema;
 mod types;
+mod universal;
 mod values;
 
 pub use components::{Addition, Alternative, Alternatives, Component, Components, Usage};

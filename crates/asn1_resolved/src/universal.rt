@@ -1,0 +1,43 @@
+//! Universal tags.
+use crate::types::TypeKind;
+use asn1_notation::StringKind;
+
+impl TypeKind<'_> {
+    /// The number of the universal tag of the type, if it has one (X.680, 8.4, table 1).
+    pub fn universal_number(&self) -> Option<u32> {
+        match self {
+            TypeKind::Boolean => Some(1),
+            TypeKind::Integer(_) => Some(2),
+            TypeKind::BitString(_) => Some(3),
+            TypeKind::OctetString => Some(4),
+            TypeKind::Null => Some(5),
+            TypeKind::ObjectIdentifier => Some(6),
+            TypeKind::Enumerated(_) => Some(10),
+            TypeKind::Sequence(_) | TypeKind::SequenceOf(_) => Some(16),
+            TypeKind::Set(_) | TypeKind::SetOf(_) => Some(17),
+            TypeKind::String(kind) => Some(string_number(*kind)),
+            TypeKind::Choice(_) | TypeKind::Tagged(_, _) | TypeKind::Any | TypeKind::Reference(_) =>
+                None,
+        }
+    }
+}
+
+// The number of the universal tag of a string of characters, or a time.
+fn string_number(kind: StringKind) -> u32 {
+    match kind {
+        StringKind::ObjectDescriptor => 7,
+        StringKind::Utf8 => 12,
+        StringKind::Numeric => 18,
+        StringKind::Printable => 19,
+        StringKind::Teletex => 20,
+        StringKind::Videotex => 21,
+        StringKind::Ia5 => 22,
+        StringKind::UtcTime => 23,
+        StringKind::GeneralizedTime => 24,
+        StringKind::Graphic => 25,
+        StringKind::Visible => 26,
+        StringKind::General => 27,
+        StringKind::Universal => 28,
+        StringKind::Bmp => 30,
+    }
+}
