@@ -5,7 +5,7 @@
 //! contract covers that. Comments and the exceptions of extension markers (`!`) are not in
 //! the tree, and not in the text.
 //!
-//! A call fails only if memory runs out.
+//! A call fails only if memory runs out. [`type_word`] gives X.680's word for a type alone.
 #![tactic(auto)]
 
 mod modules;
@@ -16,8 +16,10 @@ mod plain_types;
 mod printer;
 mod types;
 mod values;
+mod words;
 
 pub use modules::print_module;
 pub use printer::Printer;
 pub use types::{print_constraint, print_type};
 pub use values::print_value;
+pub use words::type_word;

@@ -1,7 +1,8 @@
 //! Types that hold no other.
 use crate::numbers::{print_named_number, print_reference};
 use crate::printer::Printer;
-use asn1_notation::{EnumerationItem, NamedNumber, Span, StringKind, TypeKind};
+use crate::words::type_word;
+use asn1_notation::{EnumerationItem, NamedNumber, Span, TypeKind};
 use std::alloc::AllocError;
 
 /// Appends a type that holds no other.
@@ -10,42 +11,19 @@ pub(crate) fn print_plain_kind(
     kind: &TypeKind,
 ) -> Result<(), AllocError> {
     match kind {
-        TypeKind::Boolean => printer.push(b"BOOLEAN"),
-        TypeKind::Null => printer.push(b"NULL"),
-        TypeKind::OctetString => printer.push(b"OCTET STRING"),
-        TypeKind::ObjectIdentifier => printer.push(b"OBJECT IDENTIFIER"),
-        TypeKind::String(kind) => printer.push(string_name(*kind)),
+        TypeKind::Boolean
+        | TypeKind::Null
+        | TypeKind::OctetString
+        | TypeKind::ObjectIdentifier
+        | TypeKind::String(_) => printer.push(type_word(kind)),
         TypeKind::Reference(reference) => print_reference(printer, reference),
-        TypeKind::Integer(numbers) => {
-            printer.push(b"INTEGER")?;
+        TypeKind::Integer(numbers) | TypeKind::BitString(numbers) => {
+            printer.push(type_word(kind))?;
             print_named_numbers(printer, numbers.as_slice())
-        }
-        TypeKind::BitString(bits) => {
-            printer.push(b"BIT STRING")?;
-            print_named_numbers(printer, bits.as_slice())
         }
         TypeKind::Enumerated(items) => print_enumerated(printer, items.as_slice()),
         TypeKind::Any(name) => print_any(printer, name),
         _ => Ok(()),
-    }
-}
-
-fn string_name(kind: StringKind) -> &'static [u8] {
-    match kind {
-        StringKind::Utf8 => b"UTF8String",
-        StringKind::Numeric => b"NumericString",
-        StringKind::Printable => b"PrintableString",
-        StringKind::Teletex => b"TeletexString",
-        StringKind::Videotex => b"VideotexString",
-        StringKind::Ia5 => b"IA5String",
-        StringKind::Graphic => b"GraphicString",
-        StringKind::Visible => b"VisibleString",
-        StringKind::General => b"GeneralString",
-        StringKind::Universal => b"UniversalString",
-        StringKind::Bmp => b"BMPString",
-        StringKind::UtcTime => b"UTCTime",
-        StringKind::GeneralizedTime => b"GeneralizedTime",
-        StringKind::ObjectDescriptor => b"ObjectDescriptor",
     }
 }
 

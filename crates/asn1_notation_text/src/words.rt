@@ -1,0 +1,44 @@
+//! The words of X.680 for types.
+use asn1_notation::{StringKind, TypeKind};
+
+/// The word for a type.
+pub fn type_word(kind: &TypeKind) -> &'static [u8] {
+    match kind {
+        TypeKind::Boolean => b"BOOLEAN",
+        TypeKind::Null => b"NULL",
+        TypeKind::Integer(_) => b"INTEGER",
+        TypeKind::BitString(_) => b"BIT STRING",
+        TypeKind::OctetString => b"OCTET STRING",
+        TypeKind::ObjectIdentifier => b"OBJECT IDENTIFIER",
+        TypeKind::String(kind) => string_word(*kind),
+        TypeKind::Enumerated(_) => b"ENUMERATED",
+        TypeKind::Sequence(_) => b"SEQUENCE",
+        TypeKind::Set(_) => b"SET",
+        TypeKind::Choice(_) => b"CHOICE",
+        TypeKind::SequenceOf(_, _) => b"SEQUENCE OF",
+        TypeKind::SetOf(_, _) => b"SET OF",
+        TypeKind::Tagged(_, _) => b"the tagged type",
+        TypeKind::Any(_) => b"ANY",
+        TypeKind::Reference(_) => b"the type",
+    }
+}
+
+// The word for a string of characters, or a time.
+fn string_word(kind: StringKind) -> &'static [u8] {
+    match kind {
+        StringKind::Utf8 => b"UTF8String",
+        StringKind::Numeric => b"NumericString",
+        StringKind::Printable => b"PrintableString",
+        StringKind::Teletex => b"TeletexString",
+        StringKind::Videotex => b"VideotexString",
+        StringKind::Ia5 => b"IA5String",
+        StringKind::Graphic => b"GraphicString",
+        StringKind::Visible => b"VisibleString",
+        StringKind::General => b"GeneralString",
+        StringKind::Universal => b"UniversalString",
+        StringKind::Bmp => b"BMPString",
+        StringKind::UtcTime => b"UTCTime",
+        StringKind::GeneralizedTime => b"GeneralizedTime",
+        StringKind::ObjectDescriptor => b"ObjectDescriptor",
+    }
+}
