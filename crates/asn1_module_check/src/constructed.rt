@@ -19,6 +19,8 @@ pub enum ConstructedKind {
 pub struct Constructed<'a> {
     /// The kind.
     pub kind: ConstructedKind,
+    /// Where it begins.
+    pub place: Place,
     /// The names of the components.
     pub names: Vec<ComponentName<'a>>,
     /// The components, in the order of their names: whether each may be absent, and its first tags.
@@ -36,9 +38,10 @@ pub struct ComponentName<'a> {
 
 impl<'a> Constructed<'a> {
     /// A type with no components yet.
-    pub(crate) fn new(alloc: Global, kind: ConstructedKind) -> Constructed<'a> {
+    pub(crate) fn new(alloc: Global, kind: ConstructedKind, place: Place) -> Constructed<'a> {
         Constructed {
             kind,
+            place,
             names: Vec::new(alloc),
             components: Vec::new(alloc),
         }

@@ -1,5 +1,4 @@
 //! The tags with which values of a type begin.
-use crate::universal::universal_tag;
 use asn1_clash::FlatTree;
 use asn1_notation::TagClass;
 use asn1_resolved::{Alternative, Schema, Type, TypeKind};
@@ -78,8 +77,11 @@ fn add_own_tag(tree: &mut FlatTree, kind: &TypeKind<'_>) -> Result<(), AllocErro
             class: class_of(tag.class),
             value: tag.number,
         }),
-        kind => match universal_tag(kind) {
-            Some(tag) => tree.push(tag),
+        kind => match kind.universal_number() {
+            Some(value) => tree.push(Tag {
+                class: Class::Universal,
+                value,
+            }),
             None => {
                 tree.add_empty_choice();
                 Ok(())

@@ -6,10 +6,12 @@
 //! | Item | What it is |
 //! |---|---|
 //! | [`list_constructed`], [`Constructed`], [`ConstructedKind`], [`ComponentName`] | each SEQUENCE, SET, CHOICE and group of a schema, with the first tags of its components |
-//! | [`find_clashes`], [`Clash`] | those whose components share a tag |
-//! | [`check_tags`] | the same as problems, with their places and texts |
+//! | [`check_constructed`] | the first two components of each that share a tag, as a problem with its place and text |
+//! | [`check_tags`] | the same of all types of a schema |
 //!
-//! A component among the additions may be absent. No contract covers which components are told.
+//! A component among the additions may be absent. The contract of [`check_constructed`] promises that there is no problem if
+//! and only if in every type of the list all components have distinct tags that must have them (`accepted`; `HasDistinctTags`
+//! in `specs/DistinctTags.antt`, in the words of `asn1_fields`). No contract covers the list itself, nor the texts.
 //!
 //! Calls fail only if memory runs out.
 #![tactic(auto)]
@@ -18,10 +20,9 @@ mod clashes;
 mod constructed;
 mod first_tags;
 mod list;
+mod messages;
 mod problems;
-mod universal;
 
-pub use clashes::{Clash, find_clashes};
 pub use constructed::{ComponentName, Constructed, ConstructedKind};
 pub use list::list_constructed;
-pub use problems::check_tags;
+pub use problems::{check_constructed, check_tags};

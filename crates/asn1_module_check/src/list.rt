@@ -33,12 +33,17 @@ fn list_type<'a>(
 ) -> Result<(), AllocError> {
     match &definition.kind {
         TypeKind::Sequence(components) => {
-            list_components(alloc, list, schema, components, ConstructedKind::Sequence)
+            let sequence = Constructed::new(alloc, ConstructedKind::Sequence, definition.place);
+            list_components(alloc, list, schema, components, sequence)
         }
         TypeKind::Set(components) => {
-            list_components(alloc, list, schema, components, ConstructedKind::Set)
+            let set = Constructed::new(alloc, ConstructedKind::Set, definition.place);
+            list_components(alloc, list, schema, components, set)
         }
-        TypeKind::Choice(alternatives) => list_alternatives(alloc, list, schema, alternatives),
+        TypeKind::Choice(alternatives) => {
+            let choice = Constructed::new(alloc, ConstructedKind::Choice, definition.place);
+            list_alternatives(alloc, list, schema, alternatives, choice)
+        }
         TypeKind::SequenceOf(element) => list_type(alloc, list, schema, element),
         TypeKind::SetOf(element) => list_type(alloc, list, schema, element),
         TypeKind::Tagged(_, inner) => list_type(alloc, list, schema, inner),
@@ -46,16 +51,15 @@ fn list_type<'a>(
     }
 }
 
-// Adds a SEQUENCE or a SET, and the types in it.
+// Adds a SEQUENCE or a SET, which is empty yet, and the types in it.
 #[cycle(list_types)]
 fn list_components<'a>(
     alloc: Global,
     list: &mut Vec<Constructed<'a>>,
     schema: &Schema<'a>,
     components: &Components<'a>,
-    kind: ConstructedKind,
+    mut constructed: Constructed<'a>,
 ) -> Result<(), AllocError> {
-    let mut constructed = Constructed::new(alloc, kind);
     add_components(alloc, &mut constructed, schema, components.root.as_slice())?;
     for addition in &components.additions {
         add_addition(alloc, &mut constructed, schema, addition)?;
@@ -78,12 +82,15 @@ fn list_addition<'a>(
 ) -> Result<(), AllocError> {
     match addition {
         Addition::Component(component) => list_type(alloc, list, schema, &component.definition),
-        Addition::Group(components) => {
-            let mut group = Constructed::new(alloc, ConstructedKind::Sequence);
-            add_components(alloc, &mut group, schema, components.as_slice())?;
-            list.push(group)?;
-            list_inner(alloc, list, schema, components.as_slice())
-        }
+        Addition::Group(components) => match components.as_slice() {
+            [first, ..] => {
+                let mut group = Constructed::new(alloc, ConstructedKind::Sequence, first.place);
+                add_components(alloc, &mut group, schema, components.as_slice())?;
+                list.push(group)?;
+                list_inner(alloc, list, schema, components.as_slice())
+            }
+            [] => Ok(()),
+        },
     }
 }
 
@@ -101,15 +108,15 @@ fn list_inner<'a>(
     Ok(())
 }
 
-// Adds a CHOICE, and the types in it.
+// Adds a CHOICE, which is empty yet, and the types in it.
 #[cycle(list_types)]
 fn list_alternatives<'a>(
     alloc: Global,
     list: &mut Vec<Constructed<'a>>,
     schema: &Schema<'a>,
     alternatives: &Alternatives<'a>,
+    mut constructed: Constructed<'a>,
 ) -> Result<(), AllocError> {
-    let mut constructed = Constructed::new(alloc, ConstructedKind::Choice);
     add_alternatives(
         alloc,
         &mut constructed,

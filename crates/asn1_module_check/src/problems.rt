@@ -1,48 +1,98 @@
-//! Components that share a tag, in words.
-use crate::clashes::{Clash, find_clashes};
+//! Components that share a tag, as problems.
+ghost use Rattle.std.specs.Prelude.{◌≡◌, ◌↔◌, [], IfOk, OnOk};
+ghost use Rattle.std.specs.List.{All};
+ghost use Rattle.asn1_module_check.specs.DistinctTags.{HasDistinctTags};
+
+use crate::clashes::find_clash;
 use crate::constructed::{ComponentName, Constructed};
 use crate::list::list_constructed;
+use crate::messages::{append_names, append_tag};
 use asn1_clash::FlatComponent;
 use asn1_resolved::{Problem, Schema, Severity};
-use asn1_tags::{Class, Tag};
+use asn1_tags::Tag;
 use std::alloc::{AllocError, Global};
 
 /// The components of a schema that share a tag although X.680 forbids it, as errors at the second of each two.
 pub fn check_tags(alloc: Global, schema: &Schema<'_>) -> Result<Vec<Problem>, AllocError> {
     let list = list_constructed(alloc, schema)?;
-    let clashes = find_clashes(alloc, list.as_slice())?;
+    check_constructed(alloc, list.as_slice())
+}
+
+/// The first two components of each of these types that share a tag although X.680 forbids it, as an error at the second.
+pub fn check_constructed(
+    alloc: Global,
+    list: &[Constructed<'_>],
+) -> Result<Vec<Problem>, AllocError>
+    // There is none if and only if in every type all components have distinct tags that must have them.
+    ensures accepted { IfOk result (λ problems. (problems.items ≡ []) ↔
+        All HasDistinctTags list.now) }
+{
     let mut problems = Vec::new(alloc);
-    for clash in &clashes {
-        if let Some(constructed) = list.get(clash.constructed) {
-            add_problem(alloc, &mut problems, constructed, *clash)?;
-        }
+    for constructed in list {
+        check_type(alloc, &mut problems, constructed)?;
     }
     Ok(problems)
 }
 
-// Adds the error of two components.
-fn add_problem(
+// Adds an error if components of a type share a tag although they must not.
+fn check_type(
     alloc: Global,
     problems: &mut Vec<Problem>,
     constructed: &Constructed<'_>,
-    clash: Clash,
-) -> Result<(), AllocError> {
-    let names = constructed.names.as_slice();
-    let components = constructed.components.as_slice();
-    if let (Some(first), Some(second)) = (names.get(clash.first), names.get(clash.second)) {
-        if let (Some(one), Some(other)) = (
-            components.get(clash.first),
-            components.get(clash.second),
-        ) {
-            let text = clash_text(alloc, (first, second), common_tag(one, other))?;
-            problems.push(Problem {
-                place: second.place,
-                severity: Severity::Error,
-                text,
-            })?;
+) -> Result<(), AllocError>
+    ensures distinct { OnOk result (HasDistinctTags constructed.now →
+        problems.new.items ≡ problems.old.items) }
+    ensures accepted { OnOk result (problems.new.items ≡ [] →
+        (problems.old.items ≡ []) × HasDistinctTags constructed.now) }
+{
+    match find_clash(alloc, constructed)? {
+        Some(clash) => {
+            let problem = problem_of(alloc, constructed, clash)?;
+            problems.push(problem)?;
+            Ok(())
         }
+        None => Ok(()),
     }
-    Ok(())
+}
+
+// The error of two components, by their indices.
+fn problem_of(
+    alloc: Global,
+    constructed: &Constructed<'_>,
+    (first, second): (usize, usize),
+) -> Result<Problem, AllocError> {
+    let names = (name_at(constructed, first), name_at(constructed, second));
+    let mut text = Vec::new(alloc);
+    append_names(&mut text, constructed.kind, names)?;
+    append_tag(
+        alloc,
+        &mut text,
+        tag_at(constructed.components.as_slice(), first, second),
+    )?;
+    Ok(Problem {
+        place: names.1.place,
+        severity: Severity::Error,
+        text,
+    })
+}
+
+// The name of the component of this index.
+fn name_at<'a>(constructed: &Constructed<'a>, index: usize) -> ComponentName<'a> {
+    match constructed.names.get(index) {
+        Some(name) => *name,
+        None => ComponentName {
+            name: &[],
+            place: constructed.place,
+        },
+    }
+}
+
+// A tag that two components share. None if both begin with any.
+fn tag_at(components: &[FlatComponent], first: usize, second: usize) -> Option<Tag> {
+    match (components.get(first), components.get(second)) {
+        (Some(first), Some(second)) => common_tag(first, second),
+        _ => None,
+    }
 }
 
 // A tag that two components share. None if both begin with any.
@@ -53,44 +103,4 @@ fn common_tag(first: &FlatComponent, second: &FlatComponent) -> Option<Tag> {
         }
     }
     second.tree.tags.as_slice().first().copied()
-}
-
-// The text of two components that share a tag.
-fn clash_text(
-    alloc: Global,
-    (first, second): (&ComponentName<'_>, &ComponentName<'_>),
-    tag: Option<Tag>,
-) -> Result<Vec<u8>, AllocError> {
-    let mut text = Vec::new(alloc);
-    text.push(b'\'')?;
-    text.extend_from_slice(first.name)?;
-    text.extend_from_slice(b"' and '")?;
-    text.extend_from_slice(second.name)?;
-    text.extend_from_slice(b"' can both begin with ")?;
-    append_tag(alloc, &mut text, tag)?;
-    Ok(text)
-}
-
-// Appends a tag in brackets.
-fn append_tag(alloc: Global, text: &mut Vec<u8>, tag: Option<Tag>) -> Result<(), AllocError> {
-    let Some(tag) = tag else {
-        text.extend_from_slice(b"any tag")?;
-        return Ok(());
-    };
-    text.push(b'[')?;
-    text.extend_from_slice(class_word(tag.class))?;
-    let number = format!(in alloc; "{}", tag.value)?;
-    text.extend_from_slice(number.as_bytes())?;
-    text.push(b']')?;
-    Ok(())
-}
-
-// The word for a class, with a space behind it.
-fn class_word(class: Class) -> &'static [u8] {
-    match class {
-        Class::Universal => b"UNIVERSAL ",
-        Class::Application => b"APPLICATION ",
-        Class::Context => b"",
-        Class::Private => b"PRIVATE ",
-    }
 }
