@@ -17,15 +17,15 @@ mod constraints;
 mod cursor;
 mod error;
 mod grammar;
+mod messages;
 mod modules;
 mod parsed;
 mod plain_constraints;
 mod plain_types;
-#[cfg(test)]
-mod tests;
 mod types;
 mod values;
 mod words;
 
 pub use error::{Cause, Construct, Expected, Owner, SyntaxError};
+pub use messages::append_cause;
 pub use parsed::{MAX_DEPTH, Parsed, parse};

@@ -1,9 +1,9 @@
-//! The lists of names, as far as they were made.
-use asn1_names::{DefinedName, ImportedName, Names, Place, UsedName};
-use asn1_notation::{Import, NumberName, Reference, Span};
+//! The references of definitions, as far as they were listed.
+use asn1_names::{Place, UsedName};
+use asn1_notation::{NumberName, Reference, Span};
 use std::alloc::{AllocError, Global};
 
-/// The names of the modules that were passed.
+/// The references of the modules that were passed.
 #[derive(Drop)]
 pub(crate) struct Collector<'a> {
     // The text that is passed, and its index.
@@ -11,7 +11,7 @@ pub(crate) struct Collector<'a> {
     index: usize,
     // The module that is passed.
     module: &'a [u8],
-    names: Names<'a>,
+    used: Vec<UsedName<'a>>,
     // The names of numbers, bits and items.
     items: Vec<&'a [u8]>,
     // References to values, of which some are the names of items.
@@ -19,17 +19,13 @@ pub(crate) struct Collector<'a> {
 }
 
 impl<'a> Collector<'a> {
-    /// No names yet.
+    /// No references yet.
     pub(crate) fn new(alloc: Global) -> Collector<'a> {
         Collector {
             text: &[],
             index: 0,
             module: &[],
-            names: Names {
-                defined: Vec::new(alloc),
-                imported: Vec::new(alloc),
-                used: Vec::new(alloc),
-            },
+            used: Vec::new(alloc),
             items: Vec::new(alloc),
             values: Vec::new(alloc),
         }
@@ -50,32 +46,6 @@ impl<'a> Collector<'a> {
         }
     }
 
-    /// Adds the name of a definition.
-    pub(crate) fn define(&mut self, name: Span) -> Result<(), AllocError> {
-        let defined = DefinedName {
-            module: self.module,
-            name: name.octets(self.text),
-            place: self.place(name),
-        };
-        self.names.defined.push(defined)?;
-        Ok(())
-    }
-
-    /// Adds the names that are imported from a module.
-    pub(crate) fn import(&mut self, import: &Import) -> Result<(), AllocError> {
-        let from = import.module.octets(self.text);
-        for name in &import.names {
-            let imported = ImportedName {
-                module: self.module,
-                name: name.octets(self.text),
-                from,
-                place: self.place(*name),
-            };
-            self.names.imported.push(imported)?;
-        }
-        Ok(())
-    }
-
     // A reference with its place.
     fn used(&self, reference: &Reference) -> UsedName<'a> {
         UsedName {
@@ -92,7 +62,7 @@ impl<'a> Collector<'a> {
     /// Adds a reference to a definition.
     pub(crate) fn refer(&mut self, reference: &Reference) -> Result<(), AllocError> {
         let used = self.used(reference);
-        self.names.used.push(used)?;
+        self.used.push(used)?;
         Ok(())
     }
 
@@ -122,28 +92,27 @@ impl<'a> Collector<'a> {
         Ok(())
     }
 
-    /// Whether octets of the text that is passed are one of these words.
-    pub(crate) fn is_among(&self, name: Span, words: &[&[u8]]) -> bool {
-        let octets = name.octets(self.text);
-        words.iter().any(|word| *word == octets)
+    /// The octets of a name of the text that is passed.
+    pub(crate) fn octets(&self, name: Span) -> &'a [u8] {
+        name.octets(self.text)
     }
 
-    /// The lists. A name of a value that is one of an item is no reference.
-    pub(crate) fn finish(self) -> Result<Names<'a>, AllocError> {
+    /// The references. A name of a value that is one of an item is no reference.
+    pub(crate) fn finish(self) -> Result<Vec<UsedName<'a>>, AllocError> {
         let Collector {
             text: _,
             index: _,
             module: _,
-            mut names,
+            mut used,
             items,
             values,
         } = self;
         for value in &values {
             if !is_item(&items, value) {
-                names.used.push(*value)?;
+                used.push(*value)?;
             }
         }
-        Ok(names)
+        Ok(used)
     }
 }
 

@@ -1,15 +1,41 @@
 //! The names of modules.
+ghost use Rattle.std.specs.Prelude.{◌≡◌, map, IfOk};
+ghost use Rattle.asn1_modules.specs.Places.{defined_places, imported_places};
+
 use crate::arcs::collect_arcs;
 use crate::collector::Collector;
+use crate::definitions::{list_defined, list_imported};
 use crate::source::Source;
 use crate::types::collect_type;
 use crate::values::collect_value;
-use asn1_names::Names;
+use asn1_names::{Names, UsedName};
 use asn1_notation::{Assignment, Definition, Exports, Module, Type, TypeKind, Value, ValueKind};
 use std::alloc::{AllocError, Global};
 
 /// The names that are defined, imported and used in the modules of some texts.
-pub fn collect_names<'a>(alloc: Global, sources: &[Source<'a>]) -> Result<Names<'a>, AllocError> {
+pub fn collect_names<'a>(alloc: Global, sources: &[Source<'a>]) -> Result<Names<'a>, AllocError>
+    // The defined names are those of all definitions of all modules, in the order of the texts.
+    ensures defined { IfOk result (λ names.
+        map (λ defined. defined.place) names.defined.items ≡ defined_places sources.now) }
+    // The imported names are all those behind IMPORTS.
+    ensures imported { IfOk result (λ names.
+        map (λ imported. imported.place) names.imported.items ≡ imported_places sources.now) }
+{
+    let defined = list_defined(alloc, sources)?;
+    let imported = list_imported(alloc, sources)?;
+    let used = collect_used(alloc, sources)?;
+    Ok(Names {
+        defined,
+        imported,
+        used,
+    })
+}
+
+// The references of the definitions of the modules of some texts.
+fn collect_used<'a>(
+    alloc: Global,
+    sources: &[Source<'a>],
+) -> Result<Vec<UsedName<'a>>, AllocError> {
     let mut collector = Collector::new(alloc);
     for (index, source) in sources.iter().enumerate() {
         for module in source.modules {
@@ -20,12 +46,9 @@ pub fn collect_names<'a>(alloc: Global, sources: &[Source<'a>]) -> Result<Names<
     collector.finish()
 }
 
-// Collects the names of a module.
+// Collects the references of a module.
 fn collect_module(collector: &mut Collector<'_>, module: &Module) -> Result<(), AllocError> {
     collect_exports(collector, &module.exports)?;
-    for import in &module.imports {
-        collector.import(import)?;
-    }
     for assignment in &module.assignments {
         collect_assignment(collector, assignment)?;
     }
@@ -50,7 +73,6 @@ fn collect_assignment(
     collector: &mut Collector<'_>,
     assignment: &Assignment,
 ) -> Result<(), AllocError> {
-    collector.define(assignment.name)?;
     match &assignment.definition {
         Definition::Type(definition) => collect_type(collector, definition),
         Definition::Value(definition, value) => {

@@ -31,8 +31,6 @@ mod reserved_words;
 mod skipped;
 mod strings;
 mod symbols;
-#[cfg(test)]
-mod tests;
 mod token;
 
 pub use error::{Refusal, TokenError};
