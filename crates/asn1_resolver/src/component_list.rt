@@ -1,6 +1,5 @@
 //! The components of a SEQUENCE or a SET, and the alternatives of a CHOICE, as one list.
 use crate::base::is_tagged;
-use crate::distinct::find_same_name;
 use crate::fault::Fault;
 use crate::governed::{Governed, Scope, Written};
 use crate::resolver::Resolver;
@@ -292,13 +291,7 @@ impl<'a> Resolver<'_, 'a> {
                 number: 0,
             })?;
         }
-        match find_same_name(named.as_slice()) {
-            Some(again) => Err(self.refuse(
-                again.place,
-                &[b"the name '", again.name, b"' is there twice"],
-            )),
-            None => Ok(()),
-        }
+        self.require_names(named.as_slice())
     }
 
     // Whether tags are put on: no component of the root has one (X.680, 25.7 and 29.3).

@@ -2,7 +2,6 @@
 use crate::fault::Fault;
 use crate::governed::Scope;
 use crate::resolver::Resolver;
-use crate::values::MAX_DEPTH;
 use asn1_notation::{NumberName, Span};
 use asn1_resolved::{Enumeration, EnumerationItem, NamedNumber, Severity};
 use std::alloc::{AllocError, Global};
@@ -84,7 +83,7 @@ impl<'a> Resolver<'_, 'a> {
         number: Option<NumberName>,
     ) -> Result<WrittenItem<'a>, Fault> {
         let number = match number {
-            Some(number) => Some(self.number_name(scope, number, MAX_DEPTH)?),
+            Some(number) => Some(self.number_name(scope, number)?),
             None => None,
         };
         Ok(WrittenItem {
@@ -120,13 +119,14 @@ impl<'a> Resolver<'_, 'a> {
     ) -> Result<Vec<NamedNumber<'a>>, Fault> {
         let mut numbered = Vec::new(self.alloc);
         let mut next: i128 = 0;
+        let mut last: i128 = i128::MIN;
         for item in items {
             let place = scope.place(item.span);
             let number = match item.number {
                 Some(number) => number,
                 None => first_free(root, next),
             };
-            if number < next {
+            if number < last {
                 self.report(
                     place,
                     Severity::Warning,
@@ -143,6 +143,7 @@ impl<'a> Resolver<'_, 'a> {
                 number,
             })?;
             next = number.saturating_add(1);
+            last = number;
         }
         Ok(numbered)
     }

@@ -13,7 +13,6 @@
 
 mod accepted;
 mod alphabets;
-mod arcs;
 mod base;
 mod bits;
 mod component_list;
@@ -22,6 +21,7 @@ mod definitions;
 mod distinct;
 mod enumerations;
 mod fault;
+mod followed;
 mod governed;
 mod included;
 mod items;
@@ -36,6 +36,5 @@ mod tags;
 mod types;
 mod value_parts;
 mod values;
-mod words;
 
 pub use resolution::{Resolution, resolve};

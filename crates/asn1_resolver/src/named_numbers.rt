@@ -3,7 +3,6 @@ use crate::distinct::{find_same_name, find_same_number};
 use crate::fault::Fault;
 use crate::governed::Scope;
 use crate::resolver::Resolver;
-use crate::values::MAX_DEPTH;
 use asn1_resolved::NamedNumber;
 
 impl<'a> Resolver<'_, 'a> {
@@ -16,7 +15,7 @@ impl<'a> Resolver<'_, 'a> {
         let mut named = Vec::new(self.alloc);
         for number in numbers {
             let place = scope.place(number.name);
-            let value = self.number_name(scope, number.number, MAX_DEPTH)?;
+            let value = self.number_name(scope, number.number)?;
             named.push(NamedNumber {
                 name: scope.octets(number.name),
                 place,
@@ -45,14 +44,20 @@ impl<'a> Resolver<'_, 'a> {
         Ok(named)
     }
 
+    /// Refuses a name that stands twice.
+    pub(crate) fn require_names(&mut self, named: &[NamedNumber<'a>]) -> Result<(), Fault> {
+        match find_same_name(named) {
+            Some(again) => Err(self.refuse(
+                again.place,
+                &[b"the name '", again.name, b"' stands twice"],
+            )),
+            None => Ok(()),
+        }
+    }
+
     /// Refuses a name or a number that stands twice.
     pub(crate) fn require_distinct(&mut self, named: &[NamedNumber<'a>]) -> Result<(), Fault> {
-        if let Some(again) = find_same_name(named) {
-            return Err(self.refuse(
-                again.place,
-                &[b"the name '", again.name, b"' is there twice"],
-            ));
-        }
+        self.require_names(named)?;
         if let Some((first, again)) = find_same_number(named) {
             return Err(self.refuse(
                 again.place,

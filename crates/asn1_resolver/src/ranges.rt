@@ -92,7 +92,6 @@ impl<'a> Resolver<'_, 'a> {
                 ValueKind::Reference(reference) => self.number_name(
                     written.scope,
                     NumberName::Reference(*reference),
-                    MAX_DEPTH,
                 ),
                 _ => Err(self.refuse_bound(written)),
             },

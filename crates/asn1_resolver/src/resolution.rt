@@ -84,7 +84,7 @@ impl<'a> Resolver<'_, 'a> {
             append_problem(self.alloc, &mut text, self.names, problem)?;
             if !self.has_text(text.as_slice()) {
                 let severity = severity_of(self.names, problem);
-                self.report(place_of(problem), severity, &[text.as_slice()])?;
+                self.report(problem.place(), severity, &[text.as_slice()])?;
             }
         }
         Ok(())
@@ -181,13 +181,4 @@ fn has_module(names: &Names<'_>, module: &[u8]) -> bool {
 // Whether a definition has this name.
 fn has_name(names: &Names<'_>, name: &[u8]) -> bool {
     names.defined.iter().any(|defined| defined.name == name)
-}
-
-// The place of a problem.
-fn place_of(problem: &NameProblem<'_>) -> Place {
-    match problem {
-        NameProblem::Doubled(doubled) => doubled.again.place,
-        NameProblem::UnknownImport(import) => import.place,
-        NameProblem::Undefined(used) => used.place,
-    }
 }

@@ -2,7 +2,6 @@
 use crate::fault::Fault;
 use crate::governed::Governed;
 use crate::resolver::Resolver;
-use crate::values::MAX_DEPTH;
 use asn1_notation::{TagClass, TagDefault, TagMode};
 use asn1_resolved::Tag;
 
@@ -37,7 +36,7 @@ impl<'a> Resolver<'_, 'a> {
 
     // The number of a tag.
     fn tag_number(&mut self, tag: &asn1_notation::Tag, inner: Governed<'a>) -> Result<u32, Fault> {
-        let number = self.number_name(inner.scope, tag.number, MAX_DEPTH)?;
+        let number = self.number_name(inner.scope, tag.number)?;
         match u32::try_from(number) {
             Ok(number) => Ok(number),
             Err(_) => Err(self.refuse(

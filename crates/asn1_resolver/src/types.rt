@@ -8,6 +8,7 @@ use asn1_notation::ComponentItem;
 use asn1_resolved::{
     Addition, Alternative, Alternatives, Component, Components, Type, TypeKind, Usage,
 };
+use std::alloc::{AllocError, Global};
 
 impl<'a> Resolver<'_, 'a> {
     /// The type, with at most so many types inside one another.
@@ -181,39 +182,13 @@ impl<'a> Resolver<'_, 'a> {
         depth: usize,
     ) -> Result<Alternatives<'a>, Fault> {
         let list = self.list_components(scope, items, Construct::Choice)?;
-        let root = self.resolve_choices(&list, list.root(), depth)?;
-        let additions = self.resolve_choices(&list, list.added(), depth)?;
+        let root = self.resolve_listed(&list, list.root(), depth)?;
+        let additions = self.resolve_listed(&list, list.added(), depth)?;
         Ok(Alternatives {
-            root,
+            root: alternatives_of(self.alloc, root)?,
             is_extensible: list.is_extensible,
-            additions,
+            additions: alternatives_of(self.alloc, additions)?,
         })
-    }
-
-    // The alternatives of a part of a list. One that is in error is left out.
-    #[cycle(types)]
-    fn resolve_choices(
-        &mut self,
-        list: &ComponentList<'a>,
-        extent: Extent,
-        depth: usize,
-    ) -> Result<Vec<Alternative<'a>>, Fault> {
-        let mut alternatives = Vec::new(self.alloc);
-        for (index, listed) in list.listed.iter().enumerate() {
-            if !extent.has(index) {
-                continue;
-            }
-            match self.resolve_component_type(*listed, depth) {
-                Ok(definition) => alternatives.push(Alternative {
-                    name: listed.name(),
-                    place: listed.place(),
-                    definition,
-                })?,
-                Err(Fault::Refused) => {}
-                Err(Fault::Memory) => return Err(Fault::Memory),
-            }
-        }
-        Ok(alternatives)
     }
 
     // A type that holds no other.
@@ -262,6 +237,28 @@ impl<'a> Resolver<'_, 'a> {
             }
         }
     }
+}
+
+// The alternatives with the names and types of components.
+fn alternatives_of<'a>(
+    alloc: Global,
+    components: Vec<Component<'a>>,
+) -> Result<Vec<Alternative<'a>>, AllocError> {
+    let mut alternatives = Vec::new(alloc);
+    for component in components {
+        let Component {
+            name,
+            place,
+            definition,
+            usage: _,
+        } = component;
+        alternatives.push(Alternative {
+            name,
+            place,
+            definition,
+        })?;
+    }
+    Ok(alternatives)
 }
 
 // Adds components as a group, or one by one.

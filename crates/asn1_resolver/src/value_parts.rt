@@ -4,11 +4,9 @@ use crate::fault::Fault;
 use crate::governed::{Governed, Scope, Written};
 use crate::items::find_number;
 use crate::resolver::Resolver;
-use crate::words::type_word;
 use asn1_names::Place;
-use asn1_notation::{
-    ListItem, NamedNumber, NumberName, Reference, Span, TypeKind, Usage, ValueKind,
-};
+use asn1_notation::{ListItem, NamedNumber, NumberName, Span, TypeKind, Usage, ValueKind};
+use asn1_notation_text::type_word;
 use asn1_resolved::Value;
 
 // The greatest number of a bit that a value may name.
@@ -101,14 +99,7 @@ impl<'a> Resolver<'_, 'a> {
         name: Span,
     ) -> Result<Listed<'a>, Fault> {
         let TypeKind::Choice(items) = &base.definition.kind else {
-            return Err(self.refuse(
-                scope.place(name),
-                &[
-                    b"a value of ",
-                    type_word(&base.definition.kind),
-                    b" is expected here",
-                ],
-            ));
+            return Err(self.refuse_kind_at(base, scope.place(name)));
         };
         let list = self.list_components(base.scope, items.as_slice(), Construct::Choice)?;
         match list.find(scope.octets(name)) {
@@ -120,8 +111,8 @@ impl<'a> Resolver<'_, 'a> {
         }
     }
 
-    /// The number of the bit that a value names.
-    pub(crate) fn find_bit(
+    // The number of the bit that a value names.
+    fn find_bit(
         &mut self,
         scope: Scope<'a>,
         bits: &'a [NamedNumber],
@@ -142,8 +133,26 @@ impl<'a> Resolver<'_, 'a> {
         }
     }
 
-    /// The bits with these numbers, up to the last of them.
-    pub(crate) fn bits_of_numbers(
+    /// The bits with these names.
+    pub(crate) fn bits_value(
+        &mut self,
+        bits_scope: Scope<'a>,
+        bits: &'a [NamedNumber],
+        written: Written<'a>,
+        values: &'a [ListItem],
+    ) -> Result<Value<'a>, Fault> {
+        let mut numbers = Vec::new(self.alloc);
+        for item in values {
+            let bit = self.single_value(written.scope, item)?;
+            let number = self.find_bit(bits_scope, bits, bit)?;
+            let number = self.number_name(bits_scope, number)?;
+            numbers.push(number)?;
+        }
+        self.bits_of_numbers(written, numbers.as_slice())
+    }
+
+    // The bits with these numbers, up to the last of them.
+    fn bits_of_numbers(
         &mut self,
         written: Written<'a>,
         numbers: &[i128],
@@ -214,8 +223,13 @@ impl<'a> Resolver<'_, 'a> {
 
     /// Refuses a value that is not of the type.
     pub(crate) fn refuse_kind(&mut self, base: Governed<'a>, written: Written<'a>) -> Fault {
+        self.refuse_kind_at(base, written.place())
+    }
+
+    // Refuses a value at this place that is not of the type.
+    fn refuse_kind_at(&mut self, base: Governed<'a>, place: Place) -> Fault {
         self.refuse(
-            written.place(),
+            place,
             &[
                 b"a value of ",
                 type_word(&base.definition.kind),
@@ -228,19 +242,30 @@ impl<'a> Resolver<'_, 'a> {
     pub(crate) fn require_kind(
         &mut self,
         base: Governed<'a>,
-        scope: Scope<'a>,
-        reference: Reference,
+        written: Written<'a>,
         value: &Value<'a>,
     ) -> Result<(), Fault> {
+        let ValueKind::Reference(reference) = &written.value.kind else {
+            return Ok(());
+        };
         if suits(&base.definition.kind, value) {
             return Ok(());
         }
+        let scope = written.scope;
         let word = type_word(&base.definition.kind);
         Err(self.refuse_name(
             scope.place(reference.name),
             scope.octets(reference.name),
             word,
         ))
+    }
+
+    /// Refuses a value that leads to no end.
+    pub(crate) fn refuse_depth(&mut self, written: Written<'a>) -> Fault {
+        self.refuse(
+            written.place(),
+            &[b"the value is defined by itself, or nested too deep"],
+        )
     }
 
     // Refuses the name of a value that is not of a type with this word.

@@ -1,20 +1,18 @@
 //! Values.
-use crate::arcs::standard_arc;
 use crate::component_list::Construct;
 use crate::fault::Fault;
+use crate::followed::Followed;
 use crate::governed::{Governed, Scope, Written};
-use crate::items::{Item, item_of};
 use crate::resolver::Resolver;
-use asn1_notation::{
-    ComponentItem, ListItem, NamedNumber, NumberName, Reference, Span, Type, TypeKind, ValueKind,
-};
+use asn1_modules::standard_arc;
+use asn1_notation::{ComponentItem, ListItem, Span, Type, TypeKind, ValueKind};
 use asn1_resolved::{ComponentValue, Value};
 
-/// How many types or values may be inside one another.
+/// How many types or values may be inside one another, or values behind names.
 pub(crate) const MAX_DEPTH: usize = 200;
 
 impl<'a> Resolver<'_, 'a> {
-    /// The value of a type, with at most so many values inside one another, or behind names.
+    /// The value of a type, with at most so many values inside one another.
     #[cycle(values)]
     pub(crate) fn value(
         &mut self,
@@ -23,70 +21,16 @@ impl<'a> Resolver<'_, 'a> {
         depth: usize,
     ) -> Result<Value<'a>, Fault> {
         let Some(depth) = depth.checked_sub(1) else {
-            return Err(self.refuse(
-                written.place(),
-                &[b"the value is defined by itself, or nested too deep"],
-            ));
+            return Err(self.refuse_depth(written));
         };
         let base = self.base(governed)?;
-        match &written.value.kind {
-            ValueKind::Reference(reference) => self.named_value(base, written, *reference, depth),
-            _ => self.literal(base, written, depth),
-        }
-    }
-
-    // The value that a name is: of a number or an item of the type, or of a definition.
-    #[cycle(values)]
-    fn named_value(
-        &mut self,
-        base: Governed<'a>,
-        written: Written<'a>,
-        reference: Reference,
-        depth: usize,
-    ) -> Result<Value<'a>, Fault> {
-        match item_of(base, written.scope, reference) {
-            Some(Item::Number(number)) => {
-                let number = self.number_name(base.scope, number, depth)?;
-                Ok(Value::Integer(number))
-            }
-            Some(Item::Name(name)) => Ok(Value::Item(name)),
-            None => self.referenced_value(base, written.scope, reference, depth),
-        }
-    }
-
-    // The value of a definition, which must be of this type.
-    #[cycle(values)]
-    fn referenced_value(
-        &mut self,
-        base: Governed<'a>,
-        scope: Scope<'a>,
-        reference: Reference,
-        depth: usize,
-    ) -> Result<Value<'a>, Fault> {
-        let (governed, written) = self.find_value_of(base, scope, &reference)?;
-        let value = self.value(governed, written, depth)?;
-        self.require_kind(base, scope, reference, &value)?;
+        let value = match self.follow(base, written)? {
+            Followed::Literal(base, literal) => self.literal(base, literal, depth)?,
+            Followed::Number(scope, number) => Value::Integer(self.number(scope, &number)?),
+            Followed::Item(name) => Value::Item(name),
+        };
+        self.require_kind(base, written, &value)?;
         Ok(value)
-    }
-
-    /// The whole number that is written, or that a name stands for.
-    #[cycle(values)]
-    pub(crate) fn number_name(
-        &mut self,
-        scope: Scope<'a>,
-        number: NumberName,
-        depth: usize,
-    ) -> Result<i128, Fault> {
-        match number {
-            NumberName::Number(number) => self.number(scope, &number),
-            NumberName::Reference(reference) => {
-                let (governed, written) = self.find_value(scope, &reference)?;
-                match self.value(governed, written, depth)? {
-                    Value::Integer(number) => Ok(number),
-                    _ => Err(self.refuse_no_number(scope, reference.name)),
-                }
-            }
-        }
     }
 
     // A value that is no name.
@@ -134,7 +78,7 @@ impl<'a> Resolver<'_, 'a> {
             }
             TypeKind::ObjectIdentifier => { self.identifier_value(base, written, values, depth) }
             TypeKind::BitString(bits) => {
-                self.bits_value(base.scope, bits.as_slice(), written, values, depth)
+                self.bits_value(base.scope, bits.as_slice(), written, values)
             }
             _ => Err(self.refuse_kind(base, written)),
         }
@@ -250,31 +194,11 @@ impl<'a> Resolver<'_, 'a> {
                 self.push_arc(arcs, written, number)
             }
             ValueKind::Arc(_, number) => {
-                let number = self.number_name(written.scope, *number, depth)?;
+                let number = self.number_name(written.scope, *number)?;
                 self.push_arc(arcs, written, number)
             }
             _ => Err(self.refuse_kind(base, written)),
         }
-    }
-
-    // The bits with these names.
-    #[cycle(values)]
-    fn bits_value(
-        &mut self,
-        bits_scope: Scope<'a>,
-        bits: &'a [NamedNumber],
-        written: Written<'a>,
-        values: &'a [ListItem],
-        depth: usize,
-    ) -> Result<Value<'a>, Fault> {
-        let mut numbers = Vec::new(self.alloc);
-        for item in values {
-            let bit = self.single_value(written.scope, item)?;
-            let number = self.find_bit(bits_scope, bits, bit)?;
-            let number = self.number_name(bits_scope, number, depth)?;
-            numbers.push(number)?;
-        }
-        self.bits_of_numbers(written, numbers.as_slice())
     }
 }
 

@@ -13,9 +13,6 @@ decreases-resolve_component_type l = 16 * l.depth + 1
 abbrev pub decreases-resolve_listed : goal.decreases-resolve_listed
 decreases-resolve_listed l = 16 * l.depth + 2
 
-abbrev pub decreases-resolve_choices : goal.decreases-resolve_choices
-decreases-resolve_choices l = 16 * l.depth + 2
-
 abbrev pub decreases-resolve_components : goal.decreases-resolve_components
 decreases-resolve_components l = 16 * l.depth + 3
 

@@ -4,17 +4,8 @@ use Rattle.asn1_resolver.proofs.resolver.Resolver.+values.Given as goal
 abbrev pub decreases-value : goal.decreases-value
 decreases-value l = 16 * l.depth + 0
 
-abbrev pub decreases-number_name : goal.decreases-number_name
-decreases-number_name l = 16 * l.depth + 1
-
-abbrev pub decreases-referenced_value : goal.decreases-referenced_value
-decreases-referenced_value l = 16 * l.depth + 2
-
 abbrev pub decreases-add_arc : goal.decreases-add_arc
 decreases-add_arc l = 16 * l.depth + 3
-
-abbrev pub decreases-bits_value : goal.decreases-bits_value
-decreases-bits_value l = 16 * l.depth + 3
 
 abbrev pub decreases-components_value : goal.decreases-components_value
 decreases-components_value l = 16 * l.depth + 3
@@ -24,9 +15,6 @@ decreases-elements_value l = 16 * l.depth + 3
 
 abbrev pub decreases-alternative_value : goal.decreases-alternative_value
 decreases-alternative_value l = 16 * l.depth + 3
-
-abbrev pub decreases-named_value : goal.decreases-named_value
-decreases-named_value l = 16 * l.depth + 4
 
 abbrev pub decreases-identifier_value : goal.decreases-identifier_value
 decreases-identifier_value l = 16 * l.depth + 4
