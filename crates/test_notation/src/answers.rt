@@ -1,10 +1,12 @@
 //! The answers to a text.
-use crate::errors::{append_errors, append_position};
+use crate::errors::{append_errors, append_position, append_problems};
 use crate::work::{Text, Work};
 use asn1_grammar::{Parsed, parse};
+use asn1_module_check::check_tags;
 use asn1_modules::{Source, append_problem, collect_names};
 use asn1_names::check_names;
 use asn1_notation_text::{Printer, print_module};
+use asn1_resolver::resolve;
 use asn1_tokens::{TokenError, tokens};
 use std::alloc::{AllocError, Global};
 use std::io::{self, Write};
@@ -17,7 +19,7 @@ pub(crate) fn answer(alloc: Global, out: &mut Vec<u8>, text: &Text<'_>) -> io::R
         Work::Tokens => answer_tokens(alloc, out, text.text),
         Work::Module => answer_module(alloc, out, text.text),
         Work::Names => answer_names(alloc, out, text.text),
-        Work::Schema => answer_names(alloc, out, text.text),
+        Work::Schema => answer_schema(alloc, out, text.text),
     }
 }
 
@@ -84,6 +86,27 @@ fn answer_names(alloc: Global, out: &mut Vec<u8>, text: &[u8]) -> io::Result<()>
         append_position(out, text, problem.place().span.start)?;
         append_problem(alloc, out, &names, problem)?;
         out.push(b'\n')?;
+    }
+    Ok(())
+}
+
+// Appends the errors of a text, and the problems of its modules; or that there is no error.
+fn answer_schema(alloc: Global, out: &mut Vec<u8>, text: &[u8]) -> io::Result<()> {
+    let parsed = parse(alloc, text)?;
+    append_errors(alloc, out, text, &parsed.errors)?;
+    let source = Source {
+        text,
+        modules: &parsed.modules,
+    };
+    let resolution = resolve(alloc, &[source])?;
+    append_problems(out, text, &resolution.problems)?;
+    if !resolution.is_accepted() {
+        return Ok(());
+    }
+    let clashes = check_tags(alloc, &resolution.schema)?;
+    append_problems(out, text, &clashes)?;
+    if clashes.is_empty() {
+        writeln!(out, "accepted")?;
     }
     Ok(())
 }
