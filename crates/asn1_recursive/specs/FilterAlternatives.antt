@@ -16,6 +16,7 @@ use Rattle.asn1_model.specs.TaggedTypes.{tagged}
 use Rattle.asn1_model.specs.Tags.{CHOICE, context}
 use Rattle.asn1_components.specs.Alternatives.{Alternatives, OneOf, MeansTheSame, ValueMeaning, all_of, alternative, chosen_meaning, extensible, no_meaning, means_itself, value_meaning}
 use Rattle.asn1_components.specs.ChoiceTypes.{alternatives_with_itself, choice_holding_itself, inside_itself, itself_under, table_with_itself}
+use Rattle.asn1_nesting.specs.InsideItself.{in_box}
 use Rattle.asn1_types.specs.Kinds.{set_of_type}
 use Rattle.asn1_recursive.specs.contracts.attribute_value_assertion.AttributeValueAssertionAsnType.TheImpl.{ghosts as assertion}
 use Rattle.asn1_recursive.specs.contracts.matching_rule_assertion.MatchingRuleAssertionAsnType.TheImpl.{ghosts as matching_rule}
@@ -36,7 +37,7 @@ abbrev pub filter_alternatives_with : Meaning Filter → Alternatives
 filter_alternatives_with itself = extensible (
     alternative (codes "and") (tagged (context 0) (set_of_type (λ filters. filters) itself)) ∷
     alternative (codes "or") (tagged (context 1) (set_of_type (λ filters. filters) itself)) ∷
-    alternative (codes "not") (tagged (context 2) itself) ∷
+    alternative (codes "not") (tagged (context 2) (in_box itself)) ∷
     alternative (codes "equalityMatch") (tagged (context 3) assertion.meaning) ∷
     alternative (codes "substrings") (tagged (context 4) substring_filter.meaning) ∷
     alternative (codes "greaterOrEqual") (tagged (context 5) assertion.meaning) ∷
@@ -96,7 +97,7 @@ filter_alternatives = alternatives_with_itself (codes "Filter") filter_alternati
 abbrev pub filter_pick : Filter → OneOf (all_of filter_alternatives)
 filter_pick (And' shape filters) = inl (items-the_row-Filter _ filters)
 filter_pick (Or' shape filters) = inr (inl (items-the_row-Filter _ filters))
-filter_pick (Not' place inner) = inr (inr (inl inner))
+filter_pick (Not' place inner) = inr (inr (inl (record { ptr = place.ptr; alloc = place.alloc; value = inner })))
 filter_pick (EqualityMatch said) = inr (inr (inr (inl said)))
 filter_pick (Substrings said) = inr (inr (inr (inr (inl said))))
 filter_pick (GreaterOrEqual said) = inr (inr (inr (inr (inr (inl said)))))

@@ -1,3 +1,4 @@
 pub mod FilterAlternatives
+pub mod FilterCases
 pub mod NestedAlternatives
 pub mod ReadingWhole

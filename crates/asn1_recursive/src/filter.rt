@@ -15,17 +15,20 @@
 //!     ...
 //! }
 //! ```
-ghost use Rattle.std.specs.Prelude.{Bool, List, ℕ};
+ghost use Rattle.std.specs.Prelude.{Bool, List, codes, refl, ℕ};
 ghost use Rattle.asn1_model.specs.Meaning.{IsWellTagged};
 ghost use Rattle.asn1_components.specs.ChoiceTypes.{itself_agrees};
-ghost use Rattle.asn1_recursive.specs.FilterAlternatives.{filter_alternatives, filter_pick, filter_meaning, filter_agrees};
+ghost use Rattle.asn1_nesting.specs.InsideItself.{its_cases, itself_inside};
+ghost use Rattle.asn1_recursive.specs.FilterAlternatives.{filter_agrees, filter_alternatives, filter_alternatives_with, filter_meaning, filter_means, filter_pick, inner_filter};
+ghost use Rattle.asn1_recursive.specs.FilterCases.{filter_cases, filter_made};
 
 use crate::attribute_value_assertion::AttributeValueAssertion;
-use crate::filter_reader::{read_alternative, read_filter};
+use crate::filter_reader::read_filter;
 use crate::matching_rule_assertion::MatchingRuleAssertion;
 use crate::substring_filter::SubstringFilter;
-use asn1_dec::{Decode, DecodeChoice, DecodeError, Decoder};
+use asn1_dec::{Decode, DecodeError, Decoder};
 use asn1_enc::{Encode, EncodeChoice, EncodeError, Encoder};
+use asn1_nesting::HoldsItself;
 use asn1_types::{
     AsnType, Choice, ChoiceType, Class, Constraints, Identifier, SetOf, Tag, TagTree, TypeTable,
 };
@@ -221,6 +224,20 @@ impl EncodeChoice for Filter {
     }
 }
 
+impl HoldsItself for Filter {
+    ghost inside = { inner_filter };
+
+    ghost cases = { filter_cases };
+
+    ghost case_of = { filter_pick };
+
+    ghost made = { filter_made };
+
+    ghost are_cases = { its_cases };
+
+    ghost is_inside = { itself_inside (codes "Filter") filter_alternatives_with filter_means filter_pick filter_agrees refl };
+}
+
 impl Decode for Filter {
     fn decode_with_tag_and_constraints<D: Decoder>(
         decoder: &mut D,
@@ -228,11 +245,5 @@ impl Decode for Filter {
         constraints: &Constraints<'_>,
     ) -> Result<Filter, DecodeError> {
         read_filter(decoder, tag, constraints)
-    }
-}
-
-impl DecodeChoice for Filter {
-    fn from_tag<D: Decoder>(decoder: &mut D, tag: Tag) -> Result<Filter, DecodeError> {
-        read_alternative(decoder, tag)
     }
 }

@@ -13,10 +13,9 @@
 //!   (`each_filter_is_valid`, `each_nested_is_valid`).
 //! - A CHOICE defines the meaning of its chosen alternative by recursion on a value (`specs/FilterAlternatives.antt` and
 //!   `specs/NestedAlternatives.antt`). Tables and meaning are proved to say the same.
-//! - They are read by functions that call one another, and open a scope before each alternative, so the depth left of the decoder
-//!   ends the recursion, whatever the input. Those of [`Nested`] are two, with the calls of `asn1_nesting` between them. Those of
-//!   [`Filter`] are five, since its sets need a loop, and their proofs go by the lemmas of `asn1_laws` for a CHOICE that holds itself
-//!   (`proofs/ReadingChoices.antt`).
+//! - They are read by functions that call one another, with the calls of `asn1_nesting` between them: two for [`Nested`], and four
+//!   for [`Filter`], since its sets are read by a loop. Each opens a scope before its alternative is read, so the depth left of the
+//!   decoder ends the recursion, whatever the input.
 //! - [`laws`] states the names of the tables, and that the parts of a filter are valid.
 //!
 //! The prover wants such a type, its tables, its writer and its reader in one crate. A call allocates for a codec, and

@@ -7,22 +7,19 @@ use Rattle.asn1_model.specs.Records.{Head, Record}
 use Rattle.asn1_recursive.specs.FilterAlternatives.{filter_meaning}
 use Rattle.asn1_recursive.specs.contracts.filter.FilterPartialEq.TheImpl.{ghosts}
 use Rattle.asn1_recursive.specs.declared.filter.Filter.{Filter}
-use Rattle.asn1_recursive.proofs.filter_reader.+filters.Given as goal
+use Rattle.asn1_recursive.proofs.filter_reader.+filter_reader.Given as goal
 
 abbrev pub decreases-read_filter : goal.decreases-read_filter
-decreases-read_filter g l = 3 * g.D.Decoder.reader.depth_left l.decoder.now + 1
-
-abbrev pub decreases-read_untagged : goal.decreases-read_untagged
-decreases-read_untagged g l = 3 * g.D.Decoder.reader.depth_left l.decoder.now
+decreases-read_filter g l = 4 * g.D.Decoder.reader.depth_left l.decoder.now
 
 abbrev pub decreases-read_alternative : goal.decreases-read_alternative
-decreases-read_alternative g l = 3 * g.D.Decoder.reader.depth_left l.decoder.now + 2
+decreases-read_alternative g l = 4 * g.D.Decoder.reader.depth_left l.decoder.now + 3
 
 abbrev pub decreases-read_set : goal.decreases-read_set
-decreases-read_set g l = 3 * g.D.Decoder.reader.depth_left l.decoder.now + 1
+decreases-read_set g l = 4 * g.D.Decoder.reader.depth_left l.decoder.now + 2
 
 abbrev pub decreases-read_filters : goal.decreases-read_filters
-decreases-read_filters g l = 3 * g.D.Decoder.reader.depth_left l.decoder.now + 2
+decreases-read_filters g l = 4 * g.D.Decoder.reader.depth_left l.decoder.now + 1
 
 abbrev pub invariant-read_filters-loop-index : goal.invariant-read_filters-loop-index
 invariant-read_filters-loop-index g l = record {
