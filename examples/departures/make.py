@@ -249,6 +249,13 @@ def midnight_as_24_hours_by_century():
     return made, GENERALIZED_TIME, made.contents(time)
 
 
+def long_length_behind_a_time():
+    made = time_without_seconds()[0]
+    object_id = made.key.contents[0].contents[0]
+    object_id.size = long_length
+    return made, LENGTH, made.start(object_id) + 1
+
+
 def pem(octets):
     """A text with a certificate in base64."""
     text = base64.encodebytes(octets).decode().replace("\n", "")
@@ -276,6 +283,7 @@ MADE = {
     "time-without-seconds": (time_without_seconds, True),
     "midnight-as-24-hours": (midnight_as_24_hours, True),
     "midnight-as-24-hours-by-century": (midnight_as_24_hours_by_century, True),
+    "long-length-behind-a-time": (long_length_behind_a_time, False),
 }
 
 
@@ -305,7 +313,7 @@ def main():
     (HERE / "cut-off.der").write_bytes(ours[:100])
     answers.append("cut-off.der: error: no certificate: byte 0 of its DER begins no element (more input is needed)")
     (HERE / "neither.txt").write_text("This is no certificate.\n")
-    neither = "no SEQUENCE begins it, and it is no text with a line -----BEGIN CERTIFICATE-----"
+    neither = "no SEQUENCE begins it, and there is no line -----BEGIN CERTIFICATE-----"
     answers.append(f"neither.txt: error: neither DER nor PEM: {neither}")
     (HERE / "answers.txt").write_text("\n".join(answers) + "\n")
 

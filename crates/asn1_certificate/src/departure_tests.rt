@@ -1,10 +1,11 @@
 //! The rules of DER that bytes break, one by one.
-use asn1_certificate_rules::{Departure, ExtensionKind, Part, Rule, first_departure};
+use asn1_certificate_rules::{BrokenRule, ExtensionKind, Part, Rule, RuleSet, first_broken_rule};
 use std::process::Abort;
 
-/// Asserts the first departure in bytes that have this part of a certificate first.
+/// Asserts the first rule that bytes break which have this part of a certificate first.
 fn assert_departure(rt: &impl Abort, part: Part, bytes: &[u8], rule: Rule, position: usize) {
-    assert!(rt; first_departure(bytes, part, 8) == Some(Departure { rule, position }));
+    let broken = first_broken_rule(bytes, part, RuleSet::All, 8);
+    assert!(rt; broken == Some(BrokenRule { rule, position }));
 }
 
 /// Asserts that bytes of any type break a rule.
@@ -14,7 +15,7 @@ fn assert_broken(rt: &impl Abort, bytes: &[u8], rule: Rule, position: usize) {
 
 /// Asserts that bytes break no rule.
 fn assert_kept(rt: &impl Abort, part: Part, bytes: &[u8]) {
-    assert!(rt; first_departure(bytes, part, 8).is_none());
+    assert!(rt; first_broken_rule(bytes, part, RuleSet::All, 8).is_none());
 }
 
 // X.690, 8.1.2 and 10.1.

@@ -9,13 +9,14 @@
 //! |---|---|
 //! | `FILE`.. | reads these files, or standard input for `-` or if there is none |
 //! | `--strict` | refuses a certificate that departs from DER |
-//! | `--der` | writes the DER of a certificate instead of a report: the octets that were read, or nothing if these are not its DER |
+//! | `--der` | writes the DER of a certificate instead of a report: the octets that were read, or nothing, with the rule and the byte, if writing the certificate makes others |
 //! | `--help` | writes the usage |
 //!
 //! The program ends with 0 if each certificate was shown, with 1 if an input or a certificate was refused, and with 2 if the arguments
 //! are none of these, a file was not read, memory ran out, or reading or writing failed; the reasons are on standard error. The
-//! contract of `run` of `asn1_certificate_input` covers the output of one input, and the statuses 0 and 1. The stored run shows the
-//! certificates of standard input and of a PEM with `--strict`, and refuses one that departs from DER, so its status is 1.
+//! contract of `run` of `asn1_certificate_input` covers the output and the messages of one input, and the statuses 0 and 1. The stored
+//! run shows the certificates of standard input and of a PEM with `--strict`, and refuses one that departs from DER, so its status is
+//! 1.
 #![tactic(auto)]
 
 mod arguments;

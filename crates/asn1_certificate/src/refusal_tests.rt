@@ -250,17 +250,6 @@ fn a_component_that_is_refused_has_a_position(rt: HostRuntime) {
 }
 
 #[test]
-fn a_default_that_is_there_is_shown_and_not_written(rt: HostRuntime) {
-    let alloc = rt.alloc();
-    let mut first_version = certificate(0, 0, 0);
-    first_version[8] = 0;
-    let refused = refusal(&rt, alloc, &first_version);
-    assert!(rt; matches!(refused, Some(InputError::OtherDer)));
-    let input = Vec::from_slice(alloc, &first_version).expect(&rt, "memory");
-    assert!(rt; shown_of(alloc, REPORT, &input).is_ok());
-}
-
-#[test]
 fn a_value_that_is_not_of_its_type_is_shown_as_octets(rt: HostRuntime) {
     let alloc = rt.alloc();
     let input = Vec::from_slice(alloc, &certificate(0, 0, 0)).expect(&rt, "memory");

@@ -12,6 +12,15 @@ struct Progress {
     has_output: bool,
 }
 
+impl From<&Outcome> for Progress {
+    fn from(outcome: &Outcome) -> Progress {
+        Progress {
+            status: outcome.status,
+            has_output: outcome.has_output,
+        }
+    }
+}
+
 /// Shows the certificates of standard input, and answers the status.
 pub(crate) fn show_input(rt: &HostRuntime, options: Options) -> u8 {
     progress_of_input(rt, options).status
@@ -44,7 +53,8 @@ pub(crate) fn show_files(rt: &HostRuntime, options: Options, names: &[&str]) -> 
 /// Shows the certificates of standard input.
 fn progress_of_input(rt: &HostRuntime, options: Options) -> Progress {
     let outcome = run(rt.alloc(), options, &mut rt.reader(), &mut io::writer(rt));
-    told(rt, &outcome, None)
+    outcome.print_messages(rt, None);
+    Progress::from(&outcome)
 }
 
 /// Shows the certificates of a file.
@@ -60,14 +70,6 @@ fn progress_of_file(rt: &HostRuntime, options: Options, name: &str) -> Progress 
         }
     };
     let outcome = run(rt.alloc(), options, &mut file, &mut io::writer(rt));
-    told(rt, &outcome, Some(name))
-}
-
-/// Prints what an outcome tells.
-fn told(rt: &HostRuntime, outcome: &Outcome, source: Option<&str>) -> Progress {
-    outcome.tell(rt, source);
-    Progress {
-        status: outcome.status,
-        has_output: outcome.has_output,
-    }
+    outcome.print_messages(rt, Some(name));
+    Progress::from(&outcome)
 }

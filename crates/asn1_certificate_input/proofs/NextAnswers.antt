@@ -1,12 +1,13 @@
 -- The output for certificates, one by one.
 use Rattle.std.proofs.Common.{◌≡◌, ◌≢◌, ◌<◌, ◌+◌, ℕ, Bool, List, [], ◌∷◌, ◌++◌, Option, ap, get_or, length, subst, sym, take, true, ◌∙◌}
 use Rattle.std.proofs.lemmas.List.{take_more}
-use Rattle.asn1_certificate_input.specs.Answers.{AreAnswers, refused as is_refused, shown as is_shown}
+use Rattle.asn1_certificate_input.specs.Answers.{AreAnswers, number_of, refusal, refused as is_refused, shown as is_shown, warnings}
 use Rattle.asn1_certificate_input.specs.Refused.{IsRefusalOf}
 use Rattle.asn1_certificate_input.specs.Shown.{IsShownOf, separator}
-use Rattle.asn1_certificate_input.specs.declared.departure.FromDer.{FromDer}
+use Rattle.asn1_certificate_input.specs.declared.departure.Departure.{Departure}
 use Rattle.asn1_certificate_input.specs.declared.error.InputError.{InputError}
 use Rattle.asn1_certificate_input.specs.declared.error.InputError.TheVariants.{Memory}
+use Rattle.asn1_certificate_input.specs.declared.message.Message.{Message}
 use Rattle.asn1_certificate_input.specs.declared.options.Options.{Options}
 use Rattle.asn1_certificate_text.specs.declared.pem.PemCertificate.{PemCertificate}
 
@@ -14,18 +15,21 @@ use Rattle.asn1_certificate_text.specs.declared.pem.PemCertificate.{PemCertifica
 pub take_next : (xs : List PemCertificate) (i : ℕ) (x : PemCertificate) → i < length xs → x ≡ get_or xs i x → take (i + 1) xs ≡ take i xs ++ x ∷ []
 take_next xs i x below is = take_more xs i x below ∙ ap (λ z. take i xs ++ z ∷ []) (sym is)
 
-module _ (options : Options) (found : List PemCertificate) (next : PemCertificate) where
-  pub next_shown : (before bytes new : List ℕ) (departure : Option FromDer) (refused now : Bool) → AreAnswers options found before refused →
-      IsShownOf options next bytes departure → new ≡ before ++ (separator options before ++ bytes) → now ≡ refused →
-      AreAnswers options (found ++ next ∷ []) new now
-  next_shown before bytes new departure refused now answers shows added same =
-      subst (λ l. AreAnswers options (found ++ next ∷ []) l now) (sym added)
-      (subst (λ b. AreAnswers options (found ++ next ∷ []) (before ++ (separator options before ++ bytes)) b) (sym same)
-      (is_shown found next before bytes departure refused answers shows))
+module _ (options : Options) (count : ℕ) (found : List PemCertificate) (next : PemCertificate) (number : Option ℕ) (numbered : number ≡ number_of (length found) count) where
+  pub next_shown : (before bytes new : List ℕ) (messages more : List Message) (departure : Option Departure) (refused now : Bool) →
+      AreAnswers options count found before messages refused → IsShownOf options next bytes departure → new ≡ before ++ (separator options before ++ bytes) →
+      more ≡ messages ++ warnings number departure → now ≡ refused → AreAnswers options count (found ++ next ∷ []) new more now
+  next_shown before bytes new messages more departure refused now answers shows added warned same =
+      subst (λ l. AreAnswers options count (found ++ next ∷ []) l more now) (sym added)
+      (subst (λ l. AreAnswers options count (found ++ next ∷ []) (before ++ (separator options before ++ bytes)) l now) (sym (warned ∙ ap (λ n. messages ++ warnings n departure) numbered))
+      (subst (λ b. AreAnswers options count (found ++ next ∷ []) (before ++ (separator options before ++ bytes)) (messages ++ warnings (number_of (length found) count) departure) b) (sym same)
+      (is_shown found next before bytes messages departure refused answers shows)))
 
-  pub next_refused : (before new : List ℕ) (error : InputError) (refused now : Bool) → AreAnswers options found before refused →
-      IsRefusalOf options next error → new ≡ before → now ≡ true → error ≢ Memory → AreAnswers options (found ++ next ∷ []) new now
-  next_refused before new error refused now answers reason same told memory =
-      subst (λ l. AreAnswers options (found ++ next ∷ []) l now) (sym same)
-      (subst (λ b. AreAnswers options (found ++ next ∷ []) before b) (sym told)
-      (is_refused found next before refused error answers reason memory))
+  pub next_refused : (before new : List ℕ) (messages more : List Message) (error : InputError) (refused now : Bool) → AreAnswers options count found before messages refused →
+      IsRefusalOf options next error → new ≡ before → more ≡ messages ++ refusal number error ∷ [] → now ≡ true → error ≢ Memory →
+      AreAnswers options count (found ++ next ∷ []) new more now
+  next_refused before new messages more error refused now answers reason same added told memory =
+      subst (λ l. AreAnswers options count (found ++ next ∷ []) l more now) (sym same)
+      (subst (λ l. AreAnswers options count (found ++ next ∷ []) before l now) (sym (added ∙ ap (λ n. messages ++ refusal n error ∷ []) numbered))
+      (subst (λ b. AreAnswers options count (found ++ next ∷ []) before (messages ++ refusal (number_of (length found) count) error ∷ []) b) (sym told)
+      (is_refused found next before messages refused error answers reason memory)))

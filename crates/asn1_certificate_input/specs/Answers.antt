@@ -1,41 +1,65 @@
 -- The output for an input.
-use Rattle.std.specs.Prelude.{◌≡◌, ◌≢◌, ◌⊎◌, ℕ, Bool, List, [], ◌∷◌, ◌++◌, Option, false, true}
+use Rattle.std.specs.Prelude.{◌≡◌, ◌≢◌, ◌⊎◌, ◌+◌, ◌==◌, ℕ, Bool, List, [], ◌∷◌, ◌++◌, None, Option, Some, false, if◌then◌else◌, length, true}
 use Rattle.std.specs.Io.KnownBytes.{Appends, Consumes}
 use Rattle.asn1_certificate_input.specs.Inputs.{AreCertificatesOf}
 use Rattle.asn1_certificate_input.specs.Refused.{IsRefusalOf, IsRefusalOfInput}
 use Rattle.asn1_certificate_input.specs.Shown.{IsShownOf, separator}
-use Rattle.asn1_certificate_input.specs.declared.departure.FromDer.{FromDer}
+use Rattle.asn1_certificate_input.specs.declared.departure.Departure.{Departure}
 use Rattle.asn1_certificate_input.specs.declared.error.InputError.{InputError}
 use Rattle.asn1_certificate_input.specs.declared.error.InputError.TheVariants.{Memory}
+use Rattle.asn1_certificate_input.specs.declared.message.Message.{Message}
+use Rattle.asn1_certificate_input.specs.declared.message.Notice.TheVariants.{Refusal, Warning}
 use Rattle.asn1_certificate_input.specs.declared.options.Options.{Options}
 use Rattle.asn1_certificate_text.specs.declared.pem.PemCertificate.{PemCertificate}
 
--- The bytes are those of these certificates, one behind the other, but for those that are refused; and whether one is.
-pub data AreAnswers (options : Options) : List PemCertificate → List ℕ → Bool → Type 0 where
-  none : AreAnswers options [] [] false
-  shown : (found : List PemCertificate) (next : PemCertificate) (bytes more : List ℕ) (departure : Option FromDer) (refused : Bool) →
-      AreAnswers options found bytes refused → IsShownOf options next more departure →
-      AreAnswers options (found ++ next ∷ []) (bytes ++ (separator options bytes ++ more)) refused
-  refused : (found : List PemCertificate) (next : PemCertificate) (bytes : List ℕ) (before : Bool) (error : InputError) →
-      AreAnswers options found bytes before → IsRefusalOf options next error → error ≢ Memory → AreAnswers options (found ++ next ∷ []) bytes true
+-- the number of the certificate at this index of an input, from 1, if the input has several
+abbrev pub number_of : ℕ → ℕ → Option ℕ
+number_of index count = if count == 1 then None else Some (index + 1)
 
--- The input is refused, and no bytes are of it.
-pub record RefusesInput (input bytes : List ℕ) (refused : Bool) : Type 0 where
+-- a warning
+abbrev pub warning : Option ℕ → Departure → Message
+warning number departure = record { number = number; notice = Warning departure }
+
+-- the warning of a departure, if there is one
+abbrev pub warnings : Option ℕ → Option Departure → List Message
+warnings number None = []
+warnings number (Some departure) = warning number departure ∷ []
+
+-- a refusal
+abbrev pub refusal : Option ℕ → InputError → Message
+refusal number error = record { number = number; notice = Refusal error }
+
+-- Of certificates of an input, which has this many, the bytes are those of each that is shown, one behind the other; the messages are
+-- a warning of each that is shown and departs from DER, and the refusal of each that is refused, in their order; and whether one is
+-- refused.
+pub data AreAnswers (options : Options) (count : ℕ) : List PemCertificate → List ℕ → List Message → Bool → Type 0 where
+  none : AreAnswers options count [] [] [] false
+  shown : (found : List PemCertificate) (next : PemCertificate) (bytes more : List ℕ) (messages : List Message) (departure : Option Departure) (refused : Bool) →
+      AreAnswers options count found bytes messages refused → IsShownOf options next more departure →
+      AreAnswers options count (found ++ next ∷ []) (bytes ++ (separator options bytes ++ more)) (messages ++ warnings (number_of (length found) count) departure) refused
+  refused : (found : List PemCertificate) (next : PemCertificate) (bytes : List ℕ) (messages : List Message) (before : Bool) (error : InputError) →
+      AreAnswers options count found bytes messages before → IsRefusalOf options next error → error ≢ Memory →
+      AreAnswers options count (found ++ next ∷ []) bytes (messages ++ refusal (number_of (length found) count) error ∷ []) true
+
+-- The input is refused: no bytes are of it, and the refusal is the only message.
+pub record RefusesInput (input bytes : List ℕ) (messages : List Message) (is_refused : Bool) : Type 0 where
   pub error : InputError
   pub not_memory : error ≢ Memory
   pub reason : IsRefusalOfInput input error
   pub no_bytes : bytes ≡ []
-  pub is_refused : refused ≡ true
+  pub only : messages ≡ refusal None error ∷ []
+  pub refused : is_refused ≡ true
 
--- The bytes are those of the certificates of the input.
-pub record AnswersCertificates (options : Options) (input bytes : List ℕ) (refused : Bool) : Type 0 where
+-- The bytes and the messages are those of the certificates of the input.
+pub record AnswersCertificates (options : Options) (input bytes : List ℕ) (messages : List Message) (is_refused : Bool) : Type 0 where
   pub found : List PemCertificate
   pub of_input : AreCertificatesOf input found
-  pub answers : AreAnswers options found bytes refused
+  pub answers : AreAnswers options (length found) found bytes messages is_refused
 
--- the bytes are the output for an input, and whether it or one of its certificates is refused
-abbrev pub AnswersInput : Options → List ℕ → List ℕ → Bool → Type 0
-AnswersInput options input bytes some = AnswersCertificates options input bytes some ⊎ RefusesInput input bytes some
+-- the bytes and the messages are the output for an input, and whether it or one of its certificates is refused
+abbrev pub AnswersInput : Options → List ℕ → List ℕ → List Message → Bool → Type 0
+AnswersInput options input bytes messages is_refused =
+    AnswersCertificates options input bytes messages is_refused ⊎ RefusesInput input bytes messages is_refused
 
 -- A call that reads an input, and writes bytes that are of it by this relation: what remains to be read and what has been written,
 -- each before and after it.

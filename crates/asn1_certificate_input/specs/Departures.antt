@@ -1,8 +1,8 @@
 -- How the octets of a certificate depart from its DER.
 use Rattle.std.specs.Prelude.{ℕ, List, None, Option, Some}
 use Rattle.asn1_certificate_input.specs.Certificates.{IsReadOf, records_of}
-use Rattle.asn1_certificate_input.specs.declared.departure.FromDer.{FromDer}
-use Rattle.asn1_certificate_input.specs.declared.departure.FromDer.TheVariants.{Breaks, Differs, IsNotWritten}
+use Rattle.asn1_certificate_input.specs.declared.departure.Departure.{Departure}
+use Rattle.asn1_certificate_input.specs.declared.departure.Departure.TheVariants.{Breaks, Differs, IsNotWritten}
 use Rattle.asn1_certificate_rules.specs.Departures.{Departs}
 use Rattle.asn1_certificate_rules.specs.declared.notation.Part.TheVariants as part
 use Rattle.asn1_der.specs.Format.{der_format}
@@ -31,13 +31,18 @@ pub record IsReadAndNotWritten (octets : List ℕ) (error : EncodeError) : Type 
   pub not_written : rules.IsNotWritten der_format (records_of certificate) 64 error
 
 -- how octets differ from what a certificate is written as, if they do
-abbrev pub AnswersDifference : List ℕ → Certificate → Option FromDer → Type 0
+abbrev pub AnswersDifference : List ℕ → Certificate → Option Departure → Type 0
 AnswersDifference octets certificate None = AreDerAsWritten octets certificate
-AnswersDifference octets certificate (Some (Breaks departure)) = ⊥
+AnswersDifference octets certificate (Some (Breaks broken)) = ⊥
 AnswersDifference octets certificate (Some (Differs position)) = IsWrittenOtherwise octets position
 AnswersDifference octets certificate (Some (IsNotWritten error)) = IsReadAndNotWritten octets error
 
 -- The same, or a rule of DER that the octets break where the notation of a certificate has this part.
-abbrev pub AnswersDeparture : List ℕ → Certificate → Option FromDer → Type 0
-AnswersDeparture octets certificate (Some (Breaks departure)) = Departs 64 part.Certificate octets departure.rule departure.position
+abbrev pub AnswersDeparture : List ℕ → Certificate → Option Departure → Type 0
+AnswersDeparture octets certificate (Some (Breaks broken)) = Departs 64 part.Certificate octets broken.rule broken.position
 AnswersDeparture octets certificate difference = AnswersDifference octets certificate difference
+
+-- The octets are not those that writing the certificate makes.
+pub record DifferFromDer (octets : List ℕ) (certificate : Certificate) : Type 0 where
+  pub difference : Departure
+  pub is : AnswersDifference octets certificate (Some difference)

@@ -8,18 +8,23 @@ use Rattle.asn1_certificate_text.specs.declared.pem.PemCertificate.{PemCertifica
 use Rattle.asn1_certificate_text.specs.declared.pem.PemCertificate.TheVariants.{Octets}
 use Rattle.asn1_der_items.specs.Series.{is_one_element}
 
--- A text with certificates: the input is not one element, and has a line before a certificate.
-pub record IsText (input : List ℕ) : Type 0 where
-  pub no_element : is_one_element input ≡ false
-  pub line : HasBegin input
+-- a SEQUENCE begins the input, by its first octet
+abbrev pub BeginsSequence : List ℕ → Type 0
+BeginsSequence input = slice_get input 0 ≡ Some 48
 
--- The input is no such text, or it begins with an element and others follow, as a certificate does before trailing bytes.
-abbrev pub IsNoText : List ℕ → Type 0
-IsNoText input = (is_one_element input ≡ true) ⊎ (HasNoBegin input ⊎ ((end : ℕ) × IsFollowed input end))
-
--- no SEQUENCE begins the input, by its first octet
+-- none does
 abbrev pub BeginsNoSequence : List ℕ → Type 0
 BeginsNoSequence input = slice_get input 0 ≢ Some 48
+
+-- A text with certificates: the input has a line before a certificate, and it does not begin as a SEQUENCE does, or is not one element.
+pub record IsText (input : List ℕ) : Type 0 where
+  pub line : HasBegin input
+  pub no_der : BeginsNoSequence input ⊎ (is_one_element input ≡ false)
+
+-- The input has no such line; or it begins as a SEQUENCE does, and is one element, or begins with an element and others follow, as a
+-- certificate does before trailing bytes.
+abbrev pub IsNoText : List ℕ → Type 0
+IsNoText input = HasNoBegin input ⊎ (BeginsSequence input × ((is_one_element input ≡ true) ⊎ ((end : ℕ) × IsFollowed input end)))
 
 -- The certificate of an input is the input itself.
 pub record IsAlone (input : List ℕ) (found : List PemCertificate) : Type 0 where
@@ -27,6 +32,7 @@ pub record IsAlone (input : List ℕ) (found : List PemCertificate) : Type 0 whe
   pub only : found ≡ Octets octets ∷ []
   pub are : octets.items ≡ input
 
--- the certificates of a text, or the input itself
+-- the certificates of a text, or the input itself, which begins as a SEQUENCE does
 abbrev pub AreCertificatesOf : List ℕ → List PemCertificate → Type 0
-AreCertificatesOf input found = (IsText input × AreCertificatesFrom 0 input found) ⊎ (IsNoText input × IsAlone input found)
+AreCertificatesOf input found =
+    (IsText input × AreCertificatesFrom 0 input found) ⊎ (IsNoText input × BeginsSequence input × IsAlone input found)

@@ -2,7 +2,7 @@
 use Rattle.std.specs.Prelude.{◌≡◌, ◌||◌, ℕ, Bool, List, [], ◌∷◌, None, Option, false, if◌then◌else◌, true}
 use Rattle.asn1_certificate_input.specs.Certificates.{IsReadOf, records_of}
 use Rattle.asn1_certificate_input.specs.Departures.{AnswersDeparture}
-use Rattle.asn1_certificate_input.specs.declared.departure.FromDer.{FromDer}
+use Rattle.asn1_certificate_input.specs.declared.departure.Departure.{Departure}
 use Rattle.asn1_certificate_input.specs.declared.options.Options.{Options}
 use Rattle.asn1_certificate_input.specs.declared.options.OutputFormat.{OutputFormat}
 use Rattle.asn1_certificate_input.specs.declared.options.OutputFormat.TheVariants.{Der, Report as AsReport}
@@ -33,7 +33,7 @@ AreBytesOf Der octets certificate bytes = (bytes ≡ octets) × Carries bytes (r
 
 -- The octets were read as a certificate, whose bytes these are, and depart from its DER in this way or not at all; and not at all where
 -- such certificates are refused.
-pub record IsShown (options : Options) (octets bytes : List ℕ) (departure : Option FromDer) : Type 0 where
+pub record IsShown (options : Options) (octets bytes : List ℕ) (departure : Option Departure) : Type 0 where
   pub certificate : Certificate
   pub read : IsReadOf octets certificate
   pub names : HasGoodNames certificate
@@ -42,7 +42,7 @@ pub record IsShown (options : Options) (octets bytes : List ℕ) (departure : Op
   pub strict : options.is_strict ≡ true → departure ≡ None
 
 -- the same of a certificate of an input, which has octets
-abbrev pub IsShownOf : Options → PemCertificate → List ℕ → Option FromDer → Type 0
+abbrev pub IsShownOf : Options → PemCertificate → List ℕ → Option Departure → Type 0
 IsShownOf options (Octets octets) bytes departure = IsShown options octets.items bytes departure
 IsShownOf options (Refused error) bytes departure = ⊥
 

@@ -1,24 +1,20 @@
 //! One certificate, as a user sees it.
-ghost use Rattle.std.specs.Prelude.{◌≡◌, IfErr, IfOk, List, None, OnOk, true, ℕ};
-ghost use Rattle.asn1_certificate_input.specs.Certificates.{IsReadOf, records_of};
-ghost use Rattle.asn1_certificate_input.specs.Departures.{AnswersDeparture, AnswersDifference};
-ghost use Rattle.asn1_certificate_input.specs.Refused.{IsRefusal, IsRefusalOfCertificate, IsStrictRefusal, RefusesCertificate};
+ghost use Rattle.std.specs.Prelude.{◌≡◌, IfErr, IfOk, List, None, OnOk, Some, true, ℕ};
+ghost use Rattle.asn1_certificate_input.specs.Certificates.{IsReadOf};
+ghost use Rattle.asn1_certificate_input.specs.Departures.{AnswersDeparture, AnswersDifference, AreDerAsWritten};
+ghost use Rattle.asn1_certificate_input.specs.Refused.{IsRefusal, IsRefusalOfDeparture, RefusesCertificate};
 ghost use Rattle.asn1_certificate_input.specs.Shown.{AreBytesOf, AreLinesOf, IsShown};
-ghost use Rattle.asn1_certificate_input.specs.declared.error.InputError.TheVariants.{Memory};
-ghost use Rattle.asn1_der.specs.Format.{Carries};
 
-use crate::departure::{FromDer, departure_of};
+use crate::departure::{Departure, departure_of};
 use crate::error::InputError;
 use crate::open_types::check_open_types;
 use crate::options::{Options, OutputFormat};
 use crate::reading::{ReadCertificate, read};
-use asn1_certificate_reader::{MAX_DEPTH, report_of};
+use asn1_certificate_reader::report_of;
 use asn1_certificate_text::report_text;
 use asn1_der::DerRules;
-use asn1_enc::EncodeError;
-use asn1_rules::Rules;
 use asn1_x509::Certificate;
-use std::alloc::Global;
+use std::alloc::{AllocError, Global};
 
 /// A certificate as it is written, and how its octets depart from its DER, if they do.
 #[derive(Drop)]
@@ -26,7 +22,7 @@ pub struct Shown {
     /// The certificate in the format that was asked for.
     pub bytes: Vec<u8>,
     /// How its octets depart from its DER.
-    pub departure: Option<FromDer>,
+    pub departure: Option<Departure>,
 }
 
 /// The certificate with these octets, as the options ask for it.
@@ -54,67 +50,73 @@ fn shown_as(
 {
     check_open_types(alloc, octets.as_slice(), &read.certificate)?;
     let departure = departure_of(octets.as_slice(), read.difference);
-    check_departure(options, departure)?;
+    check_departure(options, departure, read.difference)?;
     let bytes = bytes_of(alloc, options.format, octets, &read.certificate)?;
     Ok(Shown { bytes, departure })
 }
 
 /// Refuses a departure, if the options ask for it.
-fn check_departure(options: Options, departure: Option<FromDer>) -> Result<(), InputError>
+fn check_departure(
+    options: Options,
+    departure: Option<Departure>,
+    difference: Option<Departure>,
+) -> Result<(), InputError>
+    requires { departure ≡ None → difference ≡ None }
     ensures strict { OnOk result (options.is_strict ≡ true → departure ≡ None) }
+    ensures der { OnOk result (options.format ≡ OutputFormat.Der → difference ≡ None) }
     ensures refused { (octets : List ℕ) (certificate : Certificate) →
+        AnswersDifference octets certificate difference →
         AnswersDeparture octets certificate departure →
-        IfErr result (IsStrictRefusal options octets certificate) }
+        IfErr result (IsRefusalOfDeparture options octets certificate) }
 {
     match departure {
-        Some(departs) if options.is_strict => Err(InputError::Departs(departs)),
+        None => Ok(()),
+        Some(departure) if options.is_strict => Err(InputError::Departs(departure)),
+        Some(departure) => check_difference(options, departure, difference),
+    }
+}
+
+/// Refuses octets that are not those that writing the certificate makes, if its DER is asked for. They depart from its DER so.
+fn check_difference(
+    options: Options,
+    departure: Departure,
+    difference: Option<Departure>,
+) -> Result<(), InputError>
+    ensures der { OnOk result (options.format ≡ OutputFormat.Der → difference ≡ None) }
+    ensures refused { (octets : List ℕ) (certificate : Certificate) →
+        AnswersDifference octets certificate difference →
+        AnswersDeparture octets certificate (Some departure) →
+        IfErr result (IsRefusalOfDeparture options octets certificate) }
+{
+    match difference {
+        Some(_difference) if options.format == OutputFormat::Der => {
+            Err(InputError::OtherDer(departure))
+        }
         _ => Ok(()),
     }
 }
 
-/// A certificate, which was read of these octets, in a format.
+/// A certificate, which was read of these octets, in a format. As DER it is the octets, which have to be those that writing it makes.
 fn bytes_of(
     alloc: Global,
     format: OutputFormat,
     octets: &Vec<u8>,
     certificate: &Certificate,
-) -> Result<Vec<u8>, InputError>
-    ensures bytes { IfOk result (λ bytes.
+) -> Result<Vec<u8>, AllocError>
+    requires { format ≡ OutputFormat.Der → AreDerAsWritten octets.now.items certificate.now }
+    ensures { IfOk result (λ bytes.
         AreBytesOf format octets.now.items certificate.now bytes.items) }
-    ensures refused { IfErr result
-        (IsRefusalOfCertificate format octets.now.items certificate.now) }
 {
     match format {
         OutputFormat::Report => lines_of(alloc, certificate),
-        OutputFormat::Der => der_of(alloc, octets, certificate),
+        OutputFormat::Der => Vec::from_slice(alloc, octets.as_slice()),
     }
 }
 
 /// The lines of the report of a certificate.
-fn lines_of(alloc: Global, certificate: &Certificate) -> Result<Vec<u8>, InputError>
-    ensures shown { IfOk result (λ bytes. AreLinesOf certificate.now bytes.items) }
-    ensures memory { IfErr result (λ e. e ≡ Memory) }
+fn lines_of(alloc: Global, certificate: &Certificate) -> Result<Vec<u8>, AllocError>
+    ensures { IfOk result (λ bytes. AreLinesOf certificate.now bytes.items) }
 {
     let report = report_of(&DerRules::new(alloc), alloc, certificate)?;
     Ok(report_text(alloc, &report)?.into_bytes())
-}
-
-/// The DER of a certificate that these octets were read as, which has to be the octets.
-fn der_of(alloc: Global, octets: &Vec<u8>, certificate: &Certificate) -> Result<Vec<u8>, InputError>
-    ensures written { IfOk result (λ bytes. Carries bytes.items (records_of certificate.now)) }
-    ensures same { IfOk result (λ bytes. bytes.items ≡ octets.now.items) }
-    ensures refused { IfErr result
-        (IsRefusalOfCertificate OutputFormat.Der octets.now.items certificate.now) }
-{
-    match DerRules::new(alloc).write_value(certificate, MAX_DEPTH) {
-        Ok(bytes) => {
-            if bytes.as_slice() == octets.as_slice() {
-                Ok(bytes)
-            } else {
-                Err(InputError::OtherDer)
-            }
-        }
-        Err(EncodeError::Memory) => Err(InputError::Memory),
-        Err(error) => Err(InputError::NotWritten(error)),
-    }
 }

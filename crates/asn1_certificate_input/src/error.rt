@@ -2,20 +2,19 @@
 ghost use Rattle.std.specs.Prelude.{◌≡◌};
 ghost use Rattle.asn1_certificate_input.specs.declared.error.InputError.TheVariants.{Memory};
 
-use crate::departure::FromDer;
+use crate::departure::Departure;
 use asn1_certificate_reader::{NameFault, ParameterType};
-use asn1_certificate_rules::Departure;
+use asn1_certificate_rules::BrokenRule;
 use asn1_certificate_text::PemError;
 use asn1_dec::DecodeError;
-use asn1_enc::EncodeError;
 use std::alloc::AllocError;
 use thiserror::Error;
 
 /// The reason that there is no output for a certificate, or for an input. Positions are those of bytes, from 0.
 #[derive(Clone, Copy, Debug, Drop, Error)]
 pub enum InputError {
-    /// The input is no DER and no text with a certificate.
-    #[error("neither DER nor PEM: no SEQUENCE begins it, and it is no text with a line -----BEGIN CERTIFICATE-----")]
+    /// No SEQUENCE begins the input, and it has no line before a certificate.
+    #[error("neither DER nor PEM: no SEQUENCE begins it, and there is no line -----BEGIN CERTIFICATE-----")]
     Neither,
     /// The input is a text, and this certificate of it has no octets.
     #[error("no certificate: {0}")]
@@ -23,9 +22,9 @@ pub enum InputError {
     /// The octets begin with a certificate, and trailing bytes are left from this position on.
     #[error("trailing bytes: the certificate ends before byte {0} of its DER")]
     TrailingBytes(usize),
-    /// The octets are no certificate, and they break a rule of DER at this position.
+    /// The octets are no certificate, and they break a rule of DER that reading looks at.
     #[error("no certificate: {0}")]
-    NotDer(Departure),
+    NotDer(BrokenRule),
     /// No element begins at this position of the octets, although one is due. The error is that of reading them.
     #[error("no certificate: byte {0} of its DER begins no element ({1})")]
     NoElement(usize, DecodeError),
@@ -50,13 +49,10 @@ pub enum InputError {
     BadSignatureParameters(usize, ParameterType),
     /// The octets of the certificate depart from its DER, and such a certificate is refused.
     #[error("{0}")]
-    Departs(FromDer),
-    /// The certificate was read, and is not written again.
+    Departs(Departure),
+    /// The DER of the certificate was asked for, and its octets are not those that writing it makes: they depart from its DER so.
     #[error("not written: {0}")]
-    NotWritten(EncodeError),
-    /// The octets were read as a certificate with other DER: they have a component that is its DEFAULT.
-    #[error("not written: its DER has other octets, without components that are their DEFAULT")]
-    OtherDer,
+    OtherDer(Departure),
     /// There was no memory.
     #[error("no memory")]
     Memory,

@@ -1,6 +1,6 @@
 //! The certificates of an input.
 ghost use Rattle.std.specs.Prelude.{◌≡◌, IfErr, IfOk, false, true};
-ghost use Rattle.asn1_certificate_input.specs.Inputs.{AreCertificatesOf, BeginsNoSequence, IsAlone, IsNoText, IsText};
+ghost use Rattle.asn1_certificate_input.specs.Inputs.{AreCertificatesOf, BeginsNoSequence, BeginsSequence, IsAlone, IsNoText, IsText};
 ghost use Rattle.asn1_certificate_input.specs.Refused.{IsRefusalOfInput};
 
 use crate::error::InputError;
@@ -12,8 +12,8 @@ use std::alloc::{AllocError, Global};
 /// The octet with which a SEQUENCE begins, and so a certificate.
 const SEQUENCE: u8 = 0x30;
 
-/// The certificates of an input. An input that is one element, or begins with a certificate, is DER. Of others a text with a line before
-/// a certificate has the certificates between these lines, and any other is DER if it begins as a SEQUENCE does.
+/// The certificates of an input. A text with a line before a certificate has the certificates between these lines. An input that begins
+/// as a SEQUENCE does is a certificate itself: if it has no such line, is one element, or begins with a certificate.
 pub(crate) fn certificates_of(
     alloc: Global,
     input: Vec<u8>,
@@ -32,7 +32,8 @@ pub(crate) fn certificates_of(
 
 /// Whether an input begins as a SEQUENCE does.
 fn begins_sequence(input: &[u8]) -> bool
-    ensures { result ≡ false → BeginsNoSequence input.now }
+    ensures sequence { result ≡ true → BeginsSequence input.now }
+    ensures other { result ≡ false → BeginsNoSequence input.now }
 {
     match input.first() {
         Some(first) => *first == SEQUENCE,
@@ -54,10 +55,13 @@ fn is_text(alloc: Global, input: &[u8]) -> Result<bool, AllocError>
     ensures text { IfOk result (λ text. text ≡ true → IsText input.now) }
     ensures no_text { IfOk result (λ text. text ≡ false → IsNoText input.now) }
 {
-    if is_one_element(input) {
+    if !is_pem(input) {
         return Ok(false);
     }
-    if !is_pem(input) {
+    if !begins_sequence(input) {
+        return Ok(true);
+    }
+    if is_one_element(input) {
         return Ok(false);
     }
     Ok(end_of_certificate(alloc, input)?.is_none())

@@ -5,7 +5,7 @@
 //! | [`run`], [`Outcome`] | writes the certificates that a reader gives, and the end of the run |
 //! | [`output_of`], [`Output`], [`Message`], [`Notice`] | the output for an input, with its warnings and refusals |
 //! | [`shown_of`], [`Shown`] | the output for one certificate |
-//! | [`InputError`], [`FromDer`] | why there is no output, and how octets depart from DER |
+//! | [`InputError`], [`Departure`] | why there is no output, and how octets depart from DER |
 //! | [`Options`], [`OutputFormat`] | what a user asks for |
 //! | [`one_spelling`] | a law: the DER of a certificate is its only spelling |
 //!
@@ -14,17 +14,18 @@
 //!
 //! The contracts promise:
 //!
-//! - The output is that of the certificates of the input, in their order, but for those that are refused (`AnswersInput` of
-//!   `specs/Answers.antt`). An input has the certificates between the lines of a text, or is one itself (`AreCertificatesOf` of
-//!   `specs/Inputs.antt`).
+//! - The output is that of the certificates of the input, in their order, but for those that are refused. The messages are a warning
+//!   for each certificate that is shown and departs from DER, and a refusal for each that is refused, with its number if there are
+//!   several (`AnswersInput` of `specs/Answers.antt`). An input has the certificates between the lines of a text, or is one itself
+//!   (`AreCertificatesOf` of `specs/Inputs.antt`).
 //! - A certificate is shown as its lines or its DER (`IsShown` of `specs/Shown.antt`): its octets are read as the valid certificate
 //!   whose DER they are, if there is one (`IsReadOf` of `specs/Certificates.antt`).
 //! - If no departure is answered of a certificate that is shown, its octets are the very octets that writing the certificate makes. A
-//!   departure that is answered is one: the octets break this rule at this position, or differ there from what is written (`departs`
-//!   of `IsShown`, by `AnswersDeparture` of `specs/Departures.antt`). With `is_strict` none is answered (`strict`).
+//!   departure that is answered is one: the octets break this rule at this position, or differ there from what is written (`departs` of
+//!   `IsShown`, by `AnswersDeparture` of `specs/Departures.antt`). With `is_strict` none is answered (`strict`).
 //! - An error is a true reason for which a certificate or an input is refused (`IsRefusalOf` and `IsRefusalOfInput` of
-//!   `specs/Refused.antt`). For a value in a name, and for parameters, its position is the one to which their path leads in the octets
-//!   (`specs/Positions.antt`).
+//!   `specs/Refused.antt`). An error for a rule of DER names the rule and the position. For a value in a name, and for parameters, the
+//!   position is the one to which their path leads in the octets (`specs/Positions.antt`).
 //! - The status is 0 if nothing is refused, 1 if something is, and else 2 (`converts` of [`run`]).
 #![tactic(auto)]
 
@@ -32,6 +33,7 @@ mod certificate;
 mod departure;
 mod error;
 mod inputs;
+mod message;
 pub mod one_spelling;
 mod open_types;
 mod options;
@@ -41,8 +43,9 @@ mod positions;
 mod reading;
 
 pub use certificate::{Shown, shown_of};
-pub use departure::FromDer;
+pub use departure::Departure;
 pub use error::InputError;
+pub use message::{Message, Notice};
 pub use options::{Options, OutputFormat};
 pub use outcome::{Outcome, run};
-pub use output::{Message, Notice, Output, output_of};
+pub use output::{Output, output_of};

@@ -2,7 +2,6 @@
 ghost use Rattle.std.specs.Prelude.{IfErr, OnOk};
 ghost use Rattle.asn1_certificate_input.specs.Refused.{IsRefusalOfCertificate};
 ghost use Rattle.asn1_certificate_input.specs.Shown.{HasGoodNames};
-ghost use Rattle.asn1_certificate_input.specs.declared.options.OutputFormat.{OutputFormat};
 
 use crate::error::InputError;
 use crate::positions::{
@@ -21,8 +20,7 @@ pub(crate) fn check_open_types(
     certificate: &Certificate,
 ) -> Result<(), InputError>
     ensures good { OnOk result (HasGoodNames certificate.now) }
-    ensures refused { (format : OutputFormat) →
-        IfErr result (IsRefusalOfCertificate format octets.now certificate.now) }
+    ensures refused { IfErr result (IsRefusalOfCertificate octets.now certificate.now) }
 {
     match check_names(octets, certificate) {
         Ok(()) => check_parameters(alloc, octets, certificate),
@@ -33,8 +31,7 @@ pub(crate) fn check_open_types(
 /// Refuses a certificate with a value in a name that no name can have.
 fn check_names(octets: &[u8], certificate: &Certificate) -> Result<(), InputError>
     ensures good { OnOk result (HasGoodNames certificate.now) }
-    ensures refused { (format : OutputFormat) →
-        IfErr result (IsRefusalOfCertificate format octets.now certificate.now) }
+    ensures refused { IfErr result (IsRefusalOfCertificate octets.now certificate.now) }
 {
     let signed = &certificate.tbs_certificate;
     if let Some(fault) = first_name_fault(&signed.issuer) {
@@ -54,7 +51,7 @@ fn check_parameters(
     octets: &[u8],
     certificate: &Certificate,
 ) -> Result<(), InputError>
-    ensures { (format : OutputFormat) → IfErr result (IsRefusalOfCertificate format octets.now certificate.now) }
+    ensures { IfErr result (IsRefusalOfCertificate octets.now certificate.now) }
 {
     let rules = DerRules::new(alloc);
     let signed = &certificate.tbs_certificate;

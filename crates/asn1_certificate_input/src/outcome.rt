@@ -4,8 +4,9 @@ ghost use Rattle.std.specs.Io.KnownBytes.{Appends, IsAtEnd};
 ghost use Rattle.asn1_certificate_input.specs.Answers.{AnswersInput, Converts};
 ghost use Rattle.asn1_certificate_input.specs.declared.outcome.Failure.TheVariants.{Writing};
 
+use crate::message::Message;
 use crate::options::Options;
-use crate::output::{Message, Output, output_of};
+use crate::output::{Output, output_of};
 use std::alloc::Global;
 use std::io::{Eprint, Read, Write};
 use thiserror::Error;
@@ -24,7 +25,7 @@ pub(crate) enum Failure {
     Memory,
 }
 
-/// The end of a run over one input: its status, and what it tells on standard error.
+/// The end of a run over one input: its status, and its messages for standard error.
 #[derive(Drop)]
 pub struct Outcome {
     /// 0 if each certificate was written, 1 if the input or a certificate of it is refused, and 2 if memory ran out, or reading or
@@ -32,15 +33,17 @@ pub struct Outcome {
     pub status: u8,
     /// Whether a certificate was written.
     pub has_output: bool,
-    messages: Vec<Message>,
+    /// The warnings and refusals, in the order of the certificates.
+    pub messages: Vec<Message>,
     failure: Option<Failure>,
 }
 
 impl Outcome {
     /// The end of a run after this answer.
     fn of(alloc: Global, answer: Result<Output, Failure>) -> Outcome
-        ensures { MatchResult answer
+        ensures status { MatchResult answer
             (λ output. output.is_refused ≡ (result.status == 1)) (λ _. result.status ≡ 2) }
+        ensures messages { IfOk answer (λ output. result.messages ≡ output.messages) }
     {
         match answer {
             Ok(output) => Outcome {
@@ -59,7 +62,7 @@ impl Outcome {
     }
 
     /// Prints a line on standard error for each warning, refusal and failure, behind the name of the input if it has one.
-    pub fn tell<R: Eprint>(&self, rt: &R, source: Option<&str>) {
+    pub fn print_messages<R: Eprint>(&self, rt: &R, source: Option<&str>) {
         for message in &self.messages {
             let _ = match source {
                 Some(name) => eprintln!(rt; "{name}: {message}"),
@@ -84,7 +87,8 @@ pub fn run<R: Read, W: Write>(
 ) -> Outcome
     ensures read { result.status < 2 → IsAtEnd (R.remaining reader.new) }
     ensures converts { result.status < 2 → Converts
-        (λ input bytes. AnswersInput options input bytes (result.status == 1))
+        (λ input bytes. AnswersInput options input bytes result.messages.items
+        (result.status == 1))
         (R.remaining reader.old) (R.remaining reader.new)
         (W.contents writer.old) (W.contents writer.new) }
 {
@@ -100,7 +104,8 @@ fn convert<R: Read, W: Write>(
 ) -> Result<Output, Failure>
     ensures read { IfOk result (λ _. IsAtEnd (R.remaining reader.new)) }
     ensures converts { IfOk result (λ output. Converts
-        (λ input bytes. AnswersInput options input bytes output.is_refused)
+        (λ input bytes. AnswersInput options input bytes output.messages.items
+        output.is_refused)
         (R.remaining reader.old) (R.remaining reader.new)
         (W.contents writer.old) (W.contents writer.new)) }
 {

@@ -1,50 +1,20 @@
 //! The output for an input.
-ghost use Rattle.std.specs.Prelude.{◌≡◌, ◌≢◌, ◌++◌, ◌∷◌, [], IfErr, IfOk, List, OnOk, false, true};
-ghost use Rattle.asn1_certificate_input.specs.Answers.{AnswersInput, AreAnswers};
+ghost use Rattle.std.specs.Prelude.{◌≡◌, ◌≢◌, ◌++◌, ◌∷◌, [], IfErr, IfOk, List, OnOk, false, length, true, ℕ};
+ghost use Rattle.asn1_certificate_input.specs.Answers.{AnswersInput, AreAnswers, number_of, refusal, warnings};
 ghost use Rattle.asn1_certificate_input.specs.Refused.{IsRefusalOf};
 ghost use Rattle.asn1_certificate_input.specs.Shown.{IsShownOf, separator};
 ghost use Rattle.asn1_certificate_input.specs.declared.error.InputError.TheVariants.{Memory};
 
 use crate::certificate::{Shown, shown_of};
-use crate::departure::FromDer;
+use crate::departure::Departure;
 use crate::error::InputError;
 use crate::inputs::certificates_of;
+use crate::message::{Message, number_of};
 use crate::options::{Options, OutputFormat};
 use asn1_certificate_text::PemCertificate;
 use std::alloc::{AllocError, Global};
-use std::fmt;
 
-/// What is told of an input beside its certificates.
-#[derive(Clone, Copy, Debug, Drop)]
-pub struct Message {
-    /// The number of the certificate in its input, from 1, if the input has several.
-    pub number: Option<usize>,
-    /// What is told.
-    pub notice: Notice,
-}
-
-/// A warning, or a refusal.
-#[derive(Clone, Copy, Debug, Drop)]
-pub enum Notice {
-    /// A certificate that is shown departs from DER.
-    Warning(FromDer),
-    /// A certificate or an input is refused.
-    Refusal(InputError),
-}
-
-impl fmt::Display for Message {
-    fn fmt<W: fmt::Write>(&self, f: &mut fmt::Formatter<W>) -> fmt::Result {
-        if let Some(number) = self.number {
-            write!(f, "certificate {number}: ")?;
-        }
-        match self.notice {
-            Notice::Warning(departure) => write!(f, "warning: {departure}"),
-            Notice::Refusal(error) => write!(f, "error: {error}"),
-        }
-    }
-}
-
-/// The output for an input, and what is told beside it.
+/// The output for an input, and the messages beside it.
 #[derive(Drop)]
 pub struct Output {
     /// The certificates that are shown, in their order. There is an empty line between the reports of two.
@@ -61,7 +31,8 @@ pub struct Output {
 /// [`AllocError`], if memory runs out.
 pub fn output_of(alloc: Global, options: Options, input: Vec<u8>) -> Result<Output, AllocError>
     ensures { IfOk result (λ output.
-        AnswersInput options input.items output.bytes.items output.is_refused) }
+        AnswersInput options input.items output.bytes.items output.messages.items
+        output.is_refused) }
 {
     match certificates_of(alloc, input) {
         Ok(certificates) => output_of_all(alloc, options, certificates.as_slice()),
@@ -80,7 +51,8 @@ fn output_of_all(
     certificates: &[PemCertificate],
 ) -> Result<Output, AllocError>
     ensures { IfOk result (λ output.
-        AreAnswers options certificates.now output.bytes.items output.is_refused) }
+        AreAnswers options (length certificates.now) certificates.now output.bytes.items
+        output.messages.items output.is_refused) }
 {
     let mut output = Output::empty(alloc);
     for index in 0..certificates.len() {
@@ -95,6 +67,7 @@ impl Output {
     /// The output for no certificate.
     fn empty(alloc: Global) -> Output
         ensures bytes { result.bytes.items ≡ [] }
+        ensures messages { result.messages.items ≡ [] }
         ensures not_refused { result.is_refused ≡ false }
     {
         Output {
@@ -104,18 +77,21 @@ impl Output {
         }
     }
 
-    /// Adds what there is for the next certificate.
+    /// Adds the answer for the next certificate.
     fn add_answer(
         &mut self,
         options: Options,
         number: Option<usize>,
         answer: Result<Shown, InputError>,
     ) -> Result<(), AllocError>
-        ensures { (found : List PemCertificate) (next : PemCertificate) →
-            AreAnswers options found self.old.bytes.items self.old.is_refused →
+        ensures { (count : ℕ) (found : List PemCertificate) (next : PemCertificate) →
+            number ≡ number_of (length found) count →
+            AreAnswers options count found self.old.bytes.items self.old.messages.items
+            self.old.is_refused →
             IfOk answer (λ shown. IsShownOf options next shown.bytes.items shown.departure) →
             IfErr answer (IsRefusalOf options next) →
-            OnOk result (AreAnswers options (found ++ next ∷ []) self.new.bytes.items self.new.is_refused) }
+            OnOk result (AreAnswers options count (found ++ next ∷ []) self.new.bytes.items
+            self.new.messages.items self.new.is_refused) }
     {
         match answer {
             Ok(shown) => self.add(options, number, shown),
@@ -132,24 +108,40 @@ impl Output {
     ) -> Result<(), AllocError>
         ensures added { OnOk result (self.new.bytes.items ≡
             self.old.bytes.items ++ (separator options self.old.bytes.items ++ shown.bytes.items)) }
+        ensures warned { OnOk result (self.new.messages.items ≡
+            self.old.messages.items ++ warnings number shown.departure) }
         ensures same { OnOk result (self.new.is_refused ≡ self.old.is_refused) }
     {
         if options.format == OutputFormat::Report && (options.follows || !self.bytes.is_empty()) {
             self.bytes.push(b'\n')?;
         }
         self.bytes.extend_from_slice(shown.bytes.as_slice())?;
-        if let Some(departure) = shown.departure {
-            self.messages.push(Message {
-                number,
-                notice: Notice::Warning(departure),
-            })?;
-        }
+        self.warn(number, shown.departure)
+    }
+
+    /// Adds the warning of a departure, if there is one.
+    fn warn(
+        &mut self,
+        number: Option<usize>,
+        departure: Option<Departure>,
+    ) -> Result<(), AllocError>
+        ensures bytes { OnOk result (self.new.bytes.items ≡ self.old.bytes.items) }
+        ensures added { OnOk result (self.new.messages.items ≡
+            self.old.messages.items ++ warnings number departure) }
+        ensures same { OnOk result (self.new.is_refused ≡ self.old.is_refused) }
+    {
+        let Some(departure) = departure else {
+            return Ok(());
+        };
+        self.messages.push(Message::warning(number, departure))?;
         Ok(())
     }
 
     /// Adds a refusal.
     fn refuse(&mut self, number: Option<usize>, error: InputError) -> Result<(), AllocError>
         ensures same { OnOk result (self.new.bytes.items ≡ self.old.bytes.items) }
+        ensures added { OnOk result (self.new.messages.items ≡
+            self.old.messages.items ++ refusal number error ∷ []) }
         ensures refused { OnOk result (self.new.is_refused ≡ true) }
         ensures not_memory { OnOk result (error ≢ Memory) }
     {
@@ -157,20 +149,9 @@ impl Output {
             return Err(AllocError);
         }
         self.is_refused = true;
-        self.messages.push(Message {
-            number,
-            notice: Notice::Refusal(error),
-        })?;
+        self.messages.push(Message::refusal(number, error))?;
         Ok(())
     }
-}
-
-/// The number of a certificate, from 1, if there are several.
-fn number_of(index: usize, count: usize) -> Option<usize> {
-    if count == 1 {
-        return None;
-    }
-    index.checked_add(1)
 }
 
 /// A certificate of an input, as the options ask for it.

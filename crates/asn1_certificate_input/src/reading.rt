@@ -4,11 +4,12 @@ ghost use Rattle.asn1_certificate_input.specs.Certificates.{AreOfNoCertificate, 
 ghost use Rattle.asn1_certificate_input.specs.Departures.{AnswersDifference};
 ghost use Rattle.asn1_certificate_input.specs.Refused.{IsRefusalOfOctets};
 ghost use Rattle.asn1_certificate_rules.specs.Departures.{Departs};
+ghost use Rattle.asn1_certificate_rules.specs.Rules.{IsOfReading};
 
-use crate::departure::FromDer;
+use crate::departure::Departure;
 use crate::error::InputError;
 use asn1_certificate_reader::MAX_DEPTH;
-use asn1_certificate_rules::{Departure, Part, Rule, first_departure};
+use asn1_certificate_rules::{BrokenRule, Part, RuleSet, first_broken_rule};
 use asn1_dec::{Decode, DecodeError};
 use asn1_der::{DerDecoder, DerRules};
 use asn1_der_items::{find_element, first_fault};
@@ -21,7 +22,7 @@ use std::alloc::{AllocError, Global};
 #[derive(Drop)]
 pub(crate) struct ReadCertificate {
     pub(crate) certificate: Certificate,
-    pub(crate) difference: Option<FromDer>,
+    pub(crate) difference: Option<Departure>,
 }
 
 /// The certificate that octets are read as.
@@ -38,11 +39,11 @@ pub(crate) fn read(alloc: Global, octets: &Vec<u8>) -> Result<ReadCertificate, I
             difference: None,
         }),
         Err(CanonicalError::NotCanonical { at }) => {
-            read_again(alloc, octets, FromDer::Differs(at))
+            read_again(alloc, octets, Departure::Differs(at))
         }
         Err(CanonicalError::Write(EncodeError::Memory)) => Err(InputError::Memory),
         Err(CanonicalError::Write(error)) => {
-            read_again(alloc, octets, FromDer::IsNotWritten(error))
+            read_again(alloc, octets, Departure::IsNotWritten(error))
         }
         Err(CanonicalError::Read(DecodeError::Memory)) => Err(InputError::Memory),
         Err(CanonicalError::Read(error)) => Err(refusal(alloc, octets.as_slice(), error)),
@@ -53,7 +54,7 @@ pub(crate) fn read(alloc: Global, octets: &Vec<u8>) -> Result<ReadCertificate, I
 fn read_again(
     alloc: Global,
     octets: &Vec<u8>,
-    difference: FromDer,
+    difference: Departure,
 ) -> Result<ReadCertificate, InputError>
     ensures read { IfOk result (λ read. IsReadOf octets.now.items read.certificate) }
     ensures difference { IfOk result (λ read. read.difference ≡ Some difference) }
@@ -70,8 +71,9 @@ fn read_again(
     }
 }
 
-/// The reason for which octets are not read: trailing bytes behind a certificate, a rule of DER that they break before the position up to
-/// which they were read, the first position at which an element is due and none begins, or else that position.
+/// The reason for which octets are not read: trailing bytes behind a certificate; or the first rule of DER that reading looks at and they
+/// break, if that is before the position up to which they were read; or the first position at which an element is due and none
+/// begins; or else the position up to which they were read.
 fn refusal(alloc: Global, octets: &[u8], error: DecodeError) -> InputError
     ensures { AreOfNoCertificate octets.now → IsRefusalOfOctets octets.now result }
 {
@@ -81,14 +83,14 @@ fn refusal(alloc: Global, octets: &[u8], error: DecodeError) -> InputError
         Err(_) => return InputError::Memory,
     }
     if let Some(position) = first_fault(octets, MAX_DEPTH) {
-        return match departure_before(octets, octets.len()) {
-            Some(departure) => InputError::NotDer(departure),
+        return match broken_before(octets, octets.len()) {
+            Some(broken) => InputError::NotDer(broken),
             None => InputError::NoElement(position, error),
         };
     }
     let position = read_up_to(alloc, octets);
-    if let Some(departure) = departure_before(octets, position) {
-        return InputError::NotDer(departure);
+    if let Some(broken) = broken_before(octets, position) {
+        return InputError::NotDer(broken);
     }
     match error {
         DecodeError::FieldError { name, .. } => InputError::BadComponent(position, name),
@@ -96,15 +98,13 @@ fn refusal(alloc: Global, octets: &[u8], error: DecodeError) -> InputError
     }
 }
 
-/// The first rule of DER that octets break, if its position is before this one. There is none if that rule is one on times, whose form
-/// reading does not look at, also if octets behind the time break another.
-fn departure_before(octets: &[u8], end: usize) -> Option<Departure>
-    ensures { IfSome result (λ d. Departs 64 Part.Other octets.now d.rule d.position) }
+/// The first rule of DER that reading looks at and octets break, if its position is before this one.
+fn broken_before(octets: &[u8], end: usize) -> Option<BrokenRule>
+    ensures broken { IfSome result (λ d. Departs 64 Part.Other octets.now d.rule d.position) }
+    ensures of_reading { IfSome result (λ d. IsOfReading d.rule) }
 {
-    let departure = first_departure(octets, Part::Other, MAX_DEPTH)?;
-    match departure.rule {
-        Rule::UtcTime | Rule::GeneralizedTime => None,
-        _ if departure.position < end => Some(departure),
+    match first_broken_rule(octets, Part::Other, RuleSet::OfReading, MAX_DEPTH) {
+        Some(broken) if broken.position < end => Some(broken),
         _ => None,
     }
 }

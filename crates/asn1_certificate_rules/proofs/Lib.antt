@@ -1,1 +1,1 @@
-mod DeparturePositions
+mod BrokenRulePositions

@@ -1,11 +1,13 @@
 -- The rules of DER (X.690) that an element breaks.
-use Rattle.std.specs.Prelude.{◌≡◌, ◌⊎◌, ℕ, ◌+◌, ◌-◌, false, true, [], ◌∷◌, length}
+use Rattle.std.specs.Prelude.{◌≡◌, ◌⊎◌, ⊤, ℕ, ◌+◌, ◌-◌, false, true, [], ◌∷◌, length}
 use Rattle.asn1_certificate_rules.specs.Contents.{EndsWithZero, HasUnusedBit, IsOtherTrue, IsPadded, IsPaddedArc, is_string}
 use Rattle.asn1_certificate_rules.specs.Sets.{IsOutOfOrder}
 use Rattle.asn1_certificate_rules.specs.Times.{is_generalized_time, is_utc_time}
 use Rattle.asn1_certificate_rules.specs.declared.notation.Part.{Part}
 use Rattle.asn1_certificate_rules.specs.declared.notation.Part.TheVariants.{Version, ExtensionBody, Authority, KeyUsage}
 use Rattle.asn1_certificate_rules.specs.declared.rule.Rule.{Rule}
+use Rattle.asn1_certificate_rules.specs.declared.rule.RuleSet.{RuleSet}
+use Rattle.asn1_certificate_rules.specs.declared.rule.RuleSet.TheVariants.{All, OfReading}
 use Rattle.asn1_certificate_rules.specs.declared.rule.Rule.TheVariants.{PaddedInteger, PaddedArc, OtherTrue, ConstructedString, UnusedBit, TrailingZero, Default, SetOrder, GeneralizedTime, UtcTime}
 use Rattle.asn1_der_items.specs.Elements.{Element}
 use Rattle.asn1_model.specs.Tags.{context, universal}
@@ -50,3 +52,14 @@ BreaksRule part header e GeneralizedTime position =
     IsPrimitive (universal 24) e × (is_generalized_time e.contents ≡ false) × (position ≡ header)
 BreaksRule part header e UtcTime position = IsPrimitive (universal 23) e × (is_utc_time e.contents ≡ false) × (position ≡ header)
 BreaksRule part header e _ position = ⊥
+
+-- Bytes have to keep the rule so that a value is read: each is such a rule but those on the forms of times (11.7 and 11.8).
+abbrev pub IsOfReading : Rule → Type 0
+IsOfReading GeneralizedTime = ⊥
+IsOfReading UtcTime = ⊥
+IsOfReading _ = ⊤
+
+-- the rule is one of these
+abbrev pub IsOf : RuleSet → Rule → Type 0
+IsOf All rule = ⊤
+IsOf OfReading rule = IsOfReading rule

@@ -1,16 +1,18 @@
 //! The identifier and the length of an element that is not one of DER.
 ghost use Rattle.std.specs.Prelude.{◌≡◌, IfSome, MatchOption, None, Some, true};
 ghost use Rattle.asn1_certificate_rules.specs.Headers.{BreaksHeader, HasLongIdentifier, IsIndefinite, IsLongLength, behind_identifier, behind_septets};
+ghost use Rattle.asn1_certificate_rules.specs.Rules.{IsOfReading};
 
-use crate::departures::Departure;
+use crate::broken_rules::BrokenRule;
 use crate::rule::Rule;
 
 /// The rule that the identifier or the length breaks with which bytes begin, if they break one.
-pub(crate) fn broken_header(bytes: &[u8]) -> Option<Departure>
-    ensures { IfSome result (λ d. BreaksHeader bytes.now d.rule d.position) }
+pub(crate) fn broken_header(bytes: &[u8]) -> Option<BrokenRule>
+    ensures broken { IfSome result (λ d. BreaksHeader bytes.now d.rule d.position) }
+    ensures of_reading { IfSome result (λ d. IsOfReading d.rule) }
 {
     if has_long_identifier(bytes) {
-        return Some(Departure {
+        return Some(BrokenRule {
             rule: Rule::LongIdentifier,
             position: 0,
         });
@@ -18,13 +20,13 @@ pub(crate) fn broken_header(bytes: &[u8]) -> Option<Departure>
     let rest = behind_identifier(bytes)?;
     let position = bytes.len().checked_sub(rest.len())?;
     if is_indefinite(rest) {
-        return Some(Departure {
+        return Some(BrokenRule {
             rule: Rule::IndefiniteLength,
             position,
         });
     }
     if is_long_length(rest) {
-        return Some(Departure {
+        return Some(BrokenRule {
             rule: Rule::LongLength,
             position,
         });

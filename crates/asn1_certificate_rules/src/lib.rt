@@ -2,21 +2,22 @@
 //!
 //! | Item | What it is |
 //! |---|---|
-//! | [`first_departure`], [`Departure`] | the first place at which octets depart from DER, and the rule that they break there |
-//! | [`Rule`] | a rule of X.690 |
+//! | [`first_broken_rule`], [`BrokenRule`] | the first rule of DER that octets break, and the position at which they break it |
+//! | [`Rule`], [`RuleSet`] | a rule of X.690, and the rules that are looked at |
 //! | [`Part`], [`ExtensionKind`] | what the notation of a certificate has at a place |
 //!
 //! The walk goes through the elements in the order of their bytes, into those that hold others, and into the octets of the values of
 //! extensions. Of an element it looks at the identifier and the length, at the contents octets of the types of the universal class,
 //! and at the components that have a DEFAULT.
 //!
-//! The contracts promise that a departure is one: the octets break this rule at this position (`Departs` of
-//! `specs/Departures.antt`, over `specs/Headers.antt` and `specs/Rules.antt`). No contract says that a departure is found. A caller
-//! who wants the very octets of DER writes the value again and compares.
+//! The contracts promise that the octets break the rule that is answered, at its position (`broken` of [`first_broken_rule`], by
+//! `Departs` of `specs/Departures.antt`, over `specs/Headers.antt` and `specs/Rules.antt`), and that the rule is one of those that were
+//! asked for (`asked`). No contract says that a rule which octets break is found. A caller who wants the very octets of DER writes the
+//! value again and compares.
 #![tactic(auto)]
 
+mod broken_rules;
 mod contents;
-mod departures;
 mod headers;
 mod notation;
 mod objects;
@@ -26,6 +27,6 @@ mod sets;
 mod strings;
 mod times;
 
-pub use departures::{Departure, first_departure};
+pub use broken_rules::{BrokenRule, first_broken_rule};
 pub use notation::{ExtensionKind, Part};
-pub use rule::Rule;
+pub use rule::{Rule, RuleSet};

@@ -44,3 +44,12 @@ pub enum Rule {
     #[error("a UTCTime is not in the form of DER (X.690, 11.8)")]
     UtcTime,
 }
+
+/// Which rules are looked at.
+#[derive(Clone, Copy, Debug, Drop, PartialEq, Eq)]
+pub enum RuleSet {
+    /// All of them.
+    All,
+    /// Those that bytes have to keep so that a value is read: all but those on the forms of times.
+    OfReading,
+}

@@ -1,13 +1,13 @@
 //! The rule that an element breaks.
 ghost use Rattle.std.specs.Prelude.{◌≡◌, IfSome, ℕ, false, true};
-ghost use Rattle.asn1_certificate_rules.specs.Rules.{BreaksRule, IsDefault, IsFalse};
+ghost use Rattle.asn1_certificate_rules.specs.Rules.{BreaksRule, IsDefault, IsFalse, IsOf, IsOfReading};
 ghost use Rattle.asn1_der_items.specs.Elements.{element_of};
 
+use crate::broken_rules::BrokenRule;
 use crate::contents::{ends_with_zero, has_unused_bit, is_other_true, is_padded};
-use crate::departures::Departure;
 use crate::notation::Part;
 use crate::objects::padded_arc;
-use crate::rule::Rule;
+use crate::rule::{Rule, RuleSet};
 use crate::sets::out_of_order;
 use crate::strings::is_string;
 use crate::times::{is_generalized_time, is_utc_time};
@@ -15,12 +15,18 @@ use asn1_der_items::Element;
 use asn1_tags::Tag;
 
 /// The rule that an element breaks by itself, at a position in its octets, of which this many are before its contents octets.
-pub(crate) fn broken_rule(part: Part, header: usize, element: Element<'_>) -> Option<Departure>
-    ensures { IfSome result (λ d.
+pub(crate) fn broken_rule(
+    rules: RuleSet,
+    part: Part,
+    header: usize,
+    element: Element<'_>,
+) -> Option<BrokenRule>
+    ensures broken { IfSome result (λ d.
         BreaksRule part header (element_of element.entry) d.rule d.position) }
+    ensures asked { IfSome result (λ d. IsOf rules d.rule) }
 {
     if is_default(part, element) {
-        return Some(Departure {
+        return Some(BrokenRule {
             rule: Rule::Default,
             position: 0,
         });
@@ -28,7 +34,7 @@ pub(crate) fn broken_rule(part: Part, header: usize, element: Element<'_>) -> Op
     if element.constructed {
         return broken_by_constructed(part, header, element);
     }
-    broken_by_primitive(part, header, element)
+    broken_by_primitive(rules, part, header, element)
 }
 
 /// Whether a component has its DEFAULT value.
@@ -55,20 +61,21 @@ fn is_false(element: Element<'_>) -> bool
 }
 
 /// The rule that a constructed element breaks.
-fn broken_by_constructed(part: Part, header: usize, element: Element<'_>) -> Option<Departure>
+fn broken_by_constructed(part: Part, header: usize, element: Element<'_>) -> Option<BrokenRule>
     requires { element.constructed ≡ true }
-    ensures { IfSome result (λ d.
+    ensures broken { IfSome result (λ d.
         BreaksRule part header (element_of element.entry) d.rule d.position) }
+    ensures of_reading { IfSome result (λ d. IsOfReading d.rule) }
 {
     if is_string(element.tag) {
-        return Some(Departure {
+        return Some(BrokenRule {
             rule: Rule::ConstructedString,
             position: 0,
         });
     }
     if element.tag == Tag::SET {
         let index = out_of_order(element.contents)?;
-        return Some(Departure {
+        return Some(BrokenRule {
             rule: Rule::SetOrder,
             position: header.checked_add(index)?,
         });
@@ -77,44 +84,51 @@ fn broken_by_constructed(part: Part, header: usize, element: Element<'_>) -> Opt
 }
 
 /// The rule that a primitive element breaks.
-fn broken_by_primitive(part: Part, header: usize, element: Element<'_>) -> Option<Departure>
+fn broken_by_primitive(
+    rules: RuleSet,
+    part: Part,
+    header: usize,
+    element: Element<'_>,
+) -> Option<BrokenRule>
     requires { element.constructed ≡ false }
-    ensures { IfSome result (λ d.
+    ensures broken { IfSome result (λ d.
         BreaksRule part header (element_of element.entry) d.rule d.position) }
+    ensures asked { IfSome result (λ d. IsOf rules d.rule) }
 {
     if element.tag == Tag::BIT_STRING {
         return broken_by_bits(part, header, element);
     }
     if element.tag == Tag::OBJECT_IDENTIFIER {
         let index = padded_arc(element.contents)?;
-        return Some(Departure {
+        return Some(BrokenRule {
             rule: Rule::PaddedArc,
             position: header.checked_add(index)?,
         });
     }
-    let rule = broken_by_contents(element)?;
-    Some(Departure {
+    let rule = broken_by_contents(rules, element)?;
+    Some(BrokenRule {
         rule,
         position: header,
     })
 }
 
 /// The rule that a BIT STRING breaks.
-fn broken_by_bits(part: Part, header: usize, element: Element<'_>) -> Option<Departure>
+fn broken_by_bits(part: Part, header: usize, element: Element<'_>) -> Option<BrokenRule>
     requires primitive { element.constructed ≡ false }
     requires bits { element.tag ≡ Tag.BIT_STRING }
-    ensures { IfSome result (λ d.
+    ensures broken { IfSome result (λ d.
         BreaksRule part header (element_of element.entry) d.rule d.position) }
+    ensures of_reading { IfSome result (λ d. IsOfReading d.rule) }
 {
     let position = header.checked_add(element.contents.len().saturating_sub(1))?;
     if has_unused_bit(element.contents) {
-        return Some(Departure {
+        return Some(BrokenRule {
             rule: Rule::UnusedBit,
             position,
         });
     }
     if part == Part::KeyUsage && ends_with_zero(element.contents) {
-        return Some(Departure {
+        return Some(BrokenRule {
             rule: Rule::TrailingZero,
             position,
         });
@@ -123,10 +137,11 @@ fn broken_by_bits(part: Part, header: usize, element: Element<'_>) -> Option<Dep
 }
 
 /// The rule that the contents octets of another primitive element break, at the first of them.
-fn broken_by_contents(element: Element<'_>) -> Option<Rule>
+fn broken_by_contents(rules: RuleSet, element: Element<'_>) -> Option<Rule>
     requires { element.constructed ≡ false }
-    ensures { (part : Part) (header : ℕ) → IfSome result (λ rule.
+    ensures broken { (part : Part) (header : ℕ) → IfSome result (λ rule.
         BreaksRule part header (element_of element.entry) rule header) }
+    ensures asked { IfSome result (λ rule. IsOf rules rule) }
 {
     if element.tag == Tag::BOOL && is_other_true(element.contents) {
         return Some(Rule::OtherTrue);
@@ -137,6 +152,18 @@ fn broken_by_contents(element: Element<'_>) -> Option<Rule>
     if element.tag == Tag::ENUMERATED && is_padded(element.contents) {
         return Some(Rule::PaddedInteger);
     }
+    match rules {
+        RuleSet::All => broken_by_time(element),
+        RuleSet::OfReading => None,
+    }
+}
+
+/// The rule that the contents octets of a time break, at the first of them.
+fn broken_by_time(element: Element<'_>) -> Option<Rule>
+    requires { element.constructed ≡ false }
+    ensures { (part : Part) (header : ℕ) → IfSome result (λ rule.
+        BreaksRule part header (element_of element.entry) rule header) }
+{
     if element.tag == Tag::UTC_TIME && !is_utc_time(element.contents) {
         return Some(Rule::UtcTime);
     }
