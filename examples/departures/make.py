@@ -5,13 +5,16 @@
 
 Each is one of ours with one change, whose lengths are then written anew; the signature is left as it is, and so is no longer valid.
 It writes answers.txt too: for each file what the program has to tell, with the position that the change has. bench/departures.py
-compares what it tells with that.
+compares what it tells with that. And it writes the lines of the stored run of crates/test_certificates that are about files: the
+octets of each, and the status and the messages with no option, with --strict and with --der. They follow the lines that were
+written by hand.
 """
 import base64
 import pathlib
 
 HERE = pathlib.Path(__file__).resolve().parent
 CERTIFICATES = HERE.parent / "certificates"
+ROWS = HERE.parent.parent / "crates" / "test_certificates"
 BASIC_CONSTRAINTS, KEY_USAGE = bytes([0x55, 0x1D, 19]), bytes([0x55, 0x1D, 15])
 
 
@@ -263,59 +266,91 @@ def pem(octets):
     return "\n".join(["-----BEGIN CERTIFICATE-----", *lines, "-----END CERTIFICATE-----", ""])
 
 
-# The certificates, each with whether the program reads it.
+# The certificates, each with whether the program reads it, and whether writing what was read makes the same octets, as it does where
+# they depart from DER in a time or inside the value of an extension.
 MADE = {
-    "long-length-outside": (long_length_outside, False),
-    "long-length-inside": (long_length_inside, False),
-    "indefinite-length": (indefinite_length, False),
-    "padded-integer": (padded_integer, False),
-    "padded-object": (padded_object, False),
-    "critical-false": (critical_false, True),
-    "other-true": (other_true, False),
-    "first-version-written": (first_version_written, True),
-    "authority-false": (authority_false, True),
-    "authority-other-true": (authority_other_true, True),
-    "usage-trailing-zero": (usage_trailing_zero, True),
-    "usage-unused-bit": (usage_unused_bit, True),
-    "usage-long-length": (usage_long_length, True),
-    "unsorted-set": (unsorted_set, False),
-    "octets-in-parts": (octets_in_parts, False),
-    "time-without-seconds": (time_without_seconds, True),
-    "midnight-as-24-hours": (midnight_as_24_hours, True),
-    "midnight-as-24-hours-by-century": (midnight_as_24_hours_by_century, True),
-    "long-length-behind-a-time": (long_length_behind_a_time, False),
+    "long-length-outside": (long_length_outside, False, False),
+    "long-length-inside": (long_length_inside, False, False),
+    "indefinite-length": (indefinite_length, False, False),
+    "padded-integer": (padded_integer, False, False),
+    "padded-object": (padded_object, False, False),
+    "critical-false": (critical_false, True, False),
+    "other-true": (other_true, False, False),
+    "first-version-written": (first_version_written, True, False),
+    "authority-false": (authority_false, True, True),
+    "authority-other-true": (authority_other_true, True, True),
+    "usage-trailing-zero": (usage_trailing_zero, True, True),
+    "usage-unused-bit": (usage_unused_bit, True, True),
+    "usage-long-length": (usage_long_length, True, True),
+    "unsorted-set": (unsorted_set, False, False),
+    "octets-in-parts": (octets_in_parts, False, False),
+    "time-without-seconds": (time_without_seconds, True, True),
+    "midnight-as-24-hours": (midnight_as_24_hours, True, True),
+    "midnight-as-24-hours-by-century": (midnight_as_24_hours_by_century, True, True),
+    "long-length-behind-a-time": (long_length_behind_a_time, False, False),
 }
 
 
 def main():
-    answers = []
-    for name, (make, is_read) in MADE.items():
+    answers, as_der = [], []
+
+    def add(line, is_written=True):
+        answers.append(line)
+        as_der.append(line if is_written else line.replace(" warning: ", " error: not written: "))
+
+    for name, (make, is_read, is_written) in MADE.items():
         made, rule, at = make()
         (HERE / f"{name}.der").write_bytes(made.octets())
         text = f"byte {at} of its DER: {rule}"
-        answers.append(f"{name}.der: warning: {text}" if is_read else f"{name}.der: error: no certificate: {text}")
+        add(f"{name}.der: warning: {text}" if is_read else f"{name}.der: error: no certificate: {text}", is_written)
     ours, departing = Certificate("leaf-ec").octets(), critical_false()[0].octets()
     at = critical_false()[2]
     several = "A chain of three, of which the second departs from DER.\n"
     several += pem(ours) + "\n" + pem(departing) + "\n" + pem(Certificate("root-rsa").octets())
     (HERE / "several.pem").write_text(several)
-    answers.append(f"several.pem: certificate 2: warning: byte {at} of its DER: {DEFAULT}")
+    add(f"several.pem: certificate 2: warning: byte {at} of its DER: {DEFAULT}", False)
     bad = pem(ours).replace("MII", "M%I", 1)
     broken = pem(ours) + bad + pem(Certificate("first-version").octets()) + "-----BEGIN CERTIFICATE-----\n"
     (HERE / "broken.pem").write_text(broken)
-    answers.append(f"broken.pem: certificate 2: error: no certificate: byte {broken.index('%')} is not base64")
+    add(f"broken.pem: certificate 2: error: no certificate: byte {broken.index('%')} is not base64")
     line = f"there is no line -----END CERTIFICATE----- after byte {len(broken) - 1}"
-    answers.append(f"broken.pem: certificate 4: error: no certificate: {line}")
+    add(f"broken.pem: certificate 4: error: no certificate: {line}")
     (HERE / "trailing-bytes.der").write_bytes(ours + bytes(2))
     (HERE / "certificate-and-text.der").write_bytes(ours + pem(ours).encode())
     for name in "trailing-bytes", "certificate-and-text":
-        answers.append(f"{name}.der: error: trailing bytes: the certificate ends before byte {len(ours)} of its DER")
+        add(f"{name}.der: error: trailing bytes: the certificate ends before byte {len(ours)} of its DER")
     (HERE / "cut-off.der").write_bytes(ours[:100])
-    answers.append("cut-off.der: error: no certificate: byte 0 of its DER begins no element (more input is needed)")
+    add("cut-off.der: error: no certificate: byte 0 of its DER begins no element (more input is needed)")
     (HERE / "neither.txt").write_text("This is no certificate.\n")
     neither = "no SEQUENCE begins it, and there is no line -----BEGIN CERTIFICATE-----"
-    answers.append(f"neither.txt: error: neither DER nor PEM: {neither}")
+    add(f"neither.txt: error: neither DER nor PEM: {neither}")
     (HERE / "answers.txt").write_text("\n".join(answers) + "\n")
+    write_rows(answers, as_der)
+
+
+# The line of the stored run behind which the lines about files are.
+FILES = "# Files, by examples/departures/make.py."
+
+# Certificates of ours that keep to DER.
+KEPT = ["leaf-ec.der", "leaf-ec.pem", "names-ed25519.der", "first-version.der", "root-rsa.der"]
+
+
+def write_rows(answers, as_der):
+    """Writes the lines about files in the stored run of test_certificates."""
+    strict = [line.replace(" warning: ", " error: ") for line in answers]
+    names = dict.fromkeys(line.split(":")[0] for line in answers)
+    given, wanted = [], []
+    for path in [HERE / name for name in names] + [CERTIFICATES / name for name in KEPT]:
+        source = f"examples/{path.parent.name}"
+        given.append(f"file {path.name} {path.read_bytes().hex()} ; {source}")
+        wanted.append(f"file {path.name} ; {source}")
+        for option, lines in ("no option", answers), ("--strict", strict), ("--der", as_der):
+            own = [line.split(": ", 1)[1] for line in lines if line.startswith(f"{path.name}: ")]
+            status = int(any(line.startswith("error: ") or ": error: " in line for line in own))
+            wanted.append("; ".join([f"    {option} -> status {status}", *own]))
+    for name, lines in ("stdin", given), ("stdout", wanted):
+        by_hand = (ROWS / name).read_text().split(FILES)[0]
+        (ROWS / name).write_text(by_hand + "\n".join([FILES, *lines]) + "\n")
 
 
 if __name__ == "__main__":

@@ -20,17 +20,7 @@
 #![tactic(auto)]
 
 mod arguments;
-#[cfg(test)]
-mod certificates;
-#[cfg(test)]
-mod departure_tests;
-#[cfg(test)]
-mod key_tests;
-#[cfg(test)]
-mod refusal_tests;
 mod sources;
-#[cfg(test)]
-mod text_tests;
 
 use std::env;
 use std::process::ExitCode;
