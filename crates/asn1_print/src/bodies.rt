@@ -10,7 +10,7 @@ use std::alloc::AllocError;
 
 /// Adds a file.
 pub(crate) fn push_file(
-    plan: &mut Plan<'_>,
+    plan: &mut Plan<'_, '_>,
     body: TypeBody,
     names: FileNames<'_>,
     owner: Owner<'_>,

@@ -11,7 +11,7 @@ use std::alloc::AllocError;
 
 /// A CHOICE of alternatives that were lowered.
 pub(crate) fn choice_with(
-    plan: &mut Plan<'_>,
+    plan: &mut Plan<'_, '_>,
     alternatives: &Alternatives<'_>,
     lowered: Vec<asn1_rust_components::Alternative>,
     place: Place,
@@ -35,7 +35,7 @@ pub(crate) fn choice_with(
 
 /// An alternative whose type has this name.
 pub(crate) fn alternative_with(
-    plan: &mut Plan<'_>,
+    plan: &mut Plan<'_, '_>,
     alternative: &Alternative<'_>,
     texts: PartTexts,
     tagging: Tagging,

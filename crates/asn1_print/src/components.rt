@@ -15,12 +15,12 @@ use std::alloc::{AllocError, Global};
 const MOST: usize = 144;
 
 /// The number of references that are followed from a type.
-pub(crate) fn steps_of(plan: &Plan<'_>) -> usize {
+pub(crate) fn steps_of(plan: &Plan<'_, '_>) -> usize {
     plan.request.schema.types.len().saturating_add(64)
 }
 
 // The indices of components, those with a lesser rank first.
-fn order_of(plan: &Plan<'_>, ranks: &[u64]) -> Result<Vec<usize>, AllocError> {
+fn order_of(plan: &Plan<'_, '_>, ranks: &[u64]) -> Result<Vec<usize>, AllocError> {
     let mut order: Vec<(u64, usize)> = Vec::new(plan.alloc);
     for (index, rank) in ranks.iter().enumerate() {
         order.push((*rank, index))?;
@@ -35,7 +35,7 @@ fn order_of(plan: &Plan<'_>, ranks: &[u64]) -> Result<Vec<usize>, AllocError> {
 
 /// A SEQUENCE or a SET of components that were lowered.
 pub(crate) fn constructed_with(
-    plan: &mut Plan<'_>,
+    plan: &mut Plan<'_, '_>,
     components: &Components<'_>,
     lowered: Vec<asn1_rust_components::Component>,
     tag: Option<TagNumber>,
@@ -66,7 +66,7 @@ pub(crate) fn constructed_with(
 }
 
 // The indices of the components of a SET, in the order of their tags.
-fn table_of(plan: &Plan<'_>, components: &Components<'_>) -> Result<Vec<usize>, AllocError> {
+fn table_of(plan: &Plan<'_, '_>, components: &Components<'_>) -> Result<Vec<usize>, AllocError> {
     let mut ranks = Vec::new(plan.alloc);
     for component in &components.root {
         let rank = least_rank(plan.alloc, plan.request.schema, &component.definition)?;
@@ -92,7 +92,7 @@ pub(crate) fn group_with(
 
 /// A component whose type has this name.
 pub(crate) fn component_with(
-    plan: &mut Plan<'_>,
+    plan: &mut Plan<'_, '_>,
     component: &Component<'_>,
     texts: PartTexts,
     tagging: Tagging,
@@ -118,7 +118,7 @@ pub(crate) fn component_with(
 
 // Whether a component may be absent in Rust.
 fn usage_of(
-    plan: &mut Plan<'_>,
+    plan: &mut Plan<'_, '_>,
     component: &Component<'_>,
     name: &TypeName,
     is_addition: bool,
@@ -141,7 +141,7 @@ fn usage_of(
 
 /// The component that is the group of a module.
 pub(crate) fn group_component(
-    plan: &Plan<'_>,
+    plan: &Plan<'_, '_>,
     module: &str,
     name: &str,
     summary: String,
@@ -166,7 +166,10 @@ pub(crate) fn group_component(
 }
 
 /// The definition of a group in ASN.1.
-pub(crate) fn group_text(plan: &Plan<'_>, group: &[Component<'_>]) -> Result<String, AllocError> {
+pub(crate) fn group_text(
+    plan: &Plan<'_, '_>,
+    group: &[Component<'_>],
+) -> Result<String, AllocError> {
     let mut text = plan.text("[[ ")?;
     for (index, component) in group.iter().enumerate() {
         if index != 0 {
@@ -180,7 +183,7 @@ pub(crate) fn group_text(plan: &Plan<'_>, group: &[Component<'_>]) -> Result<Str
 }
 
 // The constant with the trees of the type of a module.
-fn constant_name(plan: &Plan<'_>, module: &str) -> Result<String, AllocError> {
+fn constant_name(plan: &Plan<'_, '_>, module: &str) -> Result<String, AllocError> {
     let mut constant = String::new(plan.alloc);
     for octet in module.as_bytes() {
         constant.push(char::from(octet.to_ascii_uppercase()))?;
@@ -190,7 +193,7 @@ fn constant_name(plan: &Plan<'_>, module: &str) -> Result<String, AllocError> {
 
 /// The trees of tags of a type, of which code has this name.
 pub(crate) fn tree_of(
-    plan: &mut Plan<'_>,
+    plan: &mut Plan<'_, '_>,
     definition: &Type<'_>,
     name: &TypeName,
     place: Place,
@@ -229,7 +232,7 @@ pub(crate) fn tree_of(
 }
 
 // The trees of the CHOICE of a module.
-fn choice_tree(plan: &Plan<'_>, module: &str) -> Result<Tree, AllocError> {
+fn choice_tree(plan: &Plan<'_, '_>, module: &str) -> Result<Tree, AllocError> {
     Ok(Tree::Choice(Import {
         is_foreign: false,
         path: format!(in plan.alloc; "crate::{module}")?,

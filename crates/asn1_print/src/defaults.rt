@@ -11,7 +11,7 @@ use std::alloc::AllocError;
 
 /// The usage of a component with a DEFAULT. Where the value cannot be carried the component is an option.
 pub(crate) fn default_of(
-    plan: &mut Plan<'_>,
+    plan: &mut Plan<'_, '_>,
     value: &Value<'_>,
     definition: &Type<'_>,
     name: &TypeName,
@@ -33,7 +33,7 @@ pub(crate) fn default_of(
 
 // The usage with a default, if its value can be carried.
 fn carried_default(
-    plan: &Plan<'_>,
+    plan: &Plan<'_, '_>,
     value: &Value<'_>,
     definition: &Type<'_>,
     name: &TypeName,
@@ -57,7 +57,7 @@ fn carried_default(
 
 // A default that needs no names but a sign.
 fn plain_default(
-    _plan: &Plan<'_>,
+    _plan: &Plan<'_, '_>,
     code: String,
     term: String,
     sign: Option<&'static str>,
@@ -106,7 +106,7 @@ fn range_below_tags(definition: &Type<'_>) -> Range {
 }
 
 // The range of the INTEGER that a type is.
-fn base_range(plan: &Plan<'_>, definition: &Type<'_>) -> Range {
+fn base_range(plan: &Plan<'_, '_>, definition: &Type<'_>) -> Range {
     let schema = plan.request.schema;
     match last_index(schema, definition, steps_of(plan)) {
         Some(index) => match schema.types.get(index) {
@@ -120,7 +120,7 @@ fn base_range(plan: &Plan<'_>, definition: &Type<'_>) -> Range {
 // The variant of an item of an ENUMERATED below its tags.
 #[cycle(variants)]
 fn variant_below_tags(
-    plan: &Plan<'_>,
+    plan: &Plan<'_, '_>,
     definition: &Type<'_>,
     item: &[u8],
 ) -> Result<Option<String>, AllocError> {
@@ -133,7 +133,7 @@ fn variant_below_tags(
 
 // The variant of an item of the ENUMERATED that a type is.
 fn base_variant(
-    plan: &Plan<'_>,
+    plan: &Plan<'_, '_>,
     definition: &Type<'_>,
     item: &[u8],
 ) -> Result<Option<String>, AllocError> {
@@ -149,7 +149,7 @@ fn base_variant(
 
 // A default that is a number.
 fn integer_default(
-    plan: &Plan<'_>,
+    plan: &Plan<'_, '_>,
     number: i128,
     definition: &Type<'_>,
 ) -> Result<Option<Usage>, AllocError> {
@@ -178,7 +178,7 @@ fn integer_default(
 
 // A default that is an item of an ENUMERATED.
 fn item_default(
-    plan: &Plan<'_>,
+    plan: &Plan<'_, '_>,
     item: &[u8],
     definition: &Type<'_>,
     name: &TypeName,
@@ -206,7 +206,7 @@ fn item_default(
 }
 
 // A default that is an empty list.
-fn empty_list(plan: &Plan<'_>, name: &TypeName) -> Result<Option<Usage>, AllocError> {
+fn empty_list(plan: &Plan<'_, '_>, name: &TypeName) -> Result<Option<Usage>, AllocError> {
     let inner = name
         .text
         .as_str()

@@ -10,7 +10,7 @@ use std::alloc::AllocError;
 
 /// An ENUMERATED.
 pub(crate) fn enumeration_of(
-    plan: &mut Plan<'_>,
+    plan: &mut Plan<'_, '_>,
     enumeration: &Enumeration<'_>,
     place: Place,
 ) -> Result<asn1_rust_components::Enumeration, AllocError> {
@@ -41,7 +41,7 @@ pub(crate) fn enumeration_of(
 
 // An item.
 fn item_of(
-    plan: &Plan<'_>,
+    plan: &Plan<'_, '_>,
     item: &EnumerationItem<'_>,
     variants: &mut TakenNames,
 ) -> Result<Item, AllocError> {
@@ -55,7 +55,7 @@ fn item_of(
 
 /// The variant of the item of a name.
 pub(crate) fn variant_of(
-    plan: &Plan<'_>,
+    plan: &Plan<'_, '_>,
     enumeration: &Enumeration<'_>,
     name: &[u8],
 ) -> Result<Option<String>, AllocError> {

@@ -78,7 +78,7 @@ pub(crate) fn has_limits(range: Range) -> Option<(i128, i128)> {
     }
 }
 
-impl Plan<'_> {
+impl Plan<'_, '_> {
     /// The type of an INTEGER of a range.
     pub(crate) fn integer_type(&self, range: Range) -> Result<TypeName, AllocError> {
         if let Some(name) = built_in(range) {

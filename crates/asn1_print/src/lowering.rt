@@ -32,7 +32,7 @@ pub(crate) struct FileNames<'a> {
 /// The name of a type.
 #[cycle(lowering)]
 pub(crate) fn type_name(
-    plan: &mut Plan<'_>,
+    plan: &mut Plan<'_, '_>,
     definition: &Type<'_>,
     owner: Owner<'_>,
 ) -> Result<TypeName, AllocError> {
@@ -61,7 +61,7 @@ pub(crate) fn type_name(
 // The name of the type of elements.
 #[cycle(lowering)]
 fn element_name(
-    plan: &mut Plan<'_>,
+    plan: &mut Plan<'_, '_>,
     element: &Type<'_>,
     owner: Owner<'_>,
 ) -> Result<TypeName, AllocError> {
@@ -77,7 +77,7 @@ fn element_name(
 // The name of a type without a name, for which a file is made.
 #[cycle(lowering)]
 fn new_type(
-    plan: &mut Plan<'_>,
+    plan: &mut Plan<'_, '_>,
     definition: &Type<'_>,
     owner: Owner<'_>,
 ) -> Result<TypeName, AllocError> {
@@ -95,7 +95,7 @@ fn new_type(
 /// Adds the file of a SEQUENCE, a SET, a CHOICE or an ENUMERATED.
 #[cycle(lowering)]
 pub(crate) fn add_file(
-    plan: &mut Plan<'_>,
+    plan: &mut Plan<'_, '_>,
     definition: &Type<'_>,
     names: FileNames<'_>,
     owner: Owner<'_>,
@@ -124,7 +124,7 @@ pub(crate) fn add_file(
 // The components of a SEQUENCE or a SET.
 #[cycle(lowering)]
 fn constructed_of(
-    plan: &mut Plan<'_>,
+    plan: &mut Plan<'_, '_>,
     components: &Components<'_>,
     names: FileNames<'_>,
     is_set: bool,
@@ -143,7 +143,7 @@ fn constructed_of(
 // An addition to the type of this name.
 #[cycle(lowering)]
 fn addition_of(
-    plan: &mut Plan<'_>,
+    plan: &mut Plan<'_, '_>,
     addition: &Addition<'_>,
     owner_name: &str,
     fields: &mut TakenNames,
@@ -166,7 +166,7 @@ fn addition_of(
 // A component of the type of this name.
 #[cycle(lowering)]
 fn component_of(
-    plan: &mut Plan<'_>,
+    plan: &mut Plan<'_, '_>,
     component: &Component<'_>,
     owner_name: &str,
     fields: &mut TakenNames,
@@ -190,7 +190,7 @@ fn component_of(
 // The tagging of a part, and the name of its type.
 #[cycle(lowering)]
 fn part_of(
-    plan: &mut Plan<'_>,
+    plan: &mut Plan<'_, '_>,
     definition: &Type<'_>,
     texts: &PartTexts,
 ) -> Result<(Tagging, TypeName), AllocError> {
@@ -215,7 +215,7 @@ fn part_of(
 // A group of additions to the type of this name, for which a file is made.
 #[cycle(lowering)]
 fn group_of(
-    plan: &mut Plan<'_>,
+    plan: &mut Plan<'_, '_>,
     group: &[Component<'_>],
     owner_name: &str,
     fields: &mut TakenNames,
@@ -258,7 +258,7 @@ fn group_of(
 // A CHOICE.
 #[cycle(lowering)]
 fn choice_of(
-    plan: &mut Plan<'_>,
+    plan: &mut Plan<'_, '_>,
     alternatives: &Alternatives<'_>,
     names: FileNames<'_>,
     place: Place,
@@ -277,7 +277,7 @@ fn choice_of(
 // An alternative of the type of this name.
 #[cycle(lowering)]
 fn alternative_of(
-    plan: &mut Plan<'_>,
+    plan: &mut Plan<'_, '_>,
     alternative: &Alternative<'_>,
     owner_name: &str,
     variants: &mut TakenNames,

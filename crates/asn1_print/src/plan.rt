@@ -109,9 +109,9 @@ pub(crate) struct PlannedType {
 
 /// The files of a crate, as far as they were made.
 #[derive(Drop)]
-pub(crate) struct Plan<'a> {
+pub(crate) struct Plan<'r, 'a> {
     pub(crate) alloc: Global,
-    pub(crate) request: Request<'a>,
+    pub(crate) request: Request<'r, 'a>,
     pub(crate) types: Vec<PlannedType>,
     taken_names: TakenNames,
     taken_modules: TakenNames,
@@ -145,7 +145,10 @@ fn is_constructed(kind: &TypeKind<'_>) -> bool {
 }
 
 /// The plan of a schema, with the names of its types.
-pub(crate) fn plan_of(alloc: Global, request: Request<'_>) -> Result<Plan<'_>, AllocError> {
+pub(crate) fn plan_of<'r, 'a>(
+    alloc: Global,
+    request: Request<'r, 'a>,
+) -> Result<Plan<'r, 'a>, AllocError> {
     let mut plan = Plan {
         alloc,
         request,
@@ -169,7 +172,7 @@ pub(crate) fn plan_of(alloc: Global, request: Request<'_>) -> Result<Plan<'_>, A
     Ok(plan)
 }
 
-impl<'a> Plan<'a> {
+impl Plan<'_, '_> {
     // The names of a definition.
     fn planned(&mut self, name: &[u8], has_file: bool) -> Result<PlannedType, AllocError> {
         let external = self

@@ -17,7 +17,7 @@ use std::alloc::{AllocError, Global};
 /// The files of a crate with the types of a schema, and what cannot be printed of it.
 ///
 /// The error of this call is that of memory. If a problem is an error, the files are incomplete.
-pub fn print_crate(alloc: Global, request: Request<'_>) -> Result<Printed, AllocError> {
+pub fn print_crate(alloc: Global, request: Request<'_, '_>) -> Result<Printed, AllocError> {
     let mut plan = plan_of(alloc, request)?;
     report_cycles(&mut plan)?;
     for (index, definition) in request.schema.types.iter().enumerate() {
@@ -41,7 +41,7 @@ pub fn print_crate(alloc: Global, request: Request<'_>) -> Result<Printed, Alloc
 
 // Adds a definition, unless its type exists already.
 fn add_definition(
-    plan: &mut Plan<'_>,
+    plan: &mut Plan<'_, '_>,
     index: usize,
     definition: &TypeDefinition<'_>,
 ) -> Result<(), AllocError> {
@@ -91,7 +91,7 @@ fn add_definition(
 
 // Adds a name for a type.
 fn add_alias(
-    plan: &mut Plan<'_>,
+    plan: &mut Plan<'_, '_>,
     definition: &Type<'_>,
     name: String,
     owner: Owner<'_>,
@@ -121,7 +121,7 @@ fn named_numbers<'t, 'a>(definition: &'t Type<'a>) -> (&'static str, &'t [NamedN
 
 // Adds a file that is no type, with the names that the crate passes on.
 fn add_other(
-    plan: &mut Plan<'_>,
+    plan: &mut Plan<'_, '_>,
     module: &str,
     text: String,
     is_public: bool,
@@ -133,7 +133,7 @@ fn add_other(
 }
 
 // Names in the order of `rt fmt`.
-fn in_order(plan: &Plan<'_>, names: Vec<String>) -> Result<Vec<String>, AllocError> {
+fn in_order(plan: &Plan<'_, '_>, names: Vec<String>) -> Result<Vec<String>, AllocError> {
     let mut ordered: Vec<(String, String)> = Vec::new(plan.alloc);
     for name in names {
         ordered.push((order_of(plan.alloc, name.as_str())?, name))?;
@@ -147,14 +147,14 @@ fn in_order(plan: &Plan<'_>, names: Vec<String>) -> Result<Vec<String>, AllocErr
 }
 
 // A page of one line.
-fn page(plan: &Plan<'_>, line: &str) -> Result<Vec<String>, AllocError> {
+fn page(plan: &Plan<'_, '_>, line: &str) -> Result<Vec<String>, AllocError> {
     let mut lines = Vec::new(plan.alloc);
     lines.push(plan.text(line)?)?;
     Ok(lines)
 }
 
 // Adds the file with the names of types.
-fn add_aliases(plan: &mut Plan<'_>) -> Result<(), AllocError> {
+fn add_aliases(plan: &mut Plan<'_, '_>) -> Result<(), AllocError> {
     if plan.aliases.is_empty() {
         return Ok(());
     }
@@ -172,7 +172,7 @@ fn add_aliases(plan: &mut Plan<'_>) -> Result<(), AllocError> {
 }
 
 // Adds the file with the types that name tags.
-fn add_markers(plan: &mut Plan<'_>) -> Result<(), AllocError> {
+fn add_markers(plan: &mut Plan<'_, '_>) -> Result<(), AllocError> {
     if plan.markers.is_empty() {
         return Ok(());
     }
@@ -183,7 +183,7 @@ fn add_markers(plan: &mut Plan<'_>) -> Result<(), AllocError> {
 }
 
 // Adds the file with constants.
-fn add_constants(plan: &mut Plan<'_>) -> Result<(), AllocError> {
+fn add_constants(plan: &mut Plan<'_, '_>) -> Result<(), AllocError> {
     if plan.constants.is_empty() {
         return Ok(());
     }
@@ -194,7 +194,7 @@ fn add_constants(plan: &mut Plan<'_>) -> Result<(), AllocError> {
 }
 
 // Adds the root file.
-fn add_root(plan: &mut Plan<'_>) -> Result<(), AllocError> {
+fn add_root(plan: &mut Plan<'_, '_>) -> Result<(), AllocError> {
     let alloc = plan.alloc;
     plan.modules.sort()?;
     let mut lines = Vec::new(alloc);

@@ -5,7 +5,7 @@ use asn1_resolved::{Addition, Alternative, Component, Type, TypeKind};
 use std::alloc::AllocError;
 
 /// Reports each type that holds itself, by a reference to a type that does not exist already.
-pub(crate) fn report_cycles(plan: &mut Plan<'_>) -> Result<(), AllocError> {
+pub(crate) fn report_cycles(plan: &mut Plan<'_, '_>) -> Result<(), AllocError> {
     let count = plan.request.schema.types.len();
     for index in 0..count {
         if !is_external(plan, index) && holds_itself(plan, index)? {
@@ -16,7 +16,7 @@ pub(crate) fn report_cycles(plan: &mut Plan<'_>) -> Result<(), AllocError> {
 }
 
 // Whether the type with an index exists already.
-fn is_external(plan: &Plan<'_>, index: usize) -> bool {
+fn is_external(plan: &Plan<'_, '_>, index: usize) -> bool {
     match plan.types.get(index) {
         Some(planned) => planned.external.is_some(),
         None => true,
@@ -24,7 +24,7 @@ fn is_external(plan: &Plan<'_>, index: usize) -> bool {
 }
 
 // Reports that the type with an index holds itself.
-fn report_cycle(plan: &mut Plan<'_>, index: usize) -> Result<(), AllocError> {
+fn report_cycle(plan: &mut Plan<'_, '_>, index: usize) -> Result<(), AllocError> {
     let schema = plan.request.schema;
     if let Some(definition) = schema.types.get(index) {
         let name = text_of(plan.alloc, definition.name)?;
@@ -38,7 +38,7 @@ fn report_cycle(plan: &mut Plan<'_>, index: usize) -> Result<(), AllocError> {
 }
 
 // Whether the type with an index holds itself: it is reached by the references of those that it refers to.
-fn holds_itself(plan: &Plan<'_>, index: usize) -> Result<bool, AllocError> {
+fn holds_itself(plan: &Plan<'_, '_>, index: usize) -> Result<bool, AllocError> {
     let count = plan.request.schema.types.len();
     let mut reached: Vec<bool> = Vec::new(plan.alloc);
     for _ in 0..count {

@@ -4,15 +4,15 @@ use asn1_resolved::{Problem, Schema};
 
 /// A schema to print as a crate.
 #[derive(Clone, Copy)]
-pub struct Request<'a> {
+pub struct Request<'r, 'a> {
     /// The name of the crate.
-    pub crate_name: &'a str,
+    pub crate_name: &'r str,
     /// The texts, with their trees.
-    pub sources: &'a [Source<'a>],
+    pub sources: &'r [Source<'a>],
     /// The schema of the texts.
-    pub schema: &'a Schema<'a>,
+    pub schema: &'r Schema<'a>,
     /// Types that exist already.
-    pub externs: &'a [Extern<'a>],
+    pub externs: &'r [Extern<'r>],
 }
 
 /// A type that exists already.

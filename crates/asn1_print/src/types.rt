@@ -36,7 +36,7 @@ pub(crate) struct PartTexts {
 
 /// The texts for a part of the type of this name.
 pub(crate) fn part_texts(
-    plan: &Plan<'_>,
+    plan: &Plan<'_, '_>,
     owner_name: &str,
     part: &str,
     notation: &str,
@@ -54,7 +54,7 @@ pub(crate) fn part_texts(
 
 /// The name of a type that needs no file.
 pub(crate) fn plain_name(
-    plan: &mut Plan<'_>,
+    plan: &mut Plan<'_, '_>,
     definition: &Type<'_>,
 ) -> Result<TypeName, AllocError> {
     match &definition.kind {
@@ -72,7 +72,7 @@ pub(crate) fn plain_name(
 
 /// A type with one argument.
 pub(crate) fn wrapped(
-    plan: &Plan<'_>,
+    plan: &Plan<'_, '_>,
     former: &str,
     argument: TypeName,
 ) -> Result<TypeName, AllocError> {
@@ -86,7 +86,7 @@ pub(crate) fn wrapped(
 
 /// A type under a tag.
 pub(crate) fn under_tag(
-    plan: &mut Plan<'_>,
+    plan: &mut Plan<'_, '_>,
     tag: Tag,
     inner: TypeName,
 ) -> Result<TypeName, AllocError> {
@@ -111,7 +111,7 @@ pub(crate) fn under_tag(
 }
 
 /// A SET OF elements of a type.
-pub(crate) fn set_of(plan: &Plan<'_>, element: TypeName) -> Result<TypeName, AllocError> {
+pub(crate) fn set_of(plan: &Plan<'_, '_>, element: TypeName) -> Result<TypeName, AllocError> {
     let mut name = wrapped(plan, "SetOf", element)?;
     let set_of = plan.library_type("SetOf")?;
     for import in &set_of.imports {
@@ -139,7 +139,7 @@ pub(crate) fn tag_number(tag: Tag) -> TagNumber {
 
 // The type of a string.
 fn string_type(
-    plan: &mut Plan<'_>,
+    plan: &mut Plan<'_, '_>,
     kind: StringKind,
     place: Place,
 ) -> Result<TypeName, AllocError> {
@@ -167,7 +167,7 @@ fn string_type(
 
 /// Warns of each constraint that the type in Rust does not have.
 pub(crate) fn warn_of_constraints(
-    plan: &mut Plan<'_>,
+    plan: &mut Plan<'_, '_>,
     definition: &Type<'_>,
 ) -> Result<(), AllocError> {
     let is_carried = has_range(definition);
@@ -189,7 +189,7 @@ fn has_range(definition: &Type<'_>) -> bool {
 }
 
 fn warn_of_constraint(
-    plan: &mut Plan<'_>,
+    plan: &mut Plan<'_, '_>,
     constraint: &Constraint,
     is_carried: bool,
 ) -> Result<(), AllocError> {

@@ -8,7 +8,7 @@ use asn1_rust_names::{TakenNames, upper_case};
 use std::alloc::AllocError;
 
 /// The text of a definition in the trees.
-pub(crate) fn origin_text(plan: &Plan<'_>, origin: Origin) -> Result<String, AllocError> {
+pub(crate) fn origin_text(plan: &Plan<'_, '_>, origin: Origin) -> Result<String, AllocError> {
     match plan.request.sources.get(origin.source) {
         Some(source) => match assignment_at(source.modules, origin) {
             Some(assignment) => assignment_text(plan.alloc, source.text, assignment),
@@ -28,7 +28,7 @@ fn assignment_at(modules: &[asn1_notation::Module], origin: Origin) -> Option<&A
 
 /// Adds a constant for a value, or warns that there is none.
 pub(crate) fn add_value(
-    plan: &mut Plan<'_>,
+    plan: &mut Plan<'_, '_>,
     definition: &ValueDefinition<'_>,
     names: &mut TakenNames,
 ) -> Result<(), AllocError> {
@@ -55,7 +55,7 @@ pub(crate) fn add_value(
 }
 
 // The arcs of an object identifier, as code has them.
-fn arcs_code(plan: &Plan<'_>, arcs: &[u32]) -> Result<String, AllocError> {
+fn arcs_code(plan: &Plan<'_, '_>, arcs: &[u32]) -> Result<String, AllocError> {
     let mut code = plan.text("&[")?;
     for (index, arc) in arcs.iter().enumerate() {
         if index != 0 {
@@ -70,7 +70,7 @@ fn arcs_code(plan: &Plan<'_>, arcs: &[u32]) -> Result<String, AllocError> {
 
 /// The constants of this kind for the names of an INTEGER or a BIT STRING, which the type of this name has.
 pub(crate) fn numbers_of(
-    plan: &mut Plan<'_>,
+    plan: &mut Plan<'_, '_>,
     name: &str,
     kind: &'static str,
     numbers: &[NamedNumber<'_>],
