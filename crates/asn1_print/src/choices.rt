@@ -1,5 +1,6 @@
 //! The alternatives of CHOICE types.
 use crate::components::tree_of;
+use crate::notation::part_line;
 use crate::plan::Plan;
 use crate::types::PartTexts;
 use asn1_names::Place;
@@ -50,7 +51,8 @@ pub(crate) fn alternative_with(
         alternative.place,
     )?;
     let camel = camel_case(alloc, alternative.name)?;
-    let shown = texts.notation.as_str();
+    let shown = part_line(alloc, texts.notation.as_str())?;
+    let shown = shown.as_str();
     let notation = format!(in alloc; "`{shown}`")?;
     Ok(asn1_rust_components::Alternative {
         name: plan.text(texts.name.as_str())?,

@@ -1,6 +1,6 @@
 //! The components of SEQUENCE and SET types.
 use crate::defaults::default_of;
-use crate::notation::component_text;
+use crate::notation::{component_text, part_line};
 use crate::plan::Plan;
 use crate::tags::{Beginning, first_tags, least_rank, universal};
 use crate::types::PartTexts;
@@ -103,7 +103,8 @@ pub(crate) fn component_with(
     let alloc = plan.alloc;
     let snake = snake_case(alloc, component.name)?;
     let usage = usage_of(plan, component, &definition, is_addition)?;
-    let shown = texts.notation.as_str();
+    let shown = part_line(alloc, texts.notation.as_str())?;
+    let shown = shown.as_str();
     let notation = format!(in alloc; "`{shown}`")?;
     Ok(asn1_rust_components::Component {
         name: plan.text(texts.name.as_str())?,

@@ -74,13 +74,16 @@ fn element_name(
     type_name(plan, element, own)
 }
 
-// The name of a type without a name, for which a file is made.
+// The name of a type without a name, for which a file is made, unless it was made before.
 #[cycle(lowering)]
 fn new_type(
     plan: &mut Plan<'_, '_>,
     definition: &Type<'_>,
     owner: Owner<'_>,
 ) -> Result<TypeName, AllocError> {
+    if let Some(name) = plan.unnamed_type(definition.place)? {
+        return Ok(name);
+    }
     let name = plan.new_name(owner.name)?;
     let module = plan.new_module(name.as_str())?;
     let names = FileNames {
@@ -89,7 +92,7 @@ fn new_type(
         tag: None,
     };
     add_file(plan, definition, names, owner)?;
-    plan.local_type(module.as_str(), name.as_str())
+    plan.keep_unnamed_type(definition.place, name, module)
 }
 
 /// Adds the file of a SEQUENCE, a SET, a CHOICE or an ENUMERATED.

@@ -216,7 +216,7 @@ fn push_parts(alloc: Global, lines: &mut Vec<String>, definition: &str) -> Resul
             depth = depth.saturating_add(1);
         }
         if character == '}' && depth == 1 {
-            lines.push(replace(alloc, &mut line)?)?;
+            lines.push(take_line(alloc, &mut line)?)?;
         }
         if character == '}' {
             depth = depth.saturating_sub(1);
@@ -225,7 +225,7 @@ fn push_parts(alloc: Global, lines: &mut Vec<String>, definition: &str) -> Resul
             line.push(character)?;
         }
         if depth == 1 && (character == '{' || character == ',') && !is_blank(line.as_str()) {
-            lines.push(replace(alloc, &mut line)?)?;
+            lines.push(take_line(alloc, &mut line)?)?;
             line.push_str("    ")?;
         }
     }
@@ -233,14 +233,38 @@ fn push_parts(alloc: Global, lines: &mut Vec<String>, definition: &str) -> Resul
     Ok(())
 }
 
+/// A part of a definition in one line: of one that is too long, the braces have two dots in them.
+pub(crate) fn part_line(alloc: Global, part: &str) -> Result<String, AllocError> {
+    if part.len() <= WIDTH {
+        return String::from_str(alloc, part);
+    }
+    let mut line = String::new(alloc);
+    let mut depth = 0usize;
+    for character in part.chars() {
+        if character == '}' {
+            depth = depth.saturating_sub(1);
+        }
+        if depth == 0 {
+            line.push(character)?;
+        }
+        if character == '{' {
+            if depth == 0 {
+                line.push_str(" .. ")?;
+            }
+            depth = depth.saturating_add(1);
+        }
+    }
+    Ok(line)
+}
+
 // Whether a line has nothing but spaces.
 fn is_blank(line: &str) -> bool {
     line.bytes().all(|octet| octet == b' ')
 }
 
-// The line without spaces at its end; it is empty afterwards.
-fn replace(alloc: Global, line: &mut String) -> Result<String, AllocError> {
-    let done = String::from_str(alloc, line.as_str().trim_end())?;
+// The line without spaces at its end, with what is in its braces if it is short; it is empty afterwards.
+fn take_line(alloc: Global, line: &mut String) -> Result<String, AllocError> {
+    let done = part_line(alloc, line.as_str().trim_end())?;
     *line = String::new(alloc);
     Ok(done)
 }

@@ -107,12 +107,21 @@ pub(crate) struct PlannedType {
     pub(crate) external: Option<usize>,
 }
 
+/// A type without a name in ASN.1, for which a file was made.
+#[derive(Drop)]
+pub(crate) struct UnnamedType {
+    place: Place,
+    name: String,
+    module: String,
+}
+
 /// The files of a crate, as far as they were made.
 #[derive(Drop)]
 pub(crate) struct Plan<'r, 'a> {
     pub(crate) alloc: Global,
     pub(crate) request: Request<'r, 'a>,
     pub(crate) types: Vec<PlannedType>,
+    unnamed_types: Vec<UnnamedType>,
     taken_names: TakenNames,
     taken_modules: TakenNames,
     pub(crate) files: Vec<PrintedFile>,
@@ -153,6 +162,7 @@ pub(crate) fn plan_of<'r, 'a>(
         alloc,
         request,
         types: Vec::new(alloc),
+        unnamed_types: Vec::new(alloc),
         taken_names: TakenNames::new(alloc),
         taken_modules: TakenNames::new(alloc),
         files: Vec::new(alloc),
@@ -221,6 +231,34 @@ impl Plan<'_, '_> {
     pub(crate) fn new_module(&mut self, name: &str) -> Result<String, AllocError> {
         let module = snake_case(self.alloc, name.as_bytes())?;
         self.taken_modules.take(module.as_str())
+    }
+
+    /// The type without a name at a place, if its file was made: COMPONENTS OF takes a component over with its type.
+    pub(crate) fn unnamed_type(&self, place: Place) -> Result<Option<TypeName>, AllocError> {
+        for known in &self.unnamed_types {
+            if known.place == place {
+                let name = self.local_type(known.module.as_str(), known.name.as_str())?;
+                return Ok(Some(name));
+            }
+        }
+        Ok(None)
+    }
+
+    /// Keeps the type without a name at a place, and answers its name.
+    pub(crate) fn keep_unnamed_type(
+        &mut self,
+        place: Place,
+        name: String,
+        module: String,
+    ) -> Result<TypeName, AllocError> {
+        let answer = self.local_type(module.as_str(), name.as_str())?;
+        let kept = UnnamedType {
+            place,
+            name,
+            module,
+        };
+        self.unnamed_types.push(kept)?;
+        Ok(answer)
     }
 
     /// Adds a module, with the names that the crate passes on.

@@ -3,7 +3,7 @@ use crate::lowering::{FileNames, add_file, type_name};
 use crate::notation::text_of;
 use crate::plan::{Plan, has_file, plan_of};
 use crate::recursion::report_cycles;
-use crate::request::{Printed, PrintedFile, Request};
+use crate::request::{Extern, Printed, PrintedFile, Request};
 use crate::types::{Owner, tag_number};
 use crate::values::{add_value, numbers_of, origin_text};
 use asn1_notation::Module;
@@ -205,6 +205,7 @@ fn add_root(plan: &mut Plan<'_, '_>) -> Result<(), AllocError> {
     for source in plan.request.sources {
         push_module_names(alloc, &mut lines, source.text, source.modules)?;
     }
+    push_externs(alloc, &mut lines, plan.request.externs)?;
     let text = root_file(alloc, lines.as_slice(), plan.modules.as_slice())?;
     let path = plan.text("src/lib.rt")?;
     plan.files.push(PrintedFile { path, text })?;
@@ -222,6 +223,31 @@ fn push_module_names(
         let name = text_of(alloc, module.name.octets(text))?;
         let name = name.as_str();
         lines.push(format!(in alloc; "- `{name}`")?)?;
+    }
+    Ok(())
+}
+
+// Appends the types that exist already, a line each.
+fn push_externs(
+    alloc: Global,
+    lines: &mut Vec<String>,
+    externs: &[Extern<'_>],
+) -> Result<(), AllocError> {
+    if externs.is_empty() {
+        return Ok(());
+    }
+    lines.push(String::new(alloc))?;
+    lines.push(String::from_str(alloc, "Their types of other crates:")?)?;
+    lines.push(String::new(alloc))?;
+    for external in externs {
+        let name = text_of(alloc, external.name)?;
+        let name = name.as_str();
+        let Extern {
+            path,
+            rust_name,
+            ..
+        } = *external;
+        lines.push(format!(in alloc; "- `{name}` is `{path}::{rust_name}`")?)?;
     }
     Ok(())
 }

@@ -4,6 +4,9 @@ use std::alloc::{AllocError, Global};
 /// The number of columns of a line.
 const WIDTH: usize = 100;
 
+/// The number of columns of a line of names.
+const NAMES_WIDTH: usize = 98;
+
 /// The lines of a file, as far as they were made.
 #[derive(Drop)]
 pub struct Code {
@@ -231,7 +234,7 @@ pub fn is_in_one_line(depth: usize, list: &List<'_>) -> bool {
         ListStyle::Arguments => list.items.len() == 1 || inner <= 60,
         ListStyle::Fields => inner <= 18,
         ListStyle::Elements => inner <= 60,
-        ListStyle::Names => true,
+        ListStyle::Names => used <= NAMES_WIDTH,
     };
     is_short && used <= WIDTH
 }

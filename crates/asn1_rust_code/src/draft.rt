@@ -138,6 +138,27 @@ impl Draft {
         self.code.list(depth, list)
     }
 
+    /// Appends a call with these arguments.
+    pub fn call(
+        &mut self,
+        depth: usize,
+        opening: &str,
+        arguments: &[&str],
+        closing: &str,
+    ) -> Result<(), AllocError> {
+        let mut items = Vec::new(self.alloc);
+        for argument in arguments {
+            items.push(String::from_str(self.alloc, argument)?)?;
+        }
+        self.list(
+            depth,
+            opening,
+            items.as_slice(),
+            closing,
+            ListStyle::Arguments,
+        )
+    }
+
     /// The code of a tag.
     pub fn tag_code(&mut self, tag: TagNumber) -> Result<String, AllocError> {
         if tag.class == TagClass::Universal {

@@ -46,6 +46,9 @@ pub struct Marker {
     pub tag: TagNumber,
 }
 
+// The module with the names of types.
+const MODULE: &str = "crate::aliases";
+
 /// The file with the names of types.
 pub fn alias_file(alloc: Global, page: &[String], aliases: &[Alias]) -> Result<String, AllocError> {
     let mut draft = Draft::new(alloc);
@@ -94,7 +97,11 @@ fn append_gap(draft: &mut Draft, index: usize) -> Result<(), AllocError> {
 // Appends a name for a type.
 fn append_alias(draft: &mut Draft, alias: &Alias) -> Result<(), AllocError> {
     let alloc = draft.alloc();
-    draft.use_type(&alias.definition)?;
+    for import in &alias.definition.imports {
+        if import.path.as_str() != MODULE {
+            draft.use_import(import)?;
+        }
+    }
     let notation = alias.notation.as_str();
     let name = alias.name.as_str();
     let text = alias.definition.text.as_str();

@@ -1,6 +1,6 @@
 //! The parts that types of each kind have.
 use crate::definitions::TypeFile;
-use asn1_rust_code::{Draft, ListStyle};
+use asn1_rust_code::{Draft, ListStyle, TypeName};
 use std::alloc::AllocError;
 
 /// What a type is to records: its meaning, and the code of its table.
@@ -147,4 +147,15 @@ fn article(name: &str) -> &'static str {
 /// A text of its own.
 pub fn owned(draft: &Draft, text: &str) -> Result<String, AllocError> {
     String::from_str(draft.alloc(), text)
+}
+
+/// The call that gives the name of a type.
+pub fn identifier_code(draft: &Draft, definition: &TypeName) -> Result<String, AllocError> {
+    let text = definition.in_path(draft.alloc())?;
+    format!(in draft.alloc(); "{text}::identifier()")
+}
+
+/// A text between quotation marks.
+pub(crate) fn quoted(draft: &Draft, text: &str) -> Result<String, AllocError> {
+    format!(in draft.alloc(); "\"{text}\"")
 }

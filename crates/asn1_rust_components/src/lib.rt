@@ -14,6 +14,7 @@
 //! | [`append_sequence`], [`append_set`], [`append_group`] | the code of a type of components |
 //! | [`append_type`], [`append_agreement`], [`append_theorem`], [`append_encode`], [`append_decode`] | the parts of each type |
 //! | [`append_trees`], [`tree_code`], [`constant_of`], [`append_entry`] | constants of trees, and lists in ghost members |
+//! | [`identifier_code`], [`owned`] | the call that names a type, and texts |
 //! | [`alias_file`], [`marker_file`], [`constant_file`] | files that are no type |
 //!
 //! The text is proved when it is checked, so no contract covers it. Calls fail only if memory runs out.
@@ -31,7 +32,8 @@ mod writer;
 
 pub use aliases::{Alias, Constant, Marker, NamedNumbers, alias_file, constant_file, marker_file};
 pub use common::{
-    Table, append_agreement, append_decode, append_encode, append_theorem, append_type, owned,
+    Table, append_agreement, append_decode, append_encode, append_theorem, append_type,
+    identifier_code, owned,
 };
 pub use constructed::{Kind, Subject, append_group, append_sequence, append_set};
 pub use definitions::{

@@ -1,5 +1,5 @@
 //! How a type of components is read.
-use crate::common::owned;
+use crate::common::quoted;
 use crate::constructed::{Kind, Subject, reading_trait};
 use crate::definitions::{Component, Usage};
 use crate::slots::{append_layout, append_slots, slot_path};
@@ -149,27 +149,22 @@ fn append_reading_arm(
     index: usize,
     slot: &str,
 ) -> Result<(), AllocError> {
-    let alloc = draft.alloc();
     let call = reading_call(kind, component);
     draft.use_names(&[call])?;
-    let opening = format!(in alloc; "{index} => {call}(")?;
-    let mut arguments = Vec::new(alloc);
-    arguments.push(format!(in alloc; "&mut slots.{slot}")?)?;
-    arguments.push(owned(draft, "decoder")?)?;
-    if call != "group" {
-        arguments.push(draft.tagging_code(component.tagging)?)?;
+    let opening = format!(in draft.alloc(); "{index} => {call}(")?;
+    let slot = format!(in draft.alloc(); "&mut slots.{slot}")?;
+    let slot = slot.as_str();
+    if call == "group" {
+        return draft.call(3, opening.as_str(), &[slot, "decoder"], "),");
     }
+    let tagging = draft.tagging_code(component.tagging)?;
+    let tagging = tagging.as_str();
     if kind == Kind::Set {
-        let name = component.name.as_str();
-        arguments.push(format!(in alloc; "\"{name}\"")?)?;
+        let name = quoted(draft, component.name.as_str())?;
+        let arguments = [slot, "decoder", tagging, name.as_str()];
+        return draft.call(3, opening.as_str(), &arguments, "),");
     }
-    draft.list(
-        3,
-        opening.as_str(),
-        arguments.as_slice(),
-        "),",
-        ListStyle::Arguments,
-    )
+    draft.call(3, opening.as_str(), &[slot, "decoder", tagging], "),")
 }
 
 // Whether a component is always there.

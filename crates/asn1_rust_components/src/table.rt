@@ -1,8 +1,8 @@
 //! The table of a type of components.
-use crate::common::owned;
+use crate::common::{owned, quoted};
 use crate::constructed::{Kind, Subject, reading_trait};
 use crate::definitions::{Component, Usage};
-use asn1_rust_code::{Draft, ListStyle, Tagging};
+use asn1_rust_code::{Draft, TagNumber, Tagging};
 use std::alloc::AllocError;
 
 /// Appends the table of a type.
@@ -67,37 +67,56 @@ fn append_field_at(draft: &mut Draft, subject: Subject<'_>) -> Result<(), AllocE
 
 // Appends the line of a component in the table.
 fn append_arm(draft: &mut Draft, component: &Component, index: usize) -> Result<(), AllocError> {
+    let opening = arm_opening(draft, component, index)?;
+    let number = format!(in draft.alloc(); "{index}")?;
+    let name = quoted(draft, component.name.as_str())?;
+    let arguments = [number.as_str(), name.as_str()];
+    match &component.usage {
+        Usage::Group(constant) => {
+            let arguments = [number.as_str(), constant.as_str(), name.as_str()];
+            draft.call(3, opening.as_str(), &arguments, ")),")
+        }
+        _ => match component.tagging {
+            Tagging::Untagged => draft.call(3, opening.as_str(), &arguments, ")),"),
+            Tagging::Implicit(tag) => {
+                append_tagged(draft, opening.as_str(), number.as_str(), tag, name.as_str())
+            }
+            Tagging::Explicit(tag) => {
+                append_tagged(draft, opening.as_str(), number.as_str(), tag, name.as_str())
+            }
+        },
+    }
+}
+
+// Appends the line of a component with a tag.
+fn append_tagged(
+    draft: &mut Draft,
+    opening: &str,
+    number: &str,
+    tag: TagNumber,
+    name: &str,
+) -> Result<(), AllocError> {
+    let tag = draft.tag_code(tag)?;
+    draft.call(3, opening, &[number, tag.as_str(), name], ")),")
+}
+
+// The call that makes the line of a component.
+fn arm_opening(draft: &Draft, component: &Component, index: usize) -> Result<String, AllocError> {
     let alloc = draft.alloc();
     let text = component.definition.text.as_str();
     let usage = usage_word(&component.usage);
-    let mut arguments = Vec::new(alloc);
-    arguments.push(format!(in alloc; "{index}")?)?;
-    let opening = match (&component.usage, component.tagging) {
-        (Usage::Group(constant), _) => {
-            arguments.push(owned(draft, constant.as_str())?)?;
-            format!(in alloc; "{index} => Some(Field::new_group(")?
-        }
+    match (&component.usage, component.tagging) {
+        (Usage::Group(_), _) => format!(in alloc; "{index} => Some(Field::new_group("),
         (_, Tagging::Untagged) => {
-            format!(in alloc; "{index} => Some(Field::new_{usage}_type::<{text}>(")?
+            format!(in alloc; "{index} => Some(Field::new_{usage}_type::<{text}>(")
         }
-        (_, Tagging::Implicit(tag)) => {
-            arguments.push(draft.tag_code(tag)?)?;
-            format!(in alloc; "{index} => Some(Field::new_{usage}_type_with_tag::<{text}>(")?
+        (_, Tagging::Implicit(_)) => {
+            format!(in alloc; "{index} => Some(Field::new_{usage}_type_with_tag::<{text}>(")
         }
-        (_, Tagging::Explicit(tag)) => {
-            arguments.push(draft.tag_code(tag)?)?;
-            format!(in alloc; "{index} => Some(Field::new_{usage}_explicit(")?
-        }
-    };
-    let name = component.name.as_str();
-    arguments.push(format!(in alloc; "\"{name}\"")?)?;
-    draft.list(
-        3,
-        opening.as_str(),
-        arguments.as_slice(),
-        ")),",
-        ListStyle::Arguments,
-    )
+        (_, Tagging::Explicit(_)) => format!(in alloc;
+            "{index} => Some(Field::new_{usage}_explicit("
+        ),
+    }
 }
 
 // The word for the list of components.

@@ -1,9 +1,9 @@
 //! How components are written.
-use crate::common::owned;
+use crate::common::{identifier_code, owned};
 use crate::constructed::Subject;
 use crate::definitions::{Component, Usage};
 use asn1_rust_code::{Draft, ListStyle, TagNumber, Tagging};
-use std::alloc::AllocError;
+use std::alloc::{AllocError, Global};
 
 /// Appends `EncodeFields`.
 pub(crate) fn append_field_writer(
@@ -89,34 +89,53 @@ fn append_explicit_arm(
     index: usize,
     tag: TagNumber,
 ) -> Result<(), AllocError> {
+    match component.usage {
+        Usage::Required => append_explicit_required(draft, component, index, tag),
+        _ => append_explicit_optional(draft, component, index, tag),
+    }
+}
+
+// Appends the line that writes a component after a tag.
+fn append_explicit_required(
+    draft: &mut Draft,
+    component: &Component,
+    index: usize,
+    tag: TagNumber,
+) -> Result<(), AllocError> {
     let alloc = draft.alloc();
     let tag = draft.tag_code(tag)?;
+    let name = identifier_code(draft, &component.definition)?;
+    let value = reference_to(alloc, component)?;
+    let opening = format!(in alloc; "{index} => encoder.encode_explicit_prefix(")?;
+    let arguments = [tag.as_str(), value.as_str(), name.as_str()];
+    draft.call(3, opening.as_str(), &arguments, "),")
+}
+
+// Appends the line that writes a component after a tag, if it is there.
+fn append_explicit_optional(
+    draft: &mut Draft,
+    component: &Component,
+    index: usize,
+    tag: TagNumber,
+) -> Result<(), AllocError> {
+    let alloc = draft.alloc();
+    draft.use_names(&["encode_explicit_optional"])?;
+    let tag = draft.tag_code(tag)?;
+    let value = reference_to(alloc, component)?;
+    let opening = format!(in alloc; "{index} => encode_explicit_optional(")?;
+    let arguments = ["encoder", tag.as_str(), value.as_str()];
+    draft.call(3, opening.as_str(), &arguments, "),")
+}
+
+// A reference to the field of a component.
+fn reference_to(alloc: Global, component: &Component) -> Result<String, AllocError> {
     let field = component.field.as_str();
-    let value = format!(in alloc; "&self.{field}")?;
-    match component.usage {
-        Usage::Required => {
-            let name = identifier_of(draft, component)?;
-            let opening = format!(in alloc; "{index} => encoder.encode_explicit_prefix(")?;
-            append_call(draft, opening.as_str(), &[tag, value, name])
-        }
-        _ => {
-            draft.use_names(&["encode_explicit_optional"])?;
-            let opening = format!(in alloc; "{index} => encode_explicit_optional(")?;
-            let encoder = owned(draft, "encoder")?;
-            append_call(draft, opening.as_str(), &[encoder, tag, value])
-        }
-    }
+    format!(in alloc; "&self.{field}")
 }
 
 // Appends a line that is a call.
 fn append_call(draft: &mut Draft, opening: &str, arguments: &[String]) -> Result<(), AllocError> {
     draft.list(3, opening, arguments, "),", ListStyle::Arguments)
-}
-
-// The call that gives the name of a component's type.
-fn identifier_of(draft: &Draft, component: &Component) -> Result<String, AllocError> {
-    let text = component.definition.in_path(draft.alloc())?;
-    format!(in draft.alloc(); "{text}::identifier()")
 }
 
 // Appends the line that writes a component with a default, which this closure makes.
@@ -139,10 +158,9 @@ fn append_default_arm(
             "encode_default_with_explicit_prefix"
         }
     };
-    let field = component.field.as_str();
-    arguments.push(format!(in alloc; "&self.{field}")?)?;
+    arguments.push(reference_to(alloc, component)?)?;
     arguments.push(default)?;
-    arguments.push(identifier_of(draft, component)?)?;
+    arguments.push(identifier_code(draft, &component.definition)?)?;
     let opening = format!(in alloc; "{index} => encoder.{call}(")?;
     append_call(draft, opening.as_str(), arguments.as_slice())
 }
@@ -154,23 +172,34 @@ fn append_addition_arm(
     index: usize,
 ) -> Result<(), AllocError> {
     let alloc = draft.alloc();
-    let name = identifier_of(draft, component)?;
-    let field = component.field.as_str();
-    let value = format!(in alloc; "self.{field}.as_ref()")?;
+    let name = identifier_code(draft, &component.definition)?;
+    let tag = addition_tag(draft, component)?;
     let call = match component.tagging {
         Tagging::Explicit(_) => "encode_extension_addition_with_explicit_prefix",
         _ => "encode_extension_addition_with_tag",
     };
-    let tag = match component.tagging {
-        Tagging::Untagged => {
-            let text = component.definition.in_path(alloc)?;
-            format!(in alloc; "{text}::tag()")?
-        }
-        Tagging::Implicit(tag) => draft.tag_code(tag)?,
-        Tagging::Explicit(tag) => draft.tag_code(tag)?,
-    };
     let opening = format!(in alloc; "{index} => encoder.{call}(")?;
-    append_call(draft, opening.as_str(), &[tag, value, name])
+    let value = option_of(alloc, component)?;
+    let arguments = [tag.as_str(), value.as_str(), name.as_str()];
+    draft.call(3, opening.as_str(), &arguments, "),")
+}
+
+// The code of the tag of an addition.
+fn addition_tag(draft: &mut Draft, component: &Component) -> Result<String, AllocError> {
+    match component.tagging {
+        Tagging::Untagged => {
+            let text = component.definition.in_path(draft.alloc())?;
+            format!(in draft.alloc(); "{text}::tag()")
+        }
+        Tagging::Implicit(tag) => draft.tag_code(tag),
+        Tagging::Explicit(tag) => draft.tag_code(tag),
+    }
+}
+
+// The value of a component that may be absent, by reference.
+fn option_of(alloc: Global, component: &Component) -> Result<String, AllocError> {
+    let field = component.field.as_str();
+    format!(in alloc; "self.{field}.as_ref()")
 }
 
 // Appends the line that writes a group.
@@ -181,9 +210,12 @@ fn append_group_arm(
 ) -> Result<(), AllocError> {
     let alloc = draft.alloc();
     draft.use_names(&["Identifier"])?;
-    let field = component.field.as_str();
-    let value = format!(in alloc; "self.{field}.as_ref()")?;
-    let name = owned(draft, "Identifier::EMPTY")?;
+    let value = option_of(alloc, component)?;
     let opening = format!(in alloc; "{index} => encoder.encode_extension_addition_group(")?;
-    append_call(draft, opening.as_str(), &[value, name])
+    draft.call(
+        3,
+        opening.as_str(),
+        &[value.as_str(), "Identifier::EMPTY"],
+        "),",
+    )
 }

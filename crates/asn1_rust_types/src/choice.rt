@@ -1,8 +1,10 @@
 //! CHOICE types.
-use asn1_rust_code::{Draft, ListStyle, Tagging, joined};
+use crate::variants::{same_cases, use_variants};
+use asn1_rust_code::{Draft, ListStyle, TagNumber, Tagging};
 use asn1_rust_components::{
     Alternative, ChoiceType, Table, Tree, TypeFile, append_agreement, append_decode, append_encode,
-    append_entry, append_theorem, append_trees, append_type, constant_of, owned, tree_code,
+    append_entry, append_theorem, append_trees, append_type, constant_of, identifier_code, owned,
+    tree_code,
 };
 use std::alloc::AllocError;
 
@@ -84,13 +86,8 @@ pub enum {name} {{
     }
     draft.line(0, "}")?;
     draft.blank()?;
-    let variants = joined(alloc, variants.as_slice(), ", ")?;
     let crate_name = subject.body.crate_name.as_str();
-    let module = subject.file.module.as_str();
-    let line = format!(in alloc;
-        "ghost use Rattle.{crate_name}.specs.declared.{module}.{name}.TheVariants.{{{variants}}};"
-    )?;
-    draft.use_ghost(line.as_str())
+    use_variants(draft, crate_name, subject.file, variants.as_slice())
 }
 
 // Appends `DecodeChoiceByIndex`.
@@ -103,6 +100,10 @@ fn append_reader(draft: &mut Draft, subject: ChoiceSubject<'_>) -> Result<(), Al
         "Decoder",
         "alternative",
     ])?;
+    let is_short = subject.body.alternatives.len() <= FEW;
+    if !is_short {
+        append_macro(draft, name)?;
+    }
     draft.text(format!(in draft.alloc(); "impl DecodeChoiceByIndex for {name} {{\n")?)?;
     append_cases(draft, subject.body.alternatives.as_slice())?;
     append_case_of(draft, subject.body.alternatives.as_slice())?;
@@ -111,7 +112,6 @@ fn append_reader(draft: &mut Draft, subject: ChoiceSubject<'_>) -> Result<(), Al
         "fn decode_alternative<D: Decoder>(index: usize, decoder: &mut D) -> Result<Self, DecodeError> {",
     )?;
     draft.line(2, "match index {")?;
-    let is_short = subject.body.alternatives.len() <= FEW;
     for (index, alternative) in subject.body.alternatives.iter().enumerate() {
         if is_short {
             append_short_arm(draft, alternative, index)?;
@@ -170,16 +170,14 @@ fn append_case_of(draft: &mut Draft, alternatives: &[Alternative]) -> Result<(),
 
 // Appends the law that a value is what its variant makes.
 fn append_made(draft: &mut Draft, alternatives: &[Alternative]) -> Result<(), AllocError> {
+    let alloc = draft.alloc();
     draft.use_signs(&["refl"])?;
-    let mut line = owned(draft, "ghost made = { elim [ ")?;
-    for (index, alternative) in alternatives.iter().enumerate() {
-        if index != 0 {
-            line.push_str(" | ")?;
-        }
-        line.push_str(alternative.variant.as_str())?;
-        line.push_str(" x ↦ (refl, λ _. refl)")?;
+    let mut variants = Vec::new(alloc);
+    for alternative in alternatives {
+        variants.push(alternative.variant.as_str())?;
     }
-    line.push_str(" ] };")?;
+    let cases = same_cases(alloc, variants.as_slice(), " x ↦ (refl, λ _. refl)")?;
+    let line = format!(in alloc; "ghost made = {{ elim [ {cases} ] }};")?;
     draft.line(1, line.as_str())
 }
 
@@ -191,30 +189,41 @@ fn append_short_arm(
 ) -> Result<(), AllocError> {
     let variant = alternative.variant.as_str();
     let opening = format!(in draft.alloc(); "{index} => Ok(Self::{variant}(alternative(")?;
-    let decoder = owned(draft, "decoder")?;
     let tagging = draft.tagging_code(alternative.tagging)?;
-    draft.list(
-        3,
-        opening.as_str(),
-        &[decoder, tagging],
-        ")?)),",
-        ListStyle::Arguments,
-    )
+    draft.call(3, opening.as_str(), &["decoder", tagging.as_str()], ")?)),")
 }
 
-// Appends the lines that read an alternative, one of many.
+// Appends the line that reads an alternative, one of many.
 fn append_long_arm(
     draft: &mut Draft,
     alternative: &Alternative,
     index: usize,
 ) -> Result<(), AllocError> {
-    let tagging = draft.tagging_code(alternative.tagging)?;
     let variant = alternative.variant.as_str();
+    let opening = format!(in draft.alloc(); "{index} => read!(")?;
+    let tagging = draft.tagging_code(alternative.tagging)?;
+    draft.call(
+        3,
+        opening.as_str(),
+        &["decoder", tagging.as_str(), variant],
+        "),",
+    )
+}
+
+// Appends the macro that reads an alternative, one of many.
+fn append_macro(draft: &mut Draft, name: &str) -> Result<(), AllocError> {
     draft.text(format!(in draft.alloc();
-        "            {index} => match alternative(decoder, {tagging}) {{
-                Ok(value) => Ok(Self::{variant}(value)),
-                Err(error) => Err(error),
-            }},
+        "\
+/// Reads the value of an alternative, and makes this variant of it.
+macro_rules! read {{
+    ($decoder:expr, $tagging:expr, $variant:ident) => {{
+        match alternative($decoder, $tagging) {{
+            Ok(value) => Ok({name}::$variant(value)),
+            Err(error) => Err(error),
+        }}
+    }};
+}}
+
 "
     )?)
 }
@@ -350,42 +359,49 @@ fn append_tag_arm(draft: &mut Draft, alternative: &Alternative) -> Result<(), Al
 
 // Appends the line that writes an alternative.
 fn append_writing_arm(draft: &mut Draft, alternative: &Alternative) -> Result<(), AllocError> {
-    let alloc = draft.alloc();
-    let variant = alternative.variant.as_str();
     match alternative.tagging {
         Tagging::Untagged => {
-            let line = format!(in alloc; "Self::{variant}(value) => value.encode(encoder),")?;
+            let variant = alternative.variant.as_str();
+            let line = format!(in draft.alloc();
+                "Self::{variant}(value) => value.encode(encoder),"
+            )?;
             draft.line(3, line.as_str())
         }
-        Tagging::Implicit(tag) => {
-            let opening = format!(in alloc; "Self::{variant}(value) => value.encode_with_tag(")?;
-            let encoder = owned(draft, "encoder")?;
-            let tag = draft.tag_code(tag)?;
-            draft.list(
-                3,
-                opening.as_str(),
-                &[encoder, tag],
-                "),",
-                ListStyle::Arguments,
-            )
-        }
-        Tagging::Explicit(tag) => {
-            let opening = format!(in alloc;
-                "Self::{variant}(value) => encoder.encode_explicit_prefix("
-            )?;
-            let tag = draft.tag_code(tag)?;
-            let value = owned(draft, "value")?;
-            let text = alternative.definition.in_path(alloc)?;
-            let name = format!(in alloc; "{text}::identifier()")?;
-            draft.list(
-                3,
-                opening.as_str(),
-                &[tag, value, name],
-                "),",
-                ListStyle::Arguments,
-            )
-        }
+        Tagging::Implicit(tag) => append_implicit_arm(draft, alternative, tag),
+        Tagging::Explicit(tag) => append_explicit_arm(draft, alternative, tag),
     }
+}
+
+// Appends the line that writes an alternative under a tag in place of its own.
+fn append_implicit_arm(
+    draft: &mut Draft,
+    alternative: &Alternative,
+    tag: TagNumber,
+) -> Result<(), AllocError> {
+    let tag = draft.tag_code(tag)?;
+    let variant = alternative.variant.as_str();
+    let opening = format!(in draft.alloc(); "Self::{variant}(value) => value.encode_with_tag(")?;
+    draft.call(3, opening.as_str(), &["encoder", tag.as_str()], "),")
+}
+
+// Appends the line that writes an alternative behind a tag.
+fn append_explicit_arm(
+    draft: &mut Draft,
+    alternative: &Alternative,
+    tag: TagNumber,
+) -> Result<(), AllocError> {
+    let tag = draft.tag_code(tag)?;
+    let name = identifier_code(draft, &alternative.definition)?;
+    let variant = alternative.variant.as_str();
+    let opening = format!(in draft.alloc();
+        "Self::{variant}(value) => encoder.encode_explicit_prefix("
+    )?;
+    draft.call(
+        3,
+        opening.as_str(),
+        &[tag.as_str(), "value", name.as_str()],
+        "),",
+    )
 }
 
 // Appends a text this many times.

@@ -1,10 +1,11 @@
 //! ENUMERATED types.
-use asn1_rust_code::{Draft, List, ListStyle, is_in_one_line, joined};
+use crate::variants::{same_cases, use_variants};
+use asn1_rust_code::{Draft, List, ListStyle, is_in_one_line};
 use asn1_rust_components::{
     Enumeration, Item, Table, TypeFile, append_decode, append_encode, append_theorem, append_type,
     owned,
 };
-use std::alloc::AllocError;
+use std::alloc::{AllocError, Global};
 
 /// An ENUMERATED with its file.
 #[derive(Clone, Copy)]
@@ -63,13 +64,8 @@ pub enum {name} {{
     }
     draft.line(0, "}")?;
     draft.blank()?;
-    let variants = joined(alloc, variants.as_slice(), ", ")?;
     let crate_name = subject.body.crate_name.as_str();
-    let module = subject.file.module.as_str();
-    let line = format!(in alloc;
-        "ghost use Rattle.{crate_name}.specs.declared.{module}.{name}.TheVariants.{{{variants}}};"
-    )?;
-    draft.use_ghost(line.as_str())
+    use_variants(draft, crate_name, subject.file, variants.as_slice())
 }
 
 // Appends the constants with the items.
@@ -93,17 +89,9 @@ fn append_item_table(
     constant: &str,
     items: &[Item],
 ) -> Result<(), AllocError> {
-    let alloc = draft.alloc();
     draft.use_names(&["EnumerationItem"])?;
-    let mut rows = Vec::new(alloc);
-    for item in items {
-        let [variant, number, asn1_name] = row_of(draft, name, item)?;
-        let texts = [variant.as_str(), number.as_str(), asn1_name.as_str()];
-        let row = joined(alloc, &texts, ", ")?;
-        let row = row.as_str();
-        rows.push(format!(in alloc; "({row})")?)?;
-    }
-    let opening = format!(in alloc; "const {constant}: &[EnumerationItem<{name}>] = &[")?;
+    let opening = format!(in draft.alloc(); "const {constant}: &[EnumerationItem<{name}>] = &[")?;
+    let rows = rows_of(draft.alloc(), name, items)?;
     let list = List {
         opening: opening.as_str(),
         items: rows.as_slice(),
@@ -111,35 +99,50 @@ fn append_item_table(
         style: ListStyle::Arguments,
     };
     if is_in_one_line(0, &list) {
-        draft.list(
-            0,
-            opening.as_str(),
-            rows.as_slice(),
-            "];",
-            ListStyle::Arguments,
-        )?;
-        return draft.blank();
+        draft.list(0, list.opening, list.items, list.closing, list.style)?;
+    } else {
+        append_rows(draft, list.opening, name, items)?;
     }
-    draft.line(0, opening.as_str())?;
-    for item in items {
-        let row = row_of(draft, name, item)?;
-        draft.list(1, "(", row.as_slice(), "),", ListStyle::Arguments)?;
-    }
-    draft.line(0, "];")?;
     draft.blank()
 }
 
-// The parts of an item in a constant.
-fn row_of(draft: &Draft, name: &str, item: &Item) -> Result<[String; 3], AllocError> {
+// Items, each in one line.
+fn rows_of(alloc: Global, name: &str, items: &[Item]) -> Result<Vec<String>, AllocError> {
+    let mut rows = Vec::new(alloc);
+    for item in items {
+        let variant = item.variant.as_str();
+        let number = item.number;
+        let asn1_name = item.name.as_str();
+        rows.push(format!(in alloc; "({name}::{variant}, {number}, \"{asn1_name}\")")?)?;
+    }
+    Ok(rows)
+}
+
+// Appends a constant with items, a line for each, or more.
+fn append_rows(
+    draft: &mut Draft,
+    opening: &str,
+    name: &str,
+    items: &[Item],
+) -> Result<(), AllocError> {
+    draft.line(0, opening)?;
+    for item in items {
+        append_row(draft, name, item)?;
+    }
+    draft.line(0, "];")
+}
+
+// Appends an item of a constant.
+fn append_row(draft: &mut Draft, name: &str, item: &Item) -> Result<(), AllocError> {
     let alloc = draft.alloc();
     let variant = item.variant.as_str();
+    let variant = format!(in alloc; "{name}::{variant}")?;
     let number = item.number;
+    let number = format!(in alloc; "{number}")?;
     let asn1_name = item.name.as_str();
-    Ok([
-        format!(in alloc; "{name}::{variant}")?,
-        format!(in alloc; "{number}")?,
-        format!(in alloc; "\"{asn1_name}\"")?,
-    ])
+    let asn1_name = format!(in alloc; "\"{asn1_name}\"")?;
+    let parts = [variant.as_str(), number.as_str(), asn1_name.as_str()];
+    draft.call(1, "(", &parts, "),")
 }
 
 // Appends `EnumeratedItems`.
@@ -215,14 +218,11 @@ fn append_laws(draft: &mut Draft, subject: EnumerationSubject<'_>) -> Result<(),
     draft.use_names(&["Enumerated"])?;
     draft.use_signs(&["refl"])?;
     draft.use_words(&["by_test", "enumeration_agrees"])?;
-    let mut cases = String::new(draft.alloc());
-    for (index, item) in subject.body.items.iter().enumerate() {
-        if index != 0 {
-            cases.push_str(" | ")?;
-        }
-        cases.push_str(item.variant.as_str())?;
-        cases.push_str(" ↦ refl")?;
+    let mut variants = Vec::new(draft.alloc());
+    for item in &subject.body.items {
+        variants.push(item.variant.as_str())?;
     }
+    let cases = same_cases(draft.alloc(), variants.as_slice(), " ↦ refl")?;
     draft.text(format!(in draft.alloc();
         "impl Enumerated for {name} {{
     ghost complete = {{ elim [ {cases} ] }};

@@ -3,7 +3,7 @@ use asn1_rust_code::Tagging;
 use asn1_rust_components::{Alternative, ChoiceType, Tree, TypeBody, TypeFile};
 use std::alloc::{AllocError, Global};
 
-/// The greatest number of alternatives whose writer the check proves by itself.
+/// The greatest number of alternatives whose writer and trees the check proves by itself.
 const FEW: usize = 10;
 
 /// A file with a proof.
@@ -15,15 +15,20 @@ pub struct ProofFile {
     pub text: String,
 }
 
-/// The proofs of a type: those of the trees of a CHOICE with another in it, and of the writer of a CHOICE of many alternatives.
+/// The proofs of a type: those of the trees of a CHOICE with another in it, and of the trees and the writer of a CHOICE of many
+/// alternatives.
 pub fn proof_files(alloc: Global, file: &TypeFile) -> Result<Vec<ProofFile>, AllocError> {
     let mut proofs = Vec::new(alloc);
     if let TypeBody::Choice(choice) = &file.body {
-        if choice.alternatives.iter().any(has_choice) {
-            proofs.push(trees_proof(alloc, file, choice)?)?;
-            proofs.push(table_proof(alloc, file, choice)?)?;
+        let is_long = choice.alternatives.len() > FEW;
+        let has_choice = choice.alternatives.iter().any(begins_with_choice);
+        if has_choice {
+            proofs.push(tree_proof(alloc, file, choice, TREES)?)?;
         }
-        if choice.alternatives.len() > FEW {
+        if has_choice || is_long && choice.alternatives.iter().any(is_untagged) {
+            proofs.push(tree_proof(alloc, file, choice, TABLE)?)?;
+        }
+        if is_long {
             proofs.push(writer_proof(alloc, file, choice)?)?;
         }
     }
@@ -31,56 +36,67 @@ pub fn proof_files(alloc: Global, file: &TypeFile) -> Result<Vec<ProofFile>, All
 }
 
 // Whether an alternative begins with the tags of a CHOICE.
-fn has_choice(alternative: &Alternative) -> bool {
+fn begins_with_choice(alternative: &Alternative) -> bool {
     match alternative.tree {
         Tree::Choice(_) => true,
         Tree::Leaf(_) => false,
     }
 }
 
-// The proof of the trees of a CHOICE.
-fn trees_proof(
-    alloc: Global,
-    file: &TypeFile,
-    choice: &ChoiceType,
-) -> Result<ProofFile, AllocError> {
-    let module = file.module.as_str();
-    let name = file.name.as_str();
-    let crate_name = choice.crate_name.as_str();
-    Ok(ProofFile {
-        path: format!(in alloc; "proofs/{module}/{name}Choice/variants/Answers.antt")?,
-        text: format!(in alloc;
-            "use Rattle.std.proofs.Common.{{refl}}
-use Rattle.asn1_schema.proofs.Trees.{{tree_shapes}}
-use Rattle.{crate_name}.proofs.{module}.{name}Choice.variants.Goals as goal
-
--- the trees of a CHOICE inside are those of its alternatives
-pub returns : goal.returns
-returns c = simp tree_shapes refl
-"
-        )?,
-    })
+// Whether an alternative begins with the tags of its type.
+fn is_untagged(alternative: &Alternative) -> bool {
+    alternative.tagging == Tagging::Untagged
 }
 
-// The proof of the table of a CHOICE.
-fn table_proof(
+// The answer to a goal about the trees of a CHOICE.
+#[derive(Clone, Copy)]
+struct TreeAnswer {
+    trait_name: &'static str,
+    function: &'static str,
+    goal: &'static str,
+    answer: &'static str,
+}
+
+const TREES: TreeAnswer = TreeAnswer {
+    trait_name: "Choice",
+    function: "variants",
+    goal: "returns",
+    answer: "simp tree_shapes refl",
+};
+
+const TABLE: TreeAnswer = TreeAnswer {
+    trait_name: "AsnType",
+    function: "table",
+    goal: "returns-clause-tree",
+    answer: "λ tag. rw c.choice.ensures.tree (simp tree_shapes refl)",
+};
+
+// The proof of a function about the trees of a CHOICE.
+fn tree_proof(
     alloc: Global,
     file: &TypeFile,
     choice: &ChoiceType,
+    wanted: TreeAnswer,
 ) -> Result<ProofFile, AllocError> {
+    let TreeAnswer {
+        trait_name,
+        function,
+        goal,
+        answer,
+    } = wanted;
     let module = file.module.as_str();
     let name = file.name.as_str();
     let crate_name = choice.crate_name.as_str();
     Ok(ProofFile {
-        path: format!(in alloc; "proofs/{module}/{name}AsnType/table/Answers.antt")?,
+        path: format!(in alloc; "proofs/{module}/{name}{trait_name}/{function}/Answers.antt")?,
         text: format!(in alloc;
             "use Rattle.std.proofs.Common.{{refl}}
 use Rattle.asn1_schema.proofs.Trees.{{tree_shapes}}
-use Rattle.{crate_name}.proofs.{module}.{name}AsnType.table.Goals as goal
+use Rattle.{crate_name}.proofs.{module}.{name}{trait_name}.{function}.Goals as goal
 
--- the trees of a CHOICE inside are those of its alternatives
-pub returns-clause-tree : goal.returns-clause-tree
-returns-clause-tree c = λ tag. rw c.choice.ensures.tree (simp tree_shapes refl)
+-- the trees are those of the alternatives
+pub {goal} : goal.{goal}
+{goal} c = {answer}
 "
         )?,
     })
