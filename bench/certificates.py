@@ -13,7 +13,8 @@ examples/certificates.
 Then it prints a line for each certificate, read and written: how many go in a second, how many by each form of plain Rust, and the
 ratios of the times; and the instructions for one, if valgrind is there. The time is that of the processor, the best of seven, less what
 it takes to start. Two lines are of all four together. The last ones have the instructions of canonical reading beside those of reading
-and of writing. Where Debian's librust-x509-cert-dev is there (it stands on
+and of writing, and those of reading by `d2i_X509` of OpenSSL and by mbedTLS's parser (bench/c_certificates.c), where Debian's
+libssl-dev and libmbedtls-dev are there. Where Debian's librust-x509-cert-dev is there (it stands on
 librust-der-dev), its rate and the ratio to it are a last part of each line, and else a line says that it could not be built.
 """
 import glob
@@ -29,6 +30,9 @@ CRATE = os.path.join(ROOT, "crates", "measure_certificates")
 PROGRAM = os.path.join(CRATE, "out", "measure_certificates")
 PLAIN = os.path.join(ROOT, "bench", "plain_certificates.rs")
 LIBRARY = os.path.join(ROOT, "bench", "library_certificates.rs")
+C_PROGRAM = os.path.join(ROOT, "bench", "c_certificates.c")
+# The libraries of C, each with the arguments of `gcc`.
+C_LIBRARIES = {"d2i_X509": ["-lcrypto"], "mbedTLS": ["-DMBEDTLS", "-lmbedx509", "-lmbedcrypto"]}
 REGISTRY = "/usr/share/cargo/registry"
 CERTIFICATES = sorted(glob.glob(os.path.join(ROOT, "examples", "certificates", "*.der")))
 RUNS = 7
@@ -88,6 +92,16 @@ def build_library(folder):
         print("librust-x509-cert-dev could not be built:", *built.stderr.strip().splitlines()[-1:], flush=True)
         return None
     return os.path.join(folder, "target", "release", "library_certificates")
+
+
+def build_c(folder, name, arguments):
+    """Builds the program over a library of C, and gives its path, or None where that cannot be."""
+    program = os.path.join(folder, name)
+    built = subprocess.run(["gcc", "-O2", C_PROGRAM, "-o", program, *arguments], capture_output=True, text=True)
+    if built.returncode != 0:
+        print(f"{name} could not be built:", *built.stderr.strip().splitlines()[-1:], flush=True)
+        return None
+    return program
 
 
 def answer(words, path):
@@ -163,6 +177,27 @@ def count_canonical(program):
         print(f"{os.path.basename(path)}: {text} instructions, {ratio:.2f} times those of reading", flush=True)
 
 
+def c_steps(program, own, path):
+    """How many instructions one reading costs a program over a library of C, and the ratio of ours to it."""
+    try:
+        most, none = (instructions([program, str(times)], path) for times in (100, 0))
+    except subprocess.CalledProcessError:
+        return "refuses it"
+    return f"{(most - none) / 100:.0f}, ratio {own * 100 / (most - none):.2f}"
+
+
+def count_c(folder, ours):
+    """Prints the instructions of reading each certificate by the libraries of C, beside ours."""
+    programs = {name: build_c(folder, name, arguments) for name, arguments in C_LIBRARIES.items()}
+    for path in CERTIFICATES:
+        own = steps(ours, "read", path)
+        text = f"read {own:.0f} instructions"
+        for name, program in programs.items():
+            if program:
+                text += f"; {name}: {c_steps(program, own, path)}"
+        print(f"{os.path.basename(path)}: {text}", flush=True)
+
+
 def main():
     ours = os.path.abspath(sys.argv[1]) if len(sys.argv) > 1 else build_program()
     with tempfile.TemporaryDirectory() as folder:
@@ -183,6 +218,7 @@ def main():
             line(f"all, {action}", all_costs, all_counts, len(CERTIFICATES))
         if shutil.which("valgrind"):
             count_canonical(ours)
+            count_c(folder, ours)
 
 
 main()
