@@ -1,4 +1,5 @@
 pub mod BadgeParts
 pub mod ComponentNames
 pub mod NodeComponents
+pub mod PersonnelRecords
 pub mod SampleRecords

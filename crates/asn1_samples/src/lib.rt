@@ -17,6 +17,7 @@
 //! | [`Settings`] | a SEQUENCE whose default is such a value |
 //! | [`Node`] | a SEQUENCE that holds itself, in a list |
 //! | [`Plate`] | a string with a permitted alphabet |
+//! | [`personnel`] | the record of X.690, annex A: a SET with a tag of its own, a `DEFAULT {}` and components after explicit tags |
 //!
 //! The contracts promise:
 //!
@@ -38,6 +39,7 @@
 //! - [`laws`] states the records of each value (`specs/SampleRecords` writes them out), the valid values, equality of values, the
 //!   names of the tables, and the types with an extension marker. `envelope_is_valid` and `pair_is_valid` state when an `Envelope`
 //!   and a `Pair` are valid; each `Node` is valid (`each_node_is_valid`).
+//! - [`personnel`] has laws of its own: the records of a day, and of a record without children.
 //! - A `Node` states its components by recursion on a value (`specs/NodeComponents`): the records follow by a fold, and a node
 //!   meets its type's invariant if and only if all labels inside it meet theirs. Its records are written out, by those of its
 //!   children (`node_has_its_records`), and how deep they are nested (`node_is_two_higher_than_its_children`).
@@ -59,6 +61,7 @@ mod node_reader;
 mod notice;
 mod pair;
 mod person;
+pub mod personnel;
 mod plate;
 mod profile;
 mod settings;

@@ -3,9 +3,10 @@ use crate::hollow::Hollow;
 use crate::marker_tags::{ApplicationTag, ContextTag, PrivateTag};
 use asn1_dec::Decode;
 use asn1_enc::Encode;
+use asn1_ldap::LdapMessage;
 use asn1_open::Open;
-use asn1_protocols::personnel::PersonnelRecord;
 use asn1_recursive::{Filter, Nested};
+use asn1_samples::personnel::PersonnelRecord;
 use asn1_samples::{
     Badge, Color, Corner, Envelope, Gauge, Labelled, Node, Notice, Pair, Person, Plate, Profile,
     Settings, Shape, Ticket, Visit,
@@ -137,7 +138,7 @@ fn tagged<C: TypeCase>(case: &C, name: &str) -> Option<C::Answer> {
     }
 }
 
-/// The types of X.690, 8.14.3 and annex A, and those of names in RFC 5280.
+/// The types of X.690, 8.14.3 and annex A, those of names in RFC 5280, and the messages of LDAP.
 fn type_of_x690<C: TypeCase>(case: &C, name: &str) -> Option<C::Answer> {
     match name {
         "Type2" => Some(case.try_type::<Type2>()),
@@ -146,6 +147,7 @@ fn type_of_x690<C: TypeCase>(case: &C, name: &str) -> Option<C::Answer> {
         "Type5" => Some(case.try_type::<Implicit<ContextTag<2>, VisibleString>>()),
         "PersonnelRecord" => Some(case.try_type::<PersonnelRecord>()),
         "RdnSequence" => Some(case.try_type::<RdnSequence>()),
+        "LdapMessage" => Some(case.try_type::<LdapMessage>()),
         _ => sequence(case, name),
     }
 }

@@ -1,17 +1,10 @@
-//! The records of values of the types, the same for every codec.
+//! The records of values of the personnel record, the same for every codec.
 ghost use Rattle.std.specs.Prelude.{[], ◌≡◌};
-ghost use Rattle.asn1_protocols.specs.ProtocolRecords.{bind_request_records, date_records, records_without_children};
+ghost use Rattle.asn1_samples.specs.PersonnelRecords.{date_records, records_without_children};
 ghost use Rattle.asn1_types.specs.Words.{own_records};
 
-use crate::ldap::BindRequest;
 use crate::personnel::{Date, PersonnelRecord};
 use asn1_types::AsnType;
-
-/// The records of a request: a SEQUENCE under the type's own tag.
-pub fn bind_request_has_its_records(request: &BindRequest)
-    ensures { own_records ⟦<BindRequest as AsnType>⟧.meaning request.now ≡
-        bind_request_records request.now }
-{}
 
 /// The records of a day.
 pub fn date_has_its_records(date: &Date)
