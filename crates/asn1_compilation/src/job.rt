@@ -1,0 +1,22 @@
+//! What is compiled.
+use asn1_print::Extern;
+
+/// A text with the name of its file.
+#[derive(Drop)]
+pub struct Input {
+    /// The name, as messages have it.
+    pub name: String,
+    /// The octets.
+    pub text: Vec<u8>,
+}
+
+/// What is compiled to a crate.
+#[derive(Clone, Copy)]
+pub struct Job<'a> {
+    /// The name of the crate.
+    pub crate_name: &'a str,
+    /// The texts, which are one set of modules.
+    pub inputs: &'a [Input],
+    /// Types that exist already.
+    pub externs: &'a [Extern<'a>],
+}

@@ -1,0 +1,32 @@
+//! From texts with modules of ASN.1 to the files of a crate, or to all that is wrong with them.
+//!
+//! | Item | What it is |
+//! |---|---|
+//! | [`compile`], [`Job`], [`Input`] | compiles the modules of some texts |
+//! | [`Compiled`], [`Message`] | the files, and the errors and warnings with their places |
+//! | [`listing_of`] | the files as one text |
+//! | [`extern_of`], [`is_crate_name`] | what a command line says of types that exist already, and of the name of the crate |
+//!
+//! The texts go through `parse` of `asn1_grammar`, `resolve` of `asn1_resolver`, `check_tags` of `asn1_module_check` and `print_crate`
+//! of `asn1_print`. The errors of one stage are told together: those of the notation, then those of names and numbers, then those of
+//! tags and of what cannot be printed.
+//!
+//! The contracts promise that there are files if and only if no message is an error (`complete` of [`compile`]), so nothing is left
+//! to write after an error. No contract covers which messages a text has. Every call returns, and fails only if memory runs out.
+#![tactic(auto)]
+
+mod compiled;
+mod externs;
+mod job;
+mod listing;
+mod locator;
+mod message;
+mod problems;
+mod stages;
+
+pub use compiled::Compiled;
+pub use externs::{extern_of, is_crate_name};
+pub use job::{Input, Job};
+pub use listing::listing_of;
+pub use message::Message;
+pub use stages::compile;

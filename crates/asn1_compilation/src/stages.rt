@@ -1,0 +1,115 @@
+//! From texts to files, or to errors.
+ghost use Rattle.std.specs.Prelude.{◌≡◌, IfOk, is_some};
+ghost use Rattle.asn1_compilation.specs.Messages as spec;
+
+use crate::compiled::Compiled;
+use crate::externs::unknown_externs;
+use crate::job::{Input, Job};
+use crate::message::messages_of;
+use crate::problems::syntax_problems;
+use asn1_grammar::{Parsed, parse};
+use asn1_module_check::check_tags;
+use asn1_modules::Source;
+use asn1_print::{Extern, Printed, Request, print_crate};
+use asn1_resolved::Schema;
+use asn1_resolver::{Resolution, resolve};
+use std::alloc::{AllocError, Global};
+
+/// Compiles the modules of some texts to the files of a crate.
+///
+/// The error of this call is that of memory.
+pub fn compile(alloc: Global, job: Job<'_>) -> Result<Compiled, AllocError>
+    // There are files if and only if no message is an error.
+    ensures complete { IfOk result (λ compiled.
+        is_some compiled.files ≡ spec.accepts compiled.messages.items) }
+{
+    let parsed = parse_all(alloc, job.inputs)?;
+    let problems = syntax_problems(alloc, job.inputs, parsed.as_slice())?;
+    if !problems.is_empty() {
+        let messages = messages_of(alloc, job.inputs, problems.as_slice())?;
+        return Ok(Compiled::new(messages, Vec::new(alloc)));
+    }
+    compile_parsed(alloc, job, job.inputs, parsed.as_slice())
+}
+
+// Reads the modules of all texts.
+fn parse_all(alloc: Global, inputs: &[Input]) -> Result<Vec<Parsed>, AllocError> {
+    let mut parsed = Vec::new(alloc);
+    for input in inputs {
+        parsed.push(parse(alloc, input.text.as_slice())?)?;
+    }
+    Ok(parsed)
+}
+
+// Compiles the modules of texts that were read.
+fn compile_parsed<'a>(
+    alloc: Global,
+    job: Job<'_>,
+    inputs: &'a [Input],
+    parsed: &'a [Parsed],
+) -> Result<Compiled, AllocError>
+    ensures { IfOk result (λ compiled.
+        is_some compiled.files ≡ spec.accepts compiled.messages.items) }
+{
+    let sources = sources_of(alloc, inputs, parsed)?;
+    compile_sources(alloc, job, sources.as_slice())
+}
+
+// The texts with their modules.
+fn sources_of<'a>(
+    alloc: Global,
+    inputs: &'a [Input],
+    parsed: &'a [Parsed],
+) -> Result<Vec<Source<'a>>, AllocError> {
+    let mut sources = Vec::new(alloc);
+    for (input, part) in inputs.iter().zip(parsed) {
+        sources.push(Source {
+            text: input.text.as_slice(),
+            modules: part.modules.as_slice(),
+        })?;
+    }
+    Ok(sources)
+}
+
+// Resolves the modules, checks their tags and prints them.
+fn compile_sources(
+    alloc: Global,
+    job: Job<'_>,
+    sources: &[Source<'_>],
+) -> Result<Compiled, AllocError>
+    ensures { IfOk result (λ compiled.
+        is_some compiled.files ≡ spec.accepts compiled.messages.items) }
+{
+    let resolution = resolve(alloc, sources)?;
+    if !resolution.is_accepted() {
+        let messages = messages_of(alloc, job.inputs, resolution.problems.as_slice())?;
+        return Ok(Compiled::new(messages, Vec::new(alloc)));
+    }
+    let Resolution {
+        schema,
+        mut problems,
+    } = resolution;
+    problems.append(&mut check_tags(alloc, &schema)?)?;
+    let mut printed = print_schema(alloc, job.crate_name, job.externs, sources, &schema)?;
+    problems.append(&mut printed.problems)?;
+    let mut messages = messages_of(alloc, job.inputs, problems.as_slice())?;
+    messages.append(&mut unknown_externs(alloc, job.externs, &schema)?)?;
+    Ok(Compiled::new(messages, printed.files))
+}
+
+// Prints the files of a schema.
+fn print_schema<'a>(
+    alloc: Global,
+    crate_name: &str,
+    externs: &[Extern<'_>],
+    sources: &[Source<'a>],
+    schema: &Schema<'a>,
+) -> Result<Printed, AllocError> {
+    let request = Request {
+        crate_name: &*crate_name,
+        sources: &*sources,
+        schema: &*schema,
+        externs: &*externs,
+    };
+    print_crate(alloc, request)
+}
