@@ -1,0 +1,170 @@
+#!/usr/bin/env python3
+"""Compiles the modules of examples/modules with asn1_compile, and compares the crates that are made of them with what it prints.
+
+    bench/compile.py [--try] [--prove NAME]
+
+The program is the one that is built (`rt run` in crates/asn1_compile builds it), or with `--try` it is run before its proof, by
+`rt try`. Each module has to compile. Where a crate of the table is in crates/, its src/ and proofs/ have to be the files that are
+printed, and no others. Then the program is run on wrong arguments, on modules with an error, and with `--out` and `--check`.
+
+With `--prove` the types of one module, as `snmp`, are put into a clone in a temporary folder, with the libraries that are built here
+and with their line in crates.txt; `rt fmt` has to leave them as they are, and `rt check` has to prove them.
+
+The status is 0 if all is as it has to be.
+"""
+import os
+import pathlib
+import shutil
+import subprocess
+import sys
+import tempfile
+
+TOP = pathlib.Path(__file__).resolve().parent.parent
+CRATES = TOP / "crates"
+PROGRAM = CRATES / "asn1_compile"
+MODULES = TOP / "examples" / "modules"
+
+# A file of examples/modules: the crate, what the program is told of types that exist already, and the crates of these.
+TABLE = {
+    "certificates": ("certificates", [], []),
+    "ldap": ("asn1_ldap", ["--extern", "Filter=asn1_recursive::Filter"], ["asn1_recursive"]),
+    "snmp": ("snmp", [], []),
+}
+
+faults = 0
+
+
+def expect(what, given, wanted):
+    """Tells a difference."""
+    global faults
+    if given != wanted:
+        faults += 1
+        print(f"{what}: {given!r} in place of {wanted!r}")
+
+
+def run(arguments, text=""):
+    """What the program writes, what it tells, and its status."""
+    if "--try" in sys.argv:
+        words = ["rt", "try", "--", *arguments]
+        ran = subprocess.run(words, cwd=PROGRAM, input=text, stdout=subprocess.PIPE, stderr=subprocess.PIPE, text=True)
+        told = "".join(line for line in ran.stderr.splitlines(keepends=True) if not line.startswith(("checked:", "run=")))
+        return ran.stdout, told, ran.returncode
+    ran = subprocess.run([PROGRAM / "out" / "asn1_compile", *arguments], input=text, capture_output=True, text=True)
+    return ran.stdout, ran.stderr, ran.returncode
+
+
+def files_of(listing):
+    """The files of standard output, by their paths."""
+    files = {}
+    for part in ("\n" + listing).split("\n=== ")[1:]:
+        path, _, text = part.partition("\n")
+        files[path] = text + "\n" if text and not text.endswith("\n") else text
+    return files
+
+
+def printed(name):
+    """The files that are printed for a module, by their paths; none if it does not compile."""
+    crate, externs, _ = TABLE[name]
+    written, told, status = run([crate, *externs], (MODULES / f"{name}.asn1").read_text())
+    errors = [line for line in told.splitlines() if ": warning: " not in line]
+    expect(f"{name}.asn1: errors and status", (errors, status), ([], 0))
+    files = files_of(written)
+    print(f"{name}.asn1: {len(files)} files, {len(told.splitlines()) - len(errors)} warnings")
+    return files
+
+
+def compare(crate, files):
+    """Compares the files of a crate with what is printed."""
+    folder = CRATES / crate
+    found = {str(path.relative_to(folder)): path.read_text()
+             for part in ("src", "proofs") for path in sorted((folder / part).rglob("*")) if path.is_file()}
+    expect(f"the files of {crate}", sorted(found), sorted(files))
+    for path in sorted(found.keys() & files.keys()):
+        if found[path] != files[path]:
+            expect(f"{crate}/{path}", "other text", "what is printed")
+
+
+def lay(folder, files):
+    """Writes files into a folder."""
+    for path, text in files.items():
+        (folder / path).parent.mkdir(parents=True, exist_ok=True)
+        (folder / path).write_text(text)
+
+
+def link(source, target):
+    """A file of one folder in another: the same one where both are on one disk."""
+    try:
+        os.link(source, target)
+    except OSError:
+        shutil.copy2(source, target)
+
+
+def prove(name):
+    """Proves the types of a module in a clone."""
+    crate, _, libraries = TABLE[name]
+    files = printed(name)
+    with tempfile.TemporaryDirectory() as place:
+        clone = pathlib.Path(place) / "clone"
+        subprocess.run(["git", "clone", "-q", "--no-hardlinks", TOP, clone], check=True)
+        for built in CRATES.glob("*/out/rlib"):
+            if (clone / "crates" / built.parent.parent.name).is_dir():
+                shutil.copytree(built, clone / built.relative_to(TOP), copy_function=link)
+        folder = clone / "crates" / crate
+        shutil.rmtree(folder, ignore_errors=True)
+        lay(folder, files)
+        lines = [line for line in (clone / "crates.txt").read_text().splitlines() if not line.startswith(f"{crate}:")]
+        lines.append(" ".join([f"{crate}: asn1_schema asn1_tags", *libraries]))
+        (clone / "crates.txt").write_text("\n".join(lines) + "\n")
+        subprocess.run(["rt", "fmt"], cwd=folder, check=True, stdout=subprocess.DEVNULL)
+        for path, text in files.items():
+            expect(f"{crate}/{path} after rt fmt", (folder / path).read_text() == text, True)
+        ran = subprocess.run(["rt", "check", "--jobs", "1"], cwd=folder, stdout=subprocess.PIPE, stderr=subprocess.STDOUT, text=True)
+        print("".join(line for line in ran.stdout.splitlines(keepends=True) if "no proof" in line or line.startswith("logic=")), end="")
+        expect(f"the status of rt check on {crate}", ran.returncode, 0)
+
+
+WRONG = "M DEFINITIONS ::= BEGIN\nA ::= B\nC ::= SEQUENCE { a NULL, a NULL }\nEND\n"
+RIGHT = "M DEFINITIONS ::= BEGIN\nA ::= SEQUENCE { a NULL }\nEND\n"
+
+
+def try_arguments():
+    """Runs the program on wrong arguments and modules, and on each way to write."""
+    for arguments in [], ["9"], ["x", "--extern", "A=b"], ["x", "--unknown"]:
+        written, told, status = run(arguments, RIGHT)
+        expect(f"{arguments}", (written, told != "", status), ("", True, 2))
+    written, told, status = run(["x"], WRONG)
+    expect("a module with errors", (written, [line[:7] for line in told.splitlines()], status), ("", ["-:2:7: ", "-:3:26:"], 1))
+    expect("no module", run(["x"], ""), ("", "-:1:1: there is no module\n", 1))
+    expect("--check", run(["x", "--check"], RIGHT), ("", "", 0))
+    written, told, status = run(["x", "--help"])
+    expect("--help", ("--extern" in written, told, status), (True, "", 0))
+    if "--try" in sys.argv:
+        return
+    with tempfile.TemporaryDirectory() as place:
+        folder = pathlib.Path(place) / "new" / "x"
+        expect("--out after an error", (run(["x", "--out", str(folder)], WRONG)[2], folder.exists()), (1, False))
+        expect("--out", run(["x", "--out", str(folder)], RIGHT), ("", "", 0))
+        found = {str(path.relative_to(folder)): path.read_text() for path in folder.rglob("*") if path.is_file()}
+        expect("the files of --out", found, files_of(run(["x"], RIGHT)[0]))
+        two = [pathlib.Path(place) / name for name in ("a.asn1", "b.asn1")]
+        two[0].write_text("M DEFINITIONS ::= BEGIN\nIMPORTS B FROM N;\nA ::= SEQUENCE { b B }\nEND\n")
+        two[1].write_text("N DEFINITIONS ::= BEGIN\nB ::= NULL\nEND\n")
+        expect("two files", run(["x", "--check", *map(str, two)]), ("", "", 0))
+        expect("a file that is not there", run(["x", str(two[0]), f"{place}/none"])[2], 2)
+
+
+def main():
+    if "--prove" in sys.argv:
+        prove(sys.argv[sys.argv.index("--prove") + 1])
+    else:
+        for name, (crate, _, _) in TABLE.items():
+            files = printed(name)
+            if (CRATES / crate).is_dir():
+                compare(crate, files)
+        try_arguments()
+    print(f"{faults} faults")
+    return faults > 0
+
+
+if __name__ == "__main__":
+    sys.exit(main())

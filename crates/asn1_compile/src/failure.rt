@@ -1,0 +1,49 @@
+//! Why a run ends with the status 2.
+use std::alloc::{AllocError, AllocFailed};
+use std::io;
+
+/// What no module is to blame for.
+#[derive(Drop)]
+pub(crate) enum Failure<'a> {
+    /// This is not the name of a crate.
+    CrateName(&'a str),
+    /// This does not name a type that exists already.
+    Extern(&'a str),
+    /// The file of this name was not read.
+    Input(&'a str, io::Error),
+    /// The files were not written.
+    Output(io::Error),
+    /// Memory ran out.
+    Memory,
+}
+
+impl Failure<'_> {
+    /// Prints the failure on standard error.
+    pub(crate) fn tell(&self, rt: &HostRuntime) {
+        let _ = match self {
+            Failure::CrateName(name) => {
+                eprintln!(rt;
+                    "error: '{name}' is not the name of a crate: lowercase letters, digits and '_', with a letter first"
+                )
+            }
+            Failure::Extern(argument) => {
+                eprintln!(rt; "error: '{argument}' is not of the form NAME=crate::Type")
+            }
+            Failure::Input(name, error) => eprintln!(rt; "error: {name}: {error}"),
+            Failure::Output(error) => eprintln!(rt; "error: {error}"),
+            Failure::Memory => eprintln!(rt; "error: memory ran out"),
+        };
+    }
+}
+
+impl From<AllocError> for Failure<'_> {
+    fn from(_refused: AllocError) -> Self {
+        Failure::Memory
+    }
+}
+
+impl<T: Drop> From<AllocFailed<T>> for Failure<'_> {
+    fn from(_refused: AllocFailed<T>) -> Self {
+        Failure::Memory
+    }
+}
