@@ -1,9 +1,10 @@
-//! The order of names in `rt fmt`.
+//! The order of the names that a file imports, in `rt fmt`.
 use std::alloc::{AllocError, Global};
 
-/// A text by which names are in the order of `rt fmt`: numbers in them are ordered as numbers, so `Tag10` is behind `Tag9`.
+/// A text by which imported names are in the order of `rt fmt`: numbers in them are ordered as numbers, so `Tag10` is behind `Tag9`,
+/// and an underscore is in front of digits and letters.
 ///
-/// In front of each row of digits is a character that is the greater, the longer the row is.
+/// In front of each row of digits is a character that is the greater, the longer the row is. A space stands for an underscore.
 pub fn order_of(alloc: Global, name: &str) -> Result<String, AllocError> {
     let mut order = String::new(alloc);
     let octets = name.as_bytes();
@@ -11,7 +12,11 @@ pub fn order_of(alloc: Global, name: &str) -> Result<String, AllocError> {
         if octet.is_ascii_digit() && !is_digit_before(octets, index) {
             order.push(char::from(b'0'.saturating_add(digits_from(octets, index))))?;
         }
-        order.push(char::from(*octet))?;
+        order.push(if *octet == b'_' {
+            ' '
+        } else {
+            char::from(*octet)
+        })?;
     }
     Ok(order)
 }

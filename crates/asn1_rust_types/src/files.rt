@@ -37,13 +37,13 @@ fn append_body(draft: &mut Draft, file: &TypeFile) -> Result<(), AllocError> {
     }
 }
 
-/// A module of a crate, with the names that the crate passes on. Modules are ordered by `order`.
+/// A module of a crate, with the names that the crate passes on. Modules are ordered by their names.
 #[derive(Debug, PartialEq, Eq, PartialOrd, Ord, Drop)]
 pub struct ModuleNames {
-    /// The place of the module (`order_of` of `asn1_rust_code`).
-    pub order: String,
     /// The module.
     pub module: String,
+    /// Its place among imported names (`order_of` of `asn1_rust_code`).
+    pub order: String,
     /// Whether the module itself is public, and its names are not passed on.
     pub is_public: bool,
     /// The names, in the order of `rt fmt`.
@@ -71,14 +71,42 @@ pub fn root_file(
     }
     code.blank()?;
     let is_long = count_names(modules) > MOST;
-    for module in modules {
-        if !module.is_public && is_long {
-            append_each_name(alloc, &mut code, module)?;
-        } else if !module.is_public {
-            append_names(alloc, &mut code, module)?;
+    for index in import_order(alloc, modules)? {
+        if let Some(module) = modules.get(index) {
+            append_module_names(alloc, &mut code, module, is_long)?;
         }
     }
     Ok(code.into_text())
+}
+
+// The indices of modules in the order of the lines that pass on their names.
+fn import_order(alloc: Global, modules: &[ModuleNames]) -> Result<Vec<usize>, AllocError> {
+    let mut ordered = Vec::new(alloc);
+    for (index, module) in modules.iter().enumerate() {
+        ordered.push((module.order.as_str(), index))?;
+    }
+    ordered.sort()?;
+    let mut indices = Vec::new(alloc);
+    for (_, index) in ordered {
+        indices.push(index)?;
+    }
+    Ok(indices)
+}
+
+// Appends the lines that pass on the names of a module, unless it is public itself.
+fn append_module_names(
+    alloc: Global,
+    code: &mut Code,
+    module: &ModuleNames,
+    is_long: bool,
+) -> Result<(), AllocError> {
+    if module.is_public {
+        Ok(())
+    } else if is_long {
+        append_each_name(alloc, code, module)
+    } else {
+        append_names(alloc, code, module)
+    }
 }
 
 // The number of names that a crate passes on.
