@@ -28,7 +28,7 @@ pub enum CanonicalError {
 /// Reads a value, writes it again, and compares: the value is answered only if the two byte strings are the same.
 ///
 /// A value that is answered is one that `read_value` may answer of the input (`answered`), and writing it makes the input
-/// (`canonical`). Reading and writing open at most this many nested scopes.
+/// (`canonical`), which are octets (`octets`). Reading and writing open at most this many nested scopes.
 ///
 /// A valid value of a well-tagged type whose only spelling is the input is read back equal, unless memory runs out or its records are
 /// nested deeper than the depth (`read`). The law `what_is_written_is_the_only_spelling` of a codec's crate says of which values the
@@ -51,6 +51,7 @@ pub fn read_canonical<T: Encode + Decode, R: Rules<Output = Vec<u8>>>(
     ensures answered { IfOk result (λ w. MayAnswer R.format T.meaning T.eq T.refusals depth
         input.now (Ok w)) }
     ensures canonical { IfOk result (λ w. IsWrittenAs R.format T.meaning depth w input.now.items) }
+    ensures octets { IfOk result (λ _. AreOctets input.now.items) }
     ensures departs { IfErr result (DepartsAs R.format T.meaning T.eq T.refusals depth input.now) }
     ensures read { (v : T) → IsWellTagged T.meaning → T.meaning.IsOfType v →
         T.meaning.IsValid R.format.accepts v → R.format.carries input.now (own_records T.meaning v) →
