@@ -24,10 +24,14 @@ CRATES = TOP / "crates"
 PROGRAM = CRATES / "asn1_compile"
 MODULES = TOP / "examples" / "modules"
 
+# The types of LDAP that asn1_recursive has, since a filter holds itself.
+FILTERS = ["Filter", "AttributeValueAssertion", "SubstringFilter", "MatchingRuleAssertion"]
+
 # A file of examples/modules: the crate, what the program is told of types that exist already, and the crates of these.
 TABLE = {
     "certificates": ("certificates", [], []),
-    "ldap": ("asn1_ldap", ["--extern", "Filter=asn1_recursive::Filter"], ["asn1_recursive"]),
+    "greetings": ("greetings", [], []),
+    "ldap": ("asn1_ldap", [f"--extern={name}=asn1_recursive::{name}" for name in FILTERS], ["asn1_recursive"]),
     "snmp": ("snmp", [], []),
 }
 

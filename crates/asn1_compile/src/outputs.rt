@@ -16,12 +16,15 @@ pub(crate) fn write_files(
     }
 }
 
-// Writes the files into a folder.
+// Writes the files into a folder. Memory is asked for before the first is written.
 fn write_folder(rt: &HostRuntime, folder: &str, files: &[PrintedFile]) -> io::Result<()> {
     let alloc = rt.alloc();
+    let mut paths = Vec::new(alloc);
     for file in files {
         let path = file.path.as_str();
-        let path = format!(in alloc; "{folder}/{path}")?;
+        paths.push(format!(in alloc; "{folder}/{path}")?)?;
+    }
+    for (path, file) in paths.iter().zip(files) {
         if let Some((parent, _)) = path.as_str().rsplit_once('/') {
             fs::create_dir_all(rt, parent)?;
         }

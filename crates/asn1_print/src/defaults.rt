@@ -2,7 +2,7 @@
 use crate::components::steps_of;
 use crate::enumerations::variant_of;
 use crate::integers::{built_in, has_limits, range_of};
-use crate::plan::Plan;
+use crate::plan::{Plan, has_file};
 use asn1_names::Place;
 use asn1_resolved::{Range, Schema, Type, TypeKind, Value};
 use asn1_rust_code::TypeName;
@@ -18,7 +18,11 @@ pub(crate) fn default_of(
     place: Place,
     is_addition: bool,
 ) -> Result<Usage, AllocError> {
-    if !is_addition {
+    if is_outside(plan, value, definition) {
+        plan.error(place, "the DEFAULT is outside the range of its type")?;
+        return Ok(Usage::Optional);
+    }
+    if !is_addition && !is_wrapped(plan, definition) {
         let found = carried_default(plan, value, definition, name)?;
         if let Some(usage) = found {
             return Ok(usage);
@@ -29,6 +33,63 @@ pub(crate) fn default_of(
         "the DEFAULT of this component is not in Rust: it is an option there",
     )?;
     Ok(Usage::Optional)
+}
+
+// Whether a value is a number outside the range of its type.
+fn is_outside(plan: &Plan<'_, '_>, value: &Value<'_>, definition: &Type<'_>) -> bool {
+    match value {
+        Value::Integer(number) => {
+            let range = base_range(plan, definition);
+            let is_low = match range.lower {
+                Some(lower) => *number < lower,
+                None => false,
+            };
+            let is_high = match range.upper {
+                Some(upper) => upper < *number,
+                None => false,
+            };
+            is_low || is_high
+        }
+        _ => false,
+    }
+}
+
+// Whether a component is `Implicit` or `Explicit` in Rust: a type that it refers to has a tag, or its own type has a second one.
+fn is_wrapped(plan: &Plan<'_, '_>, definition: &Type<'_>) -> bool {
+    let schema = plan.request.schema;
+    if has_second_tag(definition) {
+        return true;
+    }
+    let Some(mut last) = next_of(definition) else {
+        return false;
+    };
+    for _ in 0..steps_of(plan) {
+        let Some(referred) = schema.types.get(last) else {
+            return false;
+        };
+        match &referred.definition.kind {
+            TypeKind::Tagged(_, _) => return !has_file(&referred.definition),
+            TypeKind::Reference(index) => last = *index,
+            _ => return false,
+        }
+    }
+    false
+}
+
+// Whether a type has a tag below its own.
+fn has_second_tag(definition: &Type<'_>) -> bool {
+    match &definition.kind {
+        TypeKind::Tagged(_, inner) => is_tagged(inner),
+        _ => false,
+    }
+}
+
+// Whether a type has a tag.
+fn is_tagged(definition: &Type<'_>) -> bool {
+    match &definition.kind {
+        TypeKind::Tagged(_, _) => true,
+        _ => false,
+    }
 }
 
 // The usage with a default, if its value can be carried.

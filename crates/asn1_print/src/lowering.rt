@@ -9,7 +9,7 @@ use crate::notation::{component_text, text_of};
 use crate::plan::Plan;
 use crate::types::{
     Owner, PartTexts, part_texts, plain_name, set_of, tagging_of, under_tag, warn_of_constraints,
-    wrapped,
+    warn_of_names, wrapped,
 };
 use asn1_names::Place;
 use asn1_resolved::{Addition, Alternative, Alternatives, Component, Components, Type, TypeKind};
@@ -203,6 +203,7 @@ fn part_of(
         summary: texts.summary.as_str(),
         notation: texts.notation.as_str(),
     };
+    warn_of_names(plan, definition)?;
     match &definition.kind {
         TypeKind::Tagged(tag, inner) => {
             let name = type_name(plan, inner, owner)?;

@@ -4,7 +4,7 @@ use crate::notation::text_of;
 use crate::plan::{Plan, has_file, plan_of};
 use crate::recursion::report_cycles;
 use crate::request::{Extern, Printed, PrintedFile, Request};
-use crate::types::{Owner, tag_number};
+use crate::types::{Owner, tag_number, warn_of_constraints};
 use crate::values::{add_value, numbers_of, origin_text};
 use asn1_notation::Module;
 use asn1_resolved::{NamedNumber, Type, TypeDefinition, TypeKind};
@@ -80,8 +80,10 @@ fn add_definition(
         module: module.as_str(),
         tag: None,
     };
+    warn_of_constraints(plan, &definition.definition)?;
     match &definition.definition.kind {
         TypeKind::Tagged(tag, inner) => {
+            warn_of_constraints(plan, inner)?;
             let tag = Some(tag_number(*tag));
             add_file(plan, inner, FileNames { tag, ..names }, owner)
         }
@@ -110,9 +112,11 @@ fn add_alias(
     Ok(())
 }
 
-// The names of an INTEGER or a BIT STRING, and the type of their constants.
+// The names of an INTEGER or a BIT STRING, below its tags too, and the type of their constants.
+#[cycle(named_numbers)]
 fn named_numbers<'t, 'a>(definition: &'t Type<'a>) -> (&'static str, &'t [NamedNumber<'a>]) {
     match &definition.kind {
+        TypeKind::Tagged(_, inner) => named_numbers(inner),
         TypeKind::Integer(numbers) => ("i128", numbers.as_slice()),
         TypeKind::BitString(numbers) => ("usize", numbers.as_slice()),
         _ => ("i128", &[]),

@@ -177,6 +177,27 @@ pub(crate) fn warn_of_constraints(
     Ok(())
 }
 
+/// Warns of the named numbers or bits of a part whose type has no name in ASN.1: constants are made for a definition alone.
+#[cycle(names)]
+pub(crate) fn warn_of_names(
+    plan: &mut Plan<'_, '_>,
+    definition: &Type<'_>,
+) -> Result<(), AllocError> {
+    let is_named = match &definition.kind {
+        TypeKind::Tagged(_, inner) => return warn_of_names(plan, inner),
+        TypeKind::Integer(numbers) => !numbers.is_empty(),
+        TypeKind::BitString(bits) => !bits.is_empty(),
+        _ => false,
+    };
+    if is_named {
+        plan.warn(
+            definition.place,
+            "the names in this type are no constants in Rust: they are for a type that has a name",
+        )?;
+    }
+    Ok(())
+}
+
 // Whether the type in Rust has the range of an INTEGER.
 fn has_range(definition: &Type<'_>) -> bool {
     match &definition.kind {

@@ -56,7 +56,7 @@ fn append_field_at(draft: &mut Draft, subject: Subject<'_>) -> Result<(), AllocE
     for index in 0..components.len() {
         let place = subject.body.table.get(index).copied().unwrap_or(index);
         if let Some(component) = components.get(place) {
-            append_arm(draft, component, index)?;
+            append_arm(draft, component, index, place)?;
         }
     }
     draft.line(3, "_ => None,")?;
@@ -65,10 +65,15 @@ fn append_field_at(draft: &mut Draft, subject: Subject<'_>) -> Result<(), AllocE
     draft.blank()
 }
 
-// Appends the line of a component in the table.
-fn append_arm(draft: &mut Draft, component: &Component, index: usize) -> Result<(), AllocError> {
+// Appends the line of a component at an index of the table, with its index in the definition.
+fn append_arm(
+    draft: &mut Draft,
+    component: &Component,
+    index: usize,
+    place: usize,
+) -> Result<(), AllocError> {
     let opening = arm_opening(draft, component, index)?;
-    let number = format!(in draft.alloc(); "{index}")?;
+    let number = format!(in draft.alloc(); "{place}")?;
     let name = quoted(draft, component.name.as_str())?;
     let arguments = [number.as_str(), name.as_str()];
     match &component.usage {
