@@ -1,13 +1,14 @@
 -- The positions of broken rules.
-use Rattle.std.proofs.Common.{◌≡◌, ℕ, ◌+◌, List, Option, None, Some, false, true, refl, subst, sym}
-use Rattle.std.specs.Prelude.{IfSome}
-use Rattle.asn1_certificate_rules.specs.Departures.{Departs, IsInside, header_of, inside}
+use Rattle.std.proofs.Common.{◌≡◌, ℕ, ◌+◌, ◌≤◌, List, Option, None, Some, arith, false, length, true, refl, subst, sym}
+use Rattle.asn1_certificate_rules.proofs.SetOrders.{out_of_order-within}
+use Rattle.asn1_certificate_rules.specs.Departures.{Departs, IsInside, behind, header_of, here, in_header, inside}
+use Rattle.asn1_certificate_rules.specs.Headers.{BreaksHeader}
 use Rattle.asn1_certificate_rules.specs.declared.broken_rules.BrokenRule.{BrokenRule}
 use Rattle.asn1_certificate_rules.specs.declared.notation.Part.{Part}
-use Rattle.asn1_certificate_rules.specs.Rules.{IsOf, IsOfReading}
+use Rattle.asn1_certificate_rules.specs.Rules.{BreaksRule}
 use Rattle.asn1_certificate_rules.specs.declared.rule.Rule.{Rule}
-use Rattle.asn1_certificate_rules.specs.declared.rule.RuleSet.{RuleSet}
-use Rattle.asn1_certificate_rules.specs.declared.rule.RuleSet.TheVariants.{All, OfReading}
+use Rattle.asn1_certificate_rules.specs.declared.rule.Rule.TheVariants as rule
+use Rattle.asn1_der_items.proofs.TrailingBytes.{element_at-shorter, parts_fit}
 use Rattle.asn1_der_items.specs.Elements.{Element, element_at}
 
 -- no element begins where finding one fails
@@ -21,32 +22,52 @@ none_found bytes fails = by (element_at bytes) (λ e at. never (fails e at))
     by None not = refl
     by (Some e) not = absurd (not e refl)
 
+-- a rule that a header breaks is broken in the bytes
+header-within : (bytes : List ℕ) (r : Rule) (position : ℕ) → BreaksHeader bytes r position → position ≤ length bytes
+header-within bytes rule.LongIdentifier position breaks = omega (arith, breaks.1)
+header-within bytes rule.IndefiniteLength position breaks = omega (arith, breaks.at)
+header-within bytes rule.LongLength position breaks = omega (arith, breaks.at)
+header-within bytes r position breaks = absurd breaks
+
+-- a rule that an element breaks by itself is broken in its octets
+element-within : (part : Part) (header : ℕ) (e : Element) (r : Rule) (position : ℕ) → BreaksRule part header e r position →
+    position ≤ header + length e.contents
+element-within part header e rule.PaddedInteger position breaks = omega (arith, breaks.2)
+element-within part header e rule.PaddedArc position breaks = omega (arith, breaks.1.1.inside, breaks.1.2)
+element-within part header e rule.OtherTrue position breaks = omega (arith, breaks.2)
+element-within part header e rule.ConstructedString position breaks = omega (arith, breaks.2)
+element-within part header e rule.UnusedBit position breaks = omega (arith, breaks.2)
+element-within part header e rule.TrailingZero position breaks = omega (arith, breaks.3)
+element-within part header e rule.Default position breaks = omega (arith, breaks.1)
+element-within part header e rule.SetOrder position breaks = omega (arith, out_of_order-within e.contents breaks.1.0 breaks.1.1, breaks.1.2)
+element-within part header e rule.GeneralizedTime position breaks = omega (arith, breaks.2)
+element-within part header e rule.UtcTime position breaks = omega (arith, breaks.2)
+element-within part header e r position breaks = absurd breaks
+
+-- a departure is in the bytes
+pub departs-within : (depth : ℕ) (part : Part) (bytes : List ℕ) (r : Rule) (position : ℕ) → Departs depth part bytes r position →
+    position ≤ length bytes
+departs-within _ _ _ _ _ (in_header depth part bytes r position none breaks) = header-within bytes r position breaks
+departs-within _ _ _ _ _ (here depth part bytes e r position at breaks) =
+    omega (arith, element-within part (header_of bytes e) e r position breaks, parts_fit bytes e at)
+departs-within _ _ _ _ _ (behind depth part bytes e r later at departs) =
+    omega (arith, departs-within depth _ e.rest r later departs, element_at-shorter bytes e at)
+departs-within _ _ _ _ _ (inside below part bytes e r later at opened departs) =
+    omega (arith, departs-within below _ e.contents r later departs, parts_fit bytes e at)
+
 -- a broken rule is the same at another name of its position
-pub at_position : (depth : ℕ) (part : Part) (bytes : List ℕ) (rule : Rule) (position other : ℕ) → position ≡ other →
-    Departs depth part bytes rule position → Departs depth part bytes rule other
-at_position depth part bytes rule position other same departs = subst (λ (p : ℕ). Departs depth part bytes rule p) same departs
+pub at_position : (depth : ℕ) (part : Part) (bytes : List ℕ) (r : Rule) (position other : ℕ) → position ≡ other →
+    Departs depth part bytes r position → Departs depth part bytes r other
+at_position depth part bytes r position other same departs = subst (λ (p : ℕ). Departs depth part bytes r p) same departs
 
 -- what holds of a rule and a position behind some bytes holds of the broken rule that was moved there
-pub moved : (found : Option BrokenRule) (depth : ℕ) (part : Part) (bytes : List ℕ) (count : ℕ) (d : BrokenRule) →
-    IfSome found (λ m. (m.rule ≡ d.rule) × (m.position ≡ count + d.position)) → Departs depth part bytes d.rule (count + d.position) →
-    IfSome found (λ m. Departs depth part bytes m.rule m.position)
-moved None depth part bytes count d is departs = tt
-moved (Some m) depth part bytes count d is departs =
-    subst (λ (r : Rule). Departs depth part bytes r m.position) (sym is.0) (subst (λ (p : ℕ). Departs depth part bytes d.rule p) (sym is.1) departs)
+pub moved : (m : BrokenRule) (depth : ℕ) (part : Part) (bytes : List ℕ) (r : Rule) (position : ℕ) → m.rule ≡ r → m.position ≡ position →
+    Departs depth part bytes r position → Departs depth part bytes m.rule m.position
+moved m depth part bytes r position same there departs =
+    subst (λ (s : Rule). Departs depth part bytes s m.position) (sym same) (subst (λ (p : ℕ). Departs depth part bytes r p) (sym there) departs)
 
 -- what is found inside the element with which bytes begin, in the bytes
-pub from_inside : (depth : ℕ) (part : Part) (bytes : List ℕ) (e : Element) (rule : Rule) (position : ℕ) → element_at bytes ≡ Some e →
-    IsInside depth part e rule position → Departs depth part bytes rule (header_of bytes e + position)
-from_inside depth part bytes e rule position at f =
-    subst (λ (d : ℕ). Departs d part bytes rule (header_of bytes e + position)) (sym f.deeper) (inside f.below part bytes e rule position at f.opened f.departs)
-
--- a rule of reading is one of any set
-pub of_any : (rules : RuleSet) (rule : Rule) → IsOfReading rule → IsOf rules rule
-of_any All rule is = tt
-of_any OfReading rule is = is
-
--- the rule that was moved is one of a set
-pub moved_rule : (found : Option BrokenRule) (rules : RuleSet) (count : ℕ) (d : BrokenRule) →
-    IfSome found (λ m. (m.rule ≡ d.rule) × (m.position ≡ count + d.position)) → IsOf rules d.rule → IfSome found (λ m. IsOf rules m.rule)
-moved_rule None rules count d is asked = tt
-moved_rule (Some m) rules count d is asked = subst (λ rule. IsOf rules rule) (sym is.0) asked
+pub from_inside : (depth : ℕ) (part : Part) (bytes : List ℕ) (e : Element) (r : Rule) (position : ℕ) → element_at bytes ≡ Some e →
+    IsInside depth part e r position → Departs depth part bytes r (header_of bytes e + position)
+from_inside depth part bytes e r position at f =
+    subst (λ (d : ℕ). Departs d part bytes r (header_of bytes e + position)) (sym f.deeper) (inside f.below part bytes e r position at f.opened f.departs)

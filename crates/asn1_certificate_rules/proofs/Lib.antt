@@ -1,1 +1,4 @@
 mod BrokenRulePositions
+mod HeaderPositions
+mod KeptRules
+mod SetOrders

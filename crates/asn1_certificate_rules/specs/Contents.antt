@@ -22,6 +22,10 @@ pub record IsPaddedArc (octets : List ℕ) (index : ℕ) : Type 0 where
   pub zero : slice_index octets index ≡ 128
   pub first : (index ≡ 0) ⊎ (slice_index octets (index - 1) < 128)
 
+-- no number among the octets is padded
+abbrev pub HasNoPaddedArc : List ℕ → Type 0
+HasNoPaddedArc octets = (index : ℕ) → IsPaddedArc octets index → ⊥
+
 -- The first octet is the number of unused bits of the last one, fewer than eight (8.6.2), and an unused bit is 1 (11.2.1).
 pub record HasUnusedBit (octets : List ℕ) : Type 0 where
   pub below : slice_index octets 0 < 8

@@ -2,9 +2,10 @@
 use Rattle.std.specs.Prelude.{◌≡◌, ℕ, suc, ◌+◌, ◌-◌, List, None, Some, length, true}
 use Rattle.asn1_certificate_rules.specs.Headers.{BreaksHeader}
 use Rattle.asn1_certificate_rules.specs.Notation.{opens, part_behind, part_inside}
-use Rattle.asn1_certificate_rules.specs.Rules.{BreaksRule}
+use Rattle.asn1_certificate_rules.specs.Rules.{BreaksRule, IsOf}
 use Rattle.asn1_certificate_rules.specs.declared.notation.Part.{Part}
 use Rattle.asn1_certificate_rules.specs.declared.rule.Rule.{Rule}
+use Rattle.asn1_certificate_rules.specs.declared.rule.RuleSet.{RuleSet}
 use Rattle.asn1_der_items.specs.Elements.{Element, element_at}
 
 -- how many octets of an element are before its contents octets
@@ -31,3 +32,11 @@ pub record IsInside (depth : ℕ) (part : Part) (e : Element) (rule : Rule) (pos
   pub deeper : depth ≡ suc below
   pub opened : opens part e ≡ true
   pub departs : Departs below (part_inside part e) e.contents rule position
+
+-- The bytes, which have this part of a certificate first, break none of these rules, down to this depth.
+abbrev pub KeepsRules : RuleSet → ℕ → Part → List ℕ → Type 0
+KeepsRules rules depth part bytes = (rule : Rule) (position : ℕ) → IsOf rules rule → Departs depth part bytes rule position → ⊥
+
+-- What is inside an element at this place breaks none of them.
+abbrev pub InsideKeepsRules : RuleSet → ℕ → Part → Element → Type 0
+InsideKeepsRules rules depth part e = (rule : Rule) (position : ℕ) → IsOf rules rule → IsInside depth part e rule position → ⊥

@@ -43,3 +43,7 @@ BreaksHeader bytes LongIdentifier position = HasLongIdentifier bytes × (positio
 BreaksHeader bytes IndefiniteLength position = HasLength IsIndefinite bytes position
 BreaksHeader bytes LongLength position = HasLength IsLongLength bytes position
 BreaksHeader bytes _ position = ⊥
+
+-- the identifier and the length with which bytes begin break none of them
+abbrev pub HeaderKeepsRules : List ℕ → Type 0
+HeaderKeepsRules bytes = (rule : Rule) (position : ℕ) → BreaksHeader bytes rule position → ⊥

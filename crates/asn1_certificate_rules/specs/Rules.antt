@@ -63,3 +63,16 @@ IsOfReading _ = ⊤
 abbrev pub IsOf : RuleSet → Rule → Type 0
 IsOf All rule = ⊤
 IsOf OfReading rule = IsOfReading rule
+
+-- The element breaks none of these rules by itself.
+abbrev pub ElementKeepsRules : RuleSet → Part → ℕ → Element → Type 0
+ElementKeepsRules rules part header e = (rule : Rule) (position : ℕ) → IsOf rules rule → BreaksRule part header e rule position → ⊥
+
+-- The element breaks none of these rules by itself, but for that on components with their DEFAULT value.
+abbrev pub BreaksDefaultAlone : RuleSet → Part → ℕ → Element → Type 0
+BreaksDefaultAlone rules part header e =
+    (rule : Rule) (position : ℕ) → IsOf rules rule → BreaksRule part header e rule position → rule ≡ Default
+
+-- The element breaks no rule by itself but those of reading.
+abbrev pub BreaksReadingAlone : Part → ℕ → Element → Type 0
+BreaksReadingAlone part header e = (rule : Rule) (position : ℕ) → BreaksRule part header e rule position → IsOfReading rule

@@ -20,3 +20,7 @@ pub data IsOutOfOrder : List ℕ → ℕ → Type 0 where
       IsOutOfOrder bytes (length bytes - length e.rest)
   behind : (bytes : List ℕ) (e : Element) (position : ℕ) → element_at bytes ≡ Some e → IsOutOfOrder e.rest position →
       IsOutOfOrder bytes (length bytes - length e.rest + position)
+
+-- At no position is there one.
+abbrev pub IsInOrder : List ℕ → Type 0
+IsInOrder bytes = (position : ℕ) → IsOutOfOrder bytes position → ⊥

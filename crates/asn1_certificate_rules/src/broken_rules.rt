@@ -1,6 +1,6 @@
 //! The first rule of DER that bytes break.
-ghost use Rattle.std.specs.Prelude.{◌≡◌, ◌+◌, IfSome};
-ghost use Rattle.asn1_certificate_rules.specs.Departures.{Departs, IsInside};
+ghost use Rattle.std.specs.Prelude.{◌≡◌, ◌+◌, ◌^◌, ◌<◌, IfSome, MatchOption};
+ghost use Rattle.asn1_certificate_rules.specs.Departures.{Departs, InsideKeepsRules, IsInside, KeepsRules};
 ghost use Rattle.asn1_certificate_rules.specs.Rules.{IsOf};
 ghost use Rattle.asn1_der_items.specs.Elements.{element_of};
 
@@ -22,20 +22,23 @@ pub struct BrokenRule {
 }
 
 impl BrokenRule {
-    /// The same rule behind this many bytes, if its position is one that a `usize` has.
-    fn after(self, count: usize) -> Option<BrokenRule>
-        ensures { IfSome result (λ d. (d.rule ≡ self.rule) × (d.position ≡ count + self.position)) }
+    /// The same rule behind this many bytes.
+    fn after(self, count: usize) -> BrokenRule
+        requires { count + self.position < 2 ^ 64 }
+        ensures rule { result.rule ≡ self.rule }
+        ensures position { result.position ≡ count + self.position }
     {
-        Some(BrokenRule {
+        BrokenRule {
             rule: self.rule,
-            position: count.checked_add(self.position)?,
-        })
+            position: count + self.position,
+        }
     }
 }
 
-/// The first of these rules that bytes break which have this part of a certificate first. It looks into elements down to this depth.
+/// The first of these rules that bytes break which have this part of a certificate first, if they break one. It looks into elements
+/// down to this depth.
 ///
-/// There is none if the bytes end inside an element, or are no element for another reason, before the first rule that they break.
+/// Where an element is due and none begins, the identifier and the length there are the last octets that it looks at.
 #[cycle(broken_rules)]
 pub fn first_broken_rule(
     bytes: &[u8],
@@ -43,7 +46,8 @@ pub fn first_broken_rule(
     rules: RuleSet,
     depth: usize,
 ) -> Option<BrokenRule>
-    ensures broken { IfSome result (λ d. Departs depth part bytes.now d.rule d.position) }
+    ensures broken { MatchOption result (KeepsRules rules depth part bytes.now)
+        (λ d. Departs depth part bytes.now d.rule d.position) }
     ensures asked { IfSome result (λ d. IsOf rules d.rule) }
 {
     let mut left = bytes;
@@ -51,14 +55,14 @@ pub fn first_broken_rule(
     while !left.is_empty() {
         let before = bytes.len() - left.len();
         let Ok(element) = find_element(left) else {
-            return broken_header(left)?.after(before);
+            return Some(broken_header(left)?.after(before));
         };
         let header = left.len() - element.rest.len() - element.contents.len();
         if let Some(broken) = broken_rule(rules, place, header, element) {
-            return broken.after(before);
+            return Some(broken.after(before));
         }
         if let Some(broken) = broken_inside(element, place, rules, depth) {
-            return broken.after(before + header);
+            return Some(broken.after(before + header));
         }
         place = place.behind(element);
         left = element.rest;
@@ -74,8 +78,9 @@ fn broken_inside(
     rules: RuleSet,
     depth: usize,
 ) -> Option<BrokenRule>
-    ensures inside { IfSome result (λ d.
-        IsInside depth part (element_of element.entry) d.rule d.position) }
+    ensures inside { MatchOption result
+        (InsideKeepsRules rules depth part (element_of element.entry))
+        (λ d. IsInside depth part (element_of element.entry) d.rule d.position) }
     ensures asked { IfSome result (λ d. IsOf rules d.rule) }
 {
     if depth == 0 || !part.opens(element) {

@@ -1,10 +1,10 @@
 //! Contents octets of numbers, BOOLEANs and bits that are not those of DER.
-ghost use Rattle.std.specs.Prelude.{◌≡◌, ◌<◌, ◌^◌, true};
+ghost use Rattle.std.specs.Prelude.{◌≡◌, ◌<◌, ◌^◌, Decides};
 ghost use Rattle.asn1_certificate_rules.specs.Contents.{EndsWithZero, HasUnusedBit, IsOtherTrue, IsPadded};
 
 /// Whether a BOOLEAN is a TRUE of another octet than ff.
 pub(crate) fn is_other_true(octets: &[u8]) -> bool
-    ensures { result ≡ true → IsOtherTrue octets.now }
+    ensures { Decides result (IsOtherTrue octets.now) }
 {
     match octets {
         [octet] => *octet != 0 && *octet != 255,
@@ -14,7 +14,7 @@ pub(crate) fn is_other_true(octets: &[u8]) -> bool
 
 /// Whether an integer has more octets than it needs: the first nine bits are all zeros or all ones.
 pub(crate) fn is_padded(octets: &[u8]) -> bool
-    ensures { result ≡ true → IsPadded octets.now }
+    ensures { Decides result (IsPadded octets.now) }
 {
     match octets {
         [first, second, ..] => {
@@ -26,7 +26,7 @@ pub(crate) fn is_padded(octets: &[u8]) -> bool
 
 /// Whether an unused bit of a BIT STRING is not zero.
 pub(crate) fn has_unused_bit(octets: &[u8]) -> bool
-    ensures { result ≡ true → HasUnusedBit octets.now }
+    ensures { Decides result (HasUnusedBit octets.now) }
 {
     match octets {
         [unused, .., last] => *unused < 8 && *last % unit(*unused) != 0,
@@ -36,7 +36,7 @@ pub(crate) fn has_unused_bit(octets: &[u8]) -> bool
 
 /// Whether the last bit of a BIT STRING, which has bits, is zero.
 pub(crate) fn ends_with_zero(octets: &[u8]) -> bool
-    ensures { result ≡ true → EndsWithZero octets.now }
+    ensures { Decides result (EndsWithZero octets.now) }
 {
     match octets {
         [unused, .., last] => *unused < 8 && *last / unit(*unused) % 2 == 0,

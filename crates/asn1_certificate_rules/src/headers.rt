@@ -1,6 +1,6 @@
 //! The identifier and the length of an element that is not one of DER.
-ghost use Rattle.std.specs.Prelude.{◌≡◌, IfSome, MatchOption, None, Some, true};
-ghost use Rattle.asn1_certificate_rules.specs.Headers.{BreaksHeader, HasLongIdentifier, IsIndefinite, IsLongLength, behind_identifier, behind_septets};
+ghost use Rattle.std.specs.Prelude.{◌≡◌, Decides, IfSome, MatchOption, None, Some};
+ghost use Rattle.asn1_certificate_rules.specs.Headers.{BreaksHeader, HasLongIdentifier, HeaderKeepsRules, IsIndefinite, IsLongLength, behind_identifier, behind_septets};
 ghost use Rattle.asn1_certificate_rules.specs.Rules.{IsOfReading};
 
 use crate::broken_rules::BrokenRule;
@@ -8,7 +8,8 @@ use crate::rule::Rule;
 
 /// The rule that the identifier or the length breaks with which bytes begin, if they break one.
 pub(crate) fn broken_header(bytes: &[u8]) -> Option<BrokenRule>
-    ensures broken { IfSome result (λ d. BreaksHeader bytes.now d.rule d.position) }
+    ensures broken { MatchOption result (HeaderKeepsRules bytes.now)
+        (λ d. BreaksHeader bytes.now d.rule d.position) }
     ensures of_reading { IfSome result (λ d. IsOfReading d.rule) }
 {
     if has_long_identifier(bytes) {
@@ -18,7 +19,7 @@ pub(crate) fn broken_header(bytes: &[u8]) -> Option<BrokenRule>
         });
     }
     let rest = behind_identifier(bytes)?;
-    let position = bytes.len().checked_sub(rest.len())?;
+    let position = bytes.len() - rest.len();
     if is_indefinite(rest) {
         return Some(BrokenRule {
             rule: Rule::IndefiniteLength,
@@ -37,7 +38,7 @@ pub(crate) fn broken_header(bytes: &[u8]) -> Option<BrokenRule>
 /// Whether a number that has octets of its own is not in its shortest form: its first septet is zero, or it is below 31 and fits into
 /// the first octet.
 fn has_long_identifier(bytes: &[u8]) -> bool
-    ensures { result ≡ true → HasLongIdentifier bytes.now }
+    ensures { Decides result (HasLongIdentifier bytes.now) }
 {
     match bytes {
         [first, next, ..] => *first % 32 == 31 && (*next == 128 || *next < 31),
@@ -79,7 +80,7 @@ fn behind_septets(octets: &[u8]) -> Option<&[u8]>
 
 /// Whether bytes begin with the octet of an indefinite length.
 fn is_indefinite(bytes: &[u8]) -> bool
-    ensures { result ≡ true → IsIndefinite bytes.now }
+    ensures { Decides result (IsIndefinite bytes.now) }
 {
     matches!(bytes, [128, ..])
 }
@@ -87,7 +88,7 @@ fn is_indefinite(bytes: &[u8]) -> bool
 /// Whether bytes begin with a definite length that has more octets than it needs: its number begins with an octet of zero, or is
 /// below 128.
 fn is_long_length(bytes: &[u8]) -> bool
-    ensures { result ≡ true → IsLongLength bytes.now }
+    ensures { Decides result (IsLongLength bytes.now) }
 {
     match bytes {
         [129, octet, ..] => *octet < 128,

@@ -10,10 +10,11 @@
 //! extensions. Of an element it looks at the identifier and the length, at the contents octets of the types of the universal class,
 //! and at the components that have a DEFAULT.
 //!
-//! The contracts promise that the octets break the rule that is answered, at its position (`broken` of [`first_broken_rule`], by
-//! `Departs` of `specs/Departures.antt`, over `specs/Headers.antt` and `specs/Rules.antt`), and that the rule is one of those that were
-//! asked for (`asked`). No contract says that a rule which octets break is found. A caller who wants the very octets of DER writes the
-//! value again and compares.
+//! The contracts promise that the octets break the rule that is answered, at its position, and that they break none of the rules if
+//! none is answered (`broken` of [`first_broken_rule`], by `Departs` and `KeepsRules` of `specs/Departures.antt`, over
+//! `specs/Headers.antt` and `specs/Rules.antt`); and that the rule is one of those that were asked for (`asked`). No contract says that
+//! no other rule is broken before the one that is answered. A caller who wants the very octets of DER writes the value again and
+//! compares.
 #![tactic(auto)]
 
 mod broken_rules;

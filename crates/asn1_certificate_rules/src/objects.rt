@@ -1,10 +1,10 @@
 //! Object identifiers with a number that is padded.
-ghost use Rattle.std.specs.Prelude.{IfSome};
-ghost use Rattle.asn1_certificate_rules.specs.Contents.{IsPaddedArc};
+ghost use Rattle.std.specs.Prelude.{MatchOption};
+ghost use Rattle.asn1_certificate_rules.specs.Contents.{HasNoPaddedArc, IsPaddedArc};
 
 /// The index of an octet of zero, but for bit 8, with which a number begins.
 pub(crate) fn padded_arc(octets: &[u8]) -> Option<usize>
-    ensures { IfSome result (IsPaddedArc octets.now) }
+    ensures { MatchOption result (HasNoPaddedArc octets.now) (IsPaddedArc octets.now) }
 {
     for index in 0..octets.len() {
         if octets[index] == 128 && (index == 0 || octets[index - 1] < 128) {

@@ -1,6 +1,7 @@
 //! The rule that an element breaks.
-ghost use Rattle.std.specs.Prelude.{◌≡◌, IfSome, ℕ, false, true};
-ghost use Rattle.asn1_certificate_rules.specs.Rules.{BreaksRule, IsDefault, IsFalse, IsOf, IsOfReading};
+ghost use Rattle.std.specs.Prelude.{◌≡◌, ◌≢◌, ◌+◌, ◌^◌, ◌<◌, Decides, IfSome, MatchOption, ℕ, false, length, true};
+ghost use Rattle.asn1_certificate_rules.specs.Rules.{BreaksDefaultAlone, BreaksReadingAlone, BreaksRule, ElementKeepsRules, IsDefault, IsFalse, IsOf, IsOfReading};
+ghost use Rattle.asn1_certificate_rules.specs.declared.rule.RuleSet.TheVariants.{All};
 ghost use Rattle.asn1_der_items.specs.Elements.{element_of};
 
 use crate::broken_rules::BrokenRule;
@@ -21,8 +22,10 @@ pub(crate) fn broken_rule(
     header: usize,
     element: Element<'_>,
 ) -> Option<BrokenRule>
-    ensures broken { IfSome result (λ d.
-        BreaksRule part header (element_of element.entry) d.rule d.position) }
+    requires fits { header + length element.contents.now < 2 ^ 64 }
+    ensures broken { MatchOption result
+        (ElementKeepsRules rules part header (element_of element.entry))
+        (λ d. BreaksRule part header (element_of element.entry) d.rule d.position) }
     ensures asked { IfSome result (λ d. IsOf rules d.rule) }
 {
     if is_default(part, element) {
@@ -39,7 +42,7 @@ pub(crate) fn broken_rule(
 
 /// Whether a component has its DEFAULT value.
 fn is_default(part: Part, element: Element<'_>) -> bool
-    ensures { result ≡ true → IsDefault part (element_of element.entry) }
+    ensures { Decides result (IsDefault part (element_of element.entry)) }
 {
     match part {
         Part::Version => {
@@ -55,16 +58,18 @@ fn is_default(part: Part, element: Element<'_>) -> bool
 
 /// Whether an element is a FALSE.
 fn is_false(element: Element<'_>) -> bool
-    ensures { result ≡ true → IsFalse (element_of element.entry) }
+    ensures { Decides result (IsFalse (element_of element.entry)) }
 {
     !element.constructed && element.tag == Tag::BOOL && element.contents == [0].as_slice()
 }
 
 /// The rule that a constructed element breaks.
 fn broken_by_constructed(part: Part, header: usize, element: Element<'_>) -> Option<BrokenRule>
-    requires { element.constructed ≡ true }
-    ensures broken { IfSome result (λ d.
-        BreaksRule part header (element_of element.entry) d.rule d.position) }
+    requires constructed { element.constructed ≡ true }
+    requires fits { header + length element.contents.now < 2 ^ 64 }
+    ensures broken { MatchOption result
+        (BreaksDefaultAlone All part header (element_of element.entry))
+        (λ d. BreaksRule part header (element_of element.entry) d.rule d.position) }
     ensures of_reading { IfSome result (λ d. IsOfReading d.rule) }
 {
     if is_string(element.tag) {
@@ -77,7 +82,7 @@ fn broken_by_constructed(part: Part, header: usize, element: Element<'_>) -> Opt
         let index = out_of_order(element.contents)?;
         return Some(BrokenRule {
             rule: Rule::SetOrder,
-            position: header.checked_add(index)?,
+            position: header + index,
         });
     }
     None
@@ -90,9 +95,11 @@ fn broken_by_primitive(
     header: usize,
     element: Element<'_>,
 ) -> Option<BrokenRule>
-    requires { element.constructed ≡ false }
-    ensures broken { IfSome result (λ d.
-        BreaksRule part header (element_of element.entry) d.rule d.position) }
+    requires primitive { element.constructed ≡ false }
+    requires fits { header + length element.contents.now < 2 ^ 64 }
+    ensures broken { MatchOption result
+        (BreaksDefaultAlone rules part header (element_of element.entry))
+        (λ d. BreaksRule part header (element_of element.entry) d.rule d.position) }
     ensures asked { IfSome result (λ d. IsOf rules d.rule) }
 {
     if element.tag == Tag::BIT_STRING {
@@ -102,7 +109,7 @@ fn broken_by_primitive(
         let index = padded_arc(element.contents)?;
         return Some(BrokenRule {
             rule: Rule::PaddedArc,
-            position: header.checked_add(index)?,
+            position: header + index,
         });
     }
     let rule = broken_by_contents(rules, element)?;
@@ -116,11 +123,13 @@ fn broken_by_primitive(
 fn broken_by_bits(part: Part, header: usize, element: Element<'_>) -> Option<BrokenRule>
     requires primitive { element.constructed ≡ false }
     requires bits { element.tag ≡ Tag.BIT_STRING }
-    ensures broken { IfSome result (λ d.
-        BreaksRule part header (element_of element.entry) d.rule d.position) }
+    requires fits { header + length element.contents.now < 2 ^ 64 }
+    ensures broken { MatchOption result
+        (BreaksDefaultAlone All part header (element_of element.entry))
+        (λ d. BreaksRule part header (element_of element.entry) d.rule d.position) }
     ensures of_reading { IfSome result (λ d. IsOfReading d.rule) }
 {
-    let position = header.checked_add(element.contents.len().saturating_sub(1))?;
+    let position = header + element.contents.len().saturating_sub(1);
     if has_unused_bit(element.contents) {
         return Some(BrokenRule {
             rule: Rule::UnusedBit,
@@ -138,9 +147,12 @@ fn broken_by_bits(part: Part, header: usize, element: Element<'_>) -> Option<Bro
 
 /// The rule that the contents octets of another primitive element break, at the first of them.
 fn broken_by_contents(rules: RuleSet, element: Element<'_>) -> Option<Rule>
-    requires { element.constructed ≡ false }
-    ensures broken { (part : Part) (header : ℕ) → IfSome result (λ rule.
-        BreaksRule part header (element_of element.entry) rule header) }
+    requires primitive { element.constructed ≡ false }
+    requires no_bits { element.tag ≢ Tag.BIT_STRING }
+    requires no_object { element.tag ≢ Tag.OBJECT_IDENTIFIER }
+    ensures broken { (part : Part) (header : ℕ) →
+        MatchOption result (BreaksDefaultAlone rules part header (element_of element.entry))
+        (λ rule. BreaksRule part header (element_of element.entry) rule header) }
     ensures asked { IfSome result (λ rule. IsOf rules rule) }
 {
     if element.tag == Tag::BOOL && is_other_true(element.contents) {
@@ -161,8 +173,9 @@ fn broken_by_contents(rules: RuleSet, element: Element<'_>) -> Option<Rule>
 /// The rule that the contents octets of a time break, at the first of them.
 fn broken_by_time(element: Element<'_>) -> Option<Rule>
     requires { element.constructed ≡ false }
-    ensures { (part : Part) (header : ℕ) → IfSome result (λ rule.
-        BreaksRule part header (element_of element.entry) rule header) }
+    ensures { (part : Part) (header : ℕ) →
+        MatchOption result (BreaksReadingAlone part header (element_of element.entry))
+        (λ rule. BreaksRule part header (element_of element.entry) rule header) }
 {
     if element.tag == Tag::UTC_TIME && !is_utc_time(element.contents) {
         return Some(Rule::UtcTime);

@@ -1,13 +1,13 @@
 //! Sets whose elements are not in ascending order.
-ghost use Rattle.std.specs.Prelude.{◌≡◌, IfSome};
-ghost use Rattle.asn1_certificate_rules.specs.Sets.{IsOutOfOrder, octets_of, precedes};
+ghost use Rattle.std.specs.Prelude.{◌≡◌, MatchOption};
+ghost use Rattle.asn1_certificate_rules.specs.Sets.{IsInOrder, IsOutOfOrder, octets_of, precedes};
 ghost use Rattle.asn1_der_items.specs.Elements.{element_of};
 
 use asn1_der_items::{Element, find_element};
 
 /// The position of the first element that is below the one before it by its encoding, and not above it by its tag.
 pub(crate) fn out_of_order(contents: &[u8]) -> Option<usize>
-    ensures { IfSome result (IsOutOfOrder contents.now) }
+    ensures { MatchOption result (IsInOrder contents.now) (IsOutOfOrder contents.now) }
 {
     let mut left = contents;
     while let Ok(first) = find_element(left) {

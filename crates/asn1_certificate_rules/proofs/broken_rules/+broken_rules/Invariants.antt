@@ -1,5 +1,5 @@
 use Rattle.std.proofs.Common.{ℕ, ◌+◌, ◌-◌, ◌*◌, ◌≤◌, length}
-use Rattle.asn1_certificate_rules.specs.Departures.{Departs}
+use Rattle.asn1_certificate_rules.specs.Departures.{Departs, KeepsRules}
 use Rattle.asn1_certificate_rules.specs.declared.rule.Rule.{Rule}
 use Rattle.asn1_certificate_rules.proofs.broken_rules.+broken_rules.Given as goal
 
@@ -15,6 +15,7 @@ invariant-first_broken_rule-loop-left l = record {
   fits : length l.left ≤ length l.bytes;
   departures : (rule : Rule) (position : ℕ) → Departs l.depth l.place l.left rule position →
       Departs l.depth l.fn.part l.bytes rule (length l.bytes - length l.left + position);
+  kept : KeepsRules l.rules l.depth l.place l.left → KeepsRules l.rules l.depth l.fn.part l.bytes;
 }
 
 abbrev pub decreases-first_broken_rule-loop-left : goal.decreases-first_broken_rule-loop-left

@@ -1,4 +1,6 @@
 use Rattle.std.proofs.Common.{◌≡◌, ◌<◌, ℕ, List, arith, length, subst, sym, ◌∙◌}
+use Rattle.asn1_certificate_rules.proofs.BrokenRulePositions.{none_found}
+use Rattle.asn1_certificate_rules.proofs.SetOrders.{more_elements-in_order, no_element-in_order, one_element-in_order}
 use Rattle.asn1_certificate_rules.specs.Sets.{IsOutOfOrder, behind, second}
 use Rattle.asn1_der_items.proofs.TrailingBytes.{element_at-shorter}
 use Rattle.asn1_der_items.specs.Elements.{element_of}
@@ -21,6 +23,15 @@ returns-then-precedes c =
     (c.loop-first.invariant.found _
     (second c.loop-first.left.now e (element_of c.in-Ok-find_element.second) c.in-Ok.ensures.only c.in-Ok-find_element.ensures.only (sym c.precedes.ensures ∙ c.if-precedes.true)))
 
+pub returns-in_default-find_element : goal.returns-in_default-find_element
+returns-in_default-find_element c =
+    c.loop-first.invariant.kept
+    (one_element-in_order c.loop-first.left.now (element_of c.in-Ok.first) c.in-Ok.ensures.only
+    (none_found c.in-Ok.first.rest.now c.in_default-find_element.ensures.found))
+
+pub returns : goal.returns
+returns c = c.loop-first.invariant.kept (no_element-in_order c.loop-first.left.now (none_found c.loop-first.left.now c.in_default.ensures.found))
+
 pub loop-first-smaller : goal.loop-first-smaller
 loop-first-smaller c = element_at-shorter c.loop-first.left.now (element_of c.in-Ok.first) c.in-Ok.ensures.only
 
@@ -32,4 +43,7 @@ loop-first-preserved c =
       fits = omega (arith, c.loop-first.invariant.fits, shorter);
       found = λ position out. at_position c.args.contents.now _ _ (omega (arith, c.loop-first.invariant.fits, shorter))
           (c.loop-first.invariant.found _ (behind c.loop-first.left.now e position c.in-Ok.ensures.only out));
+      kept = λ order. c.loop-first.invariant.kept
+          (more_elements-in_order c.loop-first.left.now e (element_of c.in-Ok-find_element.second) c.in-Ok.ensures.only c.in-Ok-find_element.ensures.only
+          (sym c.precedes.ensures ∙ c.if-precedes.false) order);
     }
