@@ -1,63 +1,41 @@
-//! Reading by index: types whose components are read into slots, and CHOICE types whose alternatives are read one line each, with
-//! no proof of their own.
+//! Reads components into slots and alternatives by their tags, with one line of the type for each index.
 //!
-//! A type of components has a slot for each component: an option that is empty at first. It states the list of its components
-//! once, each with its slot, and says in one line for each index how that component is read into its slot. This crate has the rest,
-//! proved once: it reads the components one after another, tells by tags whether a component is there, and makes the value of the
-//! slots.
+//! A slot is an option for a component, empty at first. A type lists its components once, each with its slot, and has a line for
+//! each index: the call that reads this component. A CHOICE lists its alternatives, each with the variant that makes a value of
+//! it, and has such lines too. A line that is one call of this crate needs no proof.
 //!
-//! A CHOICE states its cases once: each alternative with the variant that makes a value of it. It says in one line for each index
-//! how that alternative is read. This crate looks for the alternative of a tag in the trees of the type, or in a table of their
-//! leaves.
+//! | Item | What it is | In `specs/` |
+//! |---|---|---|
+//! | [`DecodeByIndex`] | a SEQUENCE or a group of additions: its slots, and the call for each component | `Slots` |
+//! | [`decode_fields_by_index`] | reads components, and answers errors unchanged | `ReadSlots` |
+//! | [`decode_fields_naming_errors`] | reads components; errors name the component | `ReadSlots` |
+//! | [`decode_sequence_naming_errors`] | reads a SEQUENCE | `ReadSlots` |
+//! | [`DecodeSetByIndex`], [`decode_set_by_index`] | a SET, whose components come in any order | `InSets` |
+//! | [`required`], [`optional`], [`addition`], [`group`] | read a component into its slot, and answer [`Decoded`] | `Filling` |
+//! | [`decode_unique`] | the same in a SET | `Filling` |
+//! | [`required_with_constraints`], [`decode_unique_with_constraints`] | the same, under constraints | `Filling` |
+//! | [`missing`], [`or_default`], [`or_empty`] | the name of an empty slot, and values with a default | `Slots` |
+//! | [`DecodeChoiceByIndex`], [`alternative`] | a CHOICE: its cases, and the call for each alternative | `Cases` |
+//! | [`from_tag_by_index`], [`from_tag_by_table`] | read the alternative that can begin with a tag | `TagIndices` |
+//! | [`index_of_tag`] | its index | `TagIndices` |
+//! | [`Tagging`] | the tagging of a component or an alternative | `Taggings` |
+//! | [`laws`] | a component with a default is absent if it has the default, and only then | `Slots` |
 //!
-//! | Item | What it is |
-//! |---|---|
-//! | [`DecodeByIndex`] | a SEQUENCE or a group of additions: its slots, and how its components are read into them |
-//! | [`decode_fields_by_index`] | reads the components of a SEQUENCE or a group, and answers errors unchanged |
-//! | [`decode_fields_naming_errors`], [`decode_sequence_naming_errors`] | read components, and a SEQUENCE under a tag; errors name the component |
-//! | [`DecodeSetByIndex`], [`decode_set_by_index`] | a SET, whose components come in any order; errors name the component |
-//! | [`required`], [`optional`], [`addition`], [`group`], [`decode_unique`] | read a component into its slot, and answer [`Decoded`] |
-//! | [`required_with_constraints`], [`decode_unique_with_constraints`] | the same under constraints of the component's own |
-//! | [`or_default`], [`or_empty`] | the value in the slot of a component with a default |
-//! | [`missing`] | the name of a required component of a SET, if its slot is empty |
-//! | [`DecodeChoiceByIndex`] | a CHOICE: its cases, and how its alternatives are read |
-//! | [`from_tag_by_index`], [`from_tag_by_table`] | read the alternative that can begin with a tag |
-//! | [`alternative`] | reads the value of an alternative |
-//! | [`index_of_tag`] | the index of the alternative that can begin with a tag |
-//! | [`Tagging`] | the tagging of a component or an alternative, as the type's list has it |
-//! | [`laws`] | a component with a default is absent if it has the default, and only then |
+//! The main promises (docs/PROMISES.md has more):
 //!
-//! The contracts promise the following, in these words:
-//!
-//! - A component and its slot are a `Slot` (`specs/Slots.antt`). A word for each kind of component makes one: `required_slot`,
-//!   `optional_slot`, `default_slot`, `empty_list_slot` (`DEFAULT {}`), `addition_slot`, `addition_with_default_slot`,
-//!   `addition_with_empty_list_slot` and `group_slot`. The components of the type are made of the list of slots, by
-//!   `sequence_of_slots`, `set_of_slots`, and with an extension marker by `extensible_sequence_after` and `extensible_set_after`.
-//! - A call that reads a component into its slot reads the component's records, and then the slot holds an equal value (`Fills`,
-//!   `FillsOptional`, `FillsGroup` of `specs/Filling.antt`). A success fills the slot of a required component, whatever was read. In
-//!   a SET the call refuses by name a component whose slot was full (`FillsOnce`).
-//! - The line of a type for an index has to promise that (`ReadsAt`, `ReadsOnceAt`), and to leave the other slots as they were
-//!   (`kept`: in a SEQUENCE those before the index, in a SET all others).
-//! - `full` makes the value of filled slots (`AreFilled`), and it is equal to each value that they hold (`made`). It has no error but
-//!   that memory ran out for a default. After a SEQUENCE or a group was read, each slot is filled. In a SET a required component may
-//!   be missing; [`decode_set_by_index`] asks `missing_at` for each index, and its error names the first (`RefusesMissing`).
-//! - A type chooses whether errors name its components. [`decode_fields_by_index`] answers an error of a component unchanged, which
-//!   is tested. The calls that name errors answer a component's name, unless the error is about more than the component (`named` of
-//!   [`decode_fields_naming_errors`], [`decode_unique`] and [`decode_unique_with_constraints`]); tests show that it is the name of
-//!   this component.
-//! - Both keep the contract of `decode_fields` of `asn1_dec`. [`decode_sequence_naming_errors`] and [`decode_set_by_index`] keep
-//!   that of `Decode`. They ask that the layout is that of the type's components (`IsLayoutOf`), and the kind the type's; of a SET
-//!   also that no component is a group (`has_no_group`), and that the slots are empty at first. The check finds all four for each
-//!   type, of any size.
-//! - An alternative and its variant are a `Case` (`specs/Cases.antt`), made by `variant`. The alternatives of the type are made of
-//!   the list of cases, by `choice_of_cases` and `extensible_choice_after`. The line of a CHOICE for an index has to promise that it
-//!   reads the alternative's value and makes the value of its case (`ReadsCaseAt`, `case_of`).
-//! - The alternative of a tag is found by its index (`IsIndexOf` of `specs/TagIndices.antt`); if no alternative has the tag, the
-//!   error is `NoValidChoice` with the name of the type. So [`from_tag_by_index`] and [`from_tag_by_table`] keep the contract of
-//!   `from_tag` of `asn1_dec`, if the type's trees are those of its cases (`are_of_cases`, which the check computes).
-//!
-//! The other words are those of `asn1_laws` and of the crates below it. The types of components and alternatives take memory, and
-//! [`from_tag_by_table`] does for its table.
+//! - [`decode_sequence_naming_errors`] and [`decode_set_by_index`] keep the contract of `Decode` of `asn1_dec` (`read`,
+//!   `after_reading`), and the calls for components alone that of `decode_fields` (`read`). Premises: the layout is that of the
+//!   type's components (`laid_out`) and their kind fits (`kind`); in a SET no component is a group (`no_group`), and slots are
+//!   empty at first (`empty_at_first`).
+//! - If the records of a valid value of a well-tagged type remain, and the value meets its type's invariant, a call for a
+//!   component leaves an equal value in the empty slot, or memory or depth refuses (`read`). If it may be absent, what follows
+//!   has to begin with none of its tags.
+//! - A success fills the slot of a required component (`is_full` of `Fills`). In a SET a component that comes again is refused by
+//!   its name (`twice` of `FillsOnce`).
+//! - No error of [`decode_fields_naming_errors`] or [`decode_unique`] lacks a name, unless it is about the decoder or the whole
+//!   input (`named`). Tests alone show that the name is that of this component.
+//! - [`from_tag_by_index`] and [`from_tag_by_table`] read as `from_tag` of `asn1_dec`, if the type's alternatives are those of
+//!   its cases (`read`). A tag that no alternative has is refused with the type's name, unless memory runs out (`unknown`).
 #![tactic(auto)]
 
 mod by_index;
