@@ -1,31 +1,30 @@
-//! Bounds of ASN.1 (X.680, 51.2 and 51.4): which whole numbers a constraint leaves.
+//! Bounds of whole numbers (X.680, 51.2 and 51.4), and their intersections.
 //!
-//! The types:
+//! | Item | What it is | In `specs/` |
+//! |---|---|---|
+//! | [`Bounded`] | no bound, a single value, or a range with or without each of its ends | `Ends`, `Members` |
+//! | `contains`, `in_bound` | whether a bound has a value, or a number of any size | `Members` |
+//! | `intersect` | the common members of two bounds | `Intersection` |
+//! | `range`, `effective_value` | the number of members, and the offset of a member | `Count` |
+//! | `range_in_bytes` | in how many octets both ends can be written, and with which sign | `Octets` |
+//! | [`WholeNumber`] | a type of ends: each built-in integer | |
+//! | [`FitsI128`] | one whose numbers an `i128` can hold | |
+//! | [`laws`] | derived comparisons, the text of a bound, and the number of each built-in integer | `BoundComparison`, `Text` |
 //!
-//! - [`Bounded`] is no bound, a single value, or a range with or without each of its ends. Its **members** are whole
-//!   numbers.
-//! - [`WholeNumber`] is what it asks of the type of its ends, which every built-in integer has. [`FitsI128`] is one whose
-//!   numbers an `i128` can hold, each of them.
+//! The main promises (docs/PROMISES.md has more):
 //!
-//! The promises, by the names of the clauses:
+//! - A bound contains a number if and only if it is between the ends (`inside` of [`Bounded::contains`]).
+//! - An intersection has the common members (`members`). `None` comes only if there are none (`disjoint`), and always then if
+//!   neither side is inverted (`inhabited`).
+//! - [`Bounded::range`] answers for each bound with both ends how many members it has, or the type's greatest number if there are
+//!   more (`closed`, `counted`).
+//! - [`Bounded::effective_value`] answers the offset of a value from the start of a range (`offset`). It requires that the value
+//!   is not below the start (`above`), and that the offset fits (`fits`).
+//! - `range_in_bytes` answers the least of 1, 2, 4 and 8 octets that holds both ends, or none, and whether numbers of the bound
+//!   need a sign (`octets`, `signed`).
 //!
-//! - `Bounded::contains` and its forms (`inside`) decide membership.
-//! - `Bounded::intersect` has the common members (`members`), and answers `None` only if there are none
-//!   (`disjoint`), and where neither side is inverted exactly then (`inhabited`). `shape` says which bound it is, and
-//!   `single` that a single stays one.
-//! - `Bounded::in_bound` is membership for a number of any size, and `Bounded::minimum` is the start or 0 (`start`, `zero`).
-//! - `Bounded::range` counts the members (`counted`), `Bounded::effective_value` gives offsets (`offset`), and
-//!   `Bounded::range_in_bytes` a sign and a width (`signed`, `octets`): each at every bound, and no sum wraps.
-//! - The laws `bounds_are_compared_by_ends` and `bounds_of_numbers_are_equal_only_to_themselves` cover the derived
-//!   comparisons, hash, copy and default of a bound; `whole_numbers_are_their_values` and
-//!   `whole_numbers_end_where_their_widths_do` cover the number of a value and the greatest one of each type. These
-//!   functions do nothing.
-//! - The `output` of its `Display` states the text of a bound byte for byte.
-//!
-//! No call takes memory. The words of the clauses are defined in `specs`: `Ends`, `Members` and `Count` for a bound,
-//! `Intersection` for two of them, `Octets` and `Text`, and `BoundComparison` for the answers of derived traits.
-//! `proofs/IntersectionLaws` proves, for the crates above, that intersection commutes and associates if a bound without
-//! members takes the place of none.
+//! For the crates above, `proofs/IntersectionLaws` proves that intersection commutes and associates if a bound without members
+//! takes the place of `None`. No call takes memory.
 #![tactic(auto)]
 
 pub use bounded::Bounded;

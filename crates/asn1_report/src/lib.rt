@@ -1,29 +1,37 @@
 //! Checks schema tables: reads lines on trees of tags, on bounds and on the components of types, and writes a verdict on each.
 //!
-//! `tree NAME TREE` asks of a tree of tags whether a tag occurs twice, which tag is the smallest, and how many leaves there are.
-//! `bound NAME B & B` asks what two bounds have in common. `sequence NAME` or `set NAME`, then a line `NAME PRESENCE TREE` for each
-//! component (`required`, `optional` or `default`), then `end`, asks which two components share a tag although X.680 forbids it,
-//! and whether the components are in canonical order. Any other line is answered by `line N: not understood`, and the check goes
-//! on; a table with such a line, or without `end`, is answered by `not checked`.
+//! | Lines | Answer |
+//! |---|---|
+//! | `tree NAME TREE` | whether a tag is there twice, the smallest tag, and the number of leaves |
+//! | `bound NAME B & B` | the intersection of two bounds |
+//! | `sequence NAME` or `set NAME`, components, `end` | the two that share a tag against X.680; whether the order is canonical |
 //!
-//! The program is [`check`] on standard input and output, whose contract is the theorem:
+//! A component is a line `NAME PRESENCE TREE`, with `required`, `optional` or `default`. The answer to any other line is `line N:
+//! not understood`, and that to a table with such a line, or without `end`, is `not checked`.
 //!
-//! * `report`: the text that is written is `report` of the bytes that were read, the one definition in `specs/Report.antt`;
-//! * `understood`: the answer is true if and only if each line was understood, and each table had its `end`;
-//! * `reading`, `memory`: the text that is written before a failed read, and before memory ran out.
+//! | Item | What it is | In `specs/` |
+//! |---|---|---|
+//! | [`check`] | the program, on any reader and any writer | `Report`, `Reading` |
+//! | [`CheckError`] | why it ended before the end of its input | `Errors` |
+//! | [`trees_are_read_of_their_texts`] | the law of reading trees | `Grammar`, `Spelling` |
+//! | [`verdicts_mean_what_they_say`] | the law of verdicts | `Verdict` |
+//! | [`laws`] | derived members of the error | |
 //!
-//! The definition is a function over the lines, from a state to an answer with the next state. Its words: `specs/Lines.antt` has
-//! the lines of an input, `specs/Parts.antt` their parts, `specs/Statements.antt` their statements, `specs/NamesAndNumbers.antt` and
-//! `specs/Grammar.antt` names, numbers, tags, trees and bounds, `specs/SchemaTables.antt` and `specs/Texts.antt` tables and
-//! verdicts; clashes and the canonical order are words of asn1_fields. The code has the same steps and the same types: a line is
-//! cut into `Parts`, `StatementParser` parses them to a `Statement`, and `Reporter` answers it.
+//! The promises:
 //!
-//! Laws of the definition: [`trees_are_read_of_their_texts`] (a text is read as a tree if and only if it is that tree's text, as
-//! `specs/Spelling.antt` writes it, and stays within the limits) and [`verdicts_mean_what_they_say`]. The function in [`laws`] states
-//! the laws of the derived members of the error.
+//! - If [`check`] succeeds, the text that it has written is `report` of the bytes that it has read (`report`), and the answer is
+//!   true if and only if each line was understood and each table had its `end` (`understood`).
+//! - If a read fails, the text for the lines that had ended is written (`reading`). If memory runs out, it is that for the lines
+//!   among the bytes that were read but the last 32 KiB at most (`memory`).
+//! - A text is read as a tree if and only if it is that tree's text, and within the limits of depth and of numbers (`text`,
+//!   `within_limits`, `read`).
+//! - A verdict on a tree or a table means what its words say of tags, in the words of `asn1_fields` (`smallest`, `unique`,
+//!   `sequence`, `set`, `order`).
 //!
-//! The program keeps the flat form of a tree (`asn1_clash`; `specs/Flattened.antt`). `specs/Reading.antt` has its state between two
-//! reads, `specs/Views.antt` the values that the types of this crate represent.
+//! In `specs/`, `Report` is a function over the lines, from a state to an answer and the next state. `Lines`, `Parts` and
+//! `Statements` take bytes to statements, `NamesAndNumbers` and `Elements` define what is in them, and `SchemaTables` and `Texts`
+//! the answers. The code has the same steps and types. `Flattened` has the form of trees that the program keeps (`asn1_clash`),
+//! and `Views` the values that its types represent.
 #![tactic(auto)]
 
 mod bound;

@@ -5,7 +5,7 @@
 //! | [`Person`] | a SEQUENCE of two components |
 //! | [`Notice`] | a SEQUENCE with a component under an explicit tag, which may be absent |
 //! | [`Pair`] | a SEQUENCE of any two types |
-//! | [`Profile`], [`Contact`] | a SEQUENCE with an option, a default and a group of additions |
+//! | [`Profile`], [`Contact`] | a SEQUENCE with an option, a default and a group of additions, and the group |
 //! | [`Visit`] | a SEQUENCE with an addition after such a group |
 //! | [`Badge`] | a SET |
 //! | [`Ticket`] | a SET with a default |
@@ -17,35 +17,29 @@
 //! | [`Settings`] | a SEQUENCE whose default is such a value |
 //! | [`Node`] | a SEQUENCE that holds itself, in a list |
 //! | [`Plate`] | a string with a permitted alphabet |
-//! | [`personnel`] | the record of X.690, annex A: a SET with a tag of its own, a `DEFAULT {}` and components after explicit tags |
+//! | [`personnel`] | the record of X.690, annex A: a SET under a tag, a `DEFAULT {}`, and explicit tags |
 //!
-//! The contracts promise:
+//! A type states its components, alternatives or items once. Most are written and read by a line for each, with no proof of their
+//! own (`asn1_slots`). Three show the other forms of readers, which have proofs: an [`Envelope`] reads its components one after
+//! another (`decode_fields`), a [`Badge`] reads parts (`DecodeSet`), and a [`Node`] is read by functions that call one another. A
+//! [`Shape`] looks for its alternative in a table of leaves. Errors of [`Notice`], [`Pair`], [`Visit`], [`Ticket`], [`Gauge`] and
+//! the types of [`personnel`] with components name a component. docs/TYPES.md explains how such types are written.
 //!
-//! - Each type states its components, alternatives or items once, and its tables, meaning and writer are proved to say the
-//!   same. The writer has a line for each component (`encode_field`) or alternative (`encode_alternative`), and no proof.
-//! - Each is read: from its records a codec gives an equal value (`Decode`), whatever the codec. The reader has a line
-//!   for each component (`decode_field`) or alternative (`decode_alternative`). Components and alternatives are read by index
-//!   (`asn1_slots`), with no proof; a `Shape` looks for its alternative in a table of the leaves of its tree, which fits
-//!   (`the_table_of_a_shape_fits`). Three types show the other forms, which have proofs: an `Envelope` reads its components one
-//!   after another (`decode_fields`), a `Badge` is read as parts (`DecodeSet`), and a `Node` by functions that call one another;
-//!   each node opens two scopes, so the depth left of the decoder ends the recursion, whatever the input. A component that may be
-//!   absent is asked for under its own tag, and the next record has another tag; so it is in a group with absent last components,
-//!   before a component after the group, as the note of a `Visit` is. A tag that no alternative has is refused with the
-//!   name of the CHOICE.
-//! - Types that are read by `decode_sequence` or `decode_set` of the decoder pass on the errors of components unchanged: `Person`,
-//!   `Profile`, `Envelope`, `Labelled`, `Settings`, `Node` and `Badge`, and the group `Contact`. `Notice`, `Pair`, `Visit`,
-//!   `Ticket` and `Gauge` add the name of the component.
-//! - Each can be inside other types: `person_is_well_tagged` and the like.
-//! - [`laws`] states the records of each value (`specs/SampleRecords` writes them out), the valid values, equality of values, the
-//!   names of the tables, and the types with an extension marker. `envelope_is_valid` and `pair_is_valid` state when an `Envelope`
-//!   and a `Pair` are valid; each `Node` is valid (`each_node_is_valid`).
-//! - [`personnel`] has laws of its own: the records of a day, and of a record without children.
-//! - A `Node` states its components by recursion on a value (`specs/NodeComponents`): the records follow by a fold, and a node
-//!   meets its type's invariant if and only if all labels inside it meet theirs. Its records are written out, by those of its
-//!   children (`node_has_its_records`), and how deep they are nested (`node_is_two_higher_than_its_children`).
+//! The main promises (docs/PROMISES.md has more):
 //!
-//! A call allocates only for a codec, for the values that are read, for the alphabet of a `Plate` and for the table of a `Shape`.
-//! CHOICE types that hold themselves are in the crate `asn1_recursive`. `docs/TYPES.md` explains how such types are written.
+//! - Each type is well tagged (`person_is_well_tagged` and the like), a [`Pair`] if its first type is, and its second under the
+//!   tag that it has there. So `round_trip` of `asn1_rules` holds of it.
+//! - An [`Envelope`] is valid if and only if the codec accepts its body as one value (`envelope_is_valid`), a [`Pair`] if and
+//!   only if what it holds is (`pair_is_valid`), and each [`Node`] is (`each_node_is_valid`). [`laws`] has the valid values of
+//!   the others.
+//! - The records of each value are written out (`sequences_have_their_records` and the like of [`laws`]; `specs/SampleRecords`),
+//!   of a personnel record those without children (`specs/PersonnelRecords`), and those of a node by those of its children
+//!   (`node_has_its_records`; `specs/NodeComponents`). A node is nested two deeper than its children
+//!   (`node_is_two_higher_than_its_children`).
+//! - The table of leaves of a [`Shape`] fits them (`the_table_of_a_shape_fits`).
+//!
+//! `specs/BadgeParts` and `specs/ComponentNames` have the parts of a badge and the names of components. Memory is taken by a
+//! codec, by values that are read, by the alphabet of a [`Plate`] and by the table of a [`Shape`].
 #![tactic(auto, using(asn1_tags::proofs::Leaves::tree_shapes))]
 
 mod badge;
