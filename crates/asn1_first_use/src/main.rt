@@ -1,4 +1,11 @@
-//! A value is written as bytes, and read back from a stream of them that comes in two pieces: the first use in the README.
+//! The first use of the README: writes a value as bytes, and reads it back from a stream of them that comes in two pieces.
+//!
+//! `rt try` in this folder runs the program; `rt run` proves it and all crates below it first. It takes no arguments and no
+//! input, and prints two lines: the 37 bytes of a `Person` of `asn1_samples` in the packed codec (`asn1_bench`), and `true`,
+//! since the value that was read equals the one that was written. The stored run has both.
+//!
+//! If writing or reading fails, it prints the error. `main` has no contract; those of `write_value` and `read_pieces` are in
+//! `asn1_rules`.
 #![tactic(auto)]
 
 use asn1_bench::{BenchReader, BenchRules};

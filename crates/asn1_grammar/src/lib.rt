@@ -1,14 +1,23 @@
-//! Reads modules in the notation of X.680.
+//! Reads texts in the notation of X.680 to trees of modules, with an error for each definition that is not understood.
 //!
-//! [`parse`] reads a text to trees of `asn1_notation`. It takes the notation of X.680 without REAL, EXTERNAL, EMBEDDED PDV,
-//! CHARACTER STRING, RELATIVE-OID and the types of time of ISO 8601, and beside it ANY and ANY DEFINED BY of 1988. Constructs
-//! of X.681 to X.683 are refused by name ([`Construct`]).
+//! | Item | What it is |
+//! |---|---|
+//! | [`parse`], [`Parsed`] | reads a text: its modules (`asn1_notation`) and its errors, in the order of the text |
+//! | [`MAX_DEPTH`] | how many types, values or constraints may be inside one another |
+//! | [`SyntaxError`], [`Cause`] | a place of the text, and why it was not read |
+//! | [`Expected`], [`Owner`] | the item that was expected, and the name before it |
+//! | [`Construct`] | a construct of X.680 to X.683 that the reader refuses by name |
+//! | [`append_cause`] | appends the message of an error |
 //!
-//! An error tells what was expected and the item that is there ([`SyntaxError`]). After an error in a definition the next
-//! definition is read, so the errors of all definitions are told. Types, values and constraints may be inside one another
-//! down to [`MAX_DEPTH`]; a text is limited by memory alone.
+//! The notation is that of X.680 without REAL, EXTERNAL, EMBEDDED PDV, CHARACTER STRING, RELATIVE-OID and the types of time of
+//! ISO 8601, with ANY and ANY DEFINED BY of 1988. Constructs of X.681 to X.683 are refused by name.
 //!
-//! The calls promise that they return for every text, and panic for none. What a text means is tested, and not a clause.
+//! An error has what was expected and the item that is there. After an error in a definition the reader goes on with the next
+//! one, and leaves the one in error out of the tree.
+//!
+//! The calls return for every text, and panic for none. No contract covers the meaning of a text; the stored run of test_notation
+//! shows it. A text is limited by memory alone. `specs/Nests` has the words for the depth to which types and constraints are
+//! read.
 #![tactic(auto)]
 
 mod assignments;

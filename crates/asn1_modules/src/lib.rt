@@ -1,18 +1,24 @@
-//! What parsed modules mean together.
+//! Lists the names of parsed modules, and writes messages about names that are wrong.
 //!
-//! Several texts are one set of modules ([`Source`]). [`collect_names`] goes through their trees, and lists the names that
-//! are defined, imported and used; `asn1_names` checks the lists. [`append_problem`] writes the message of what is wrong.
-//! [`standard_arc`] gives the number of an arc that has a name by itself.
+//! | Item | What it is |
+//! |---|---|
+//! | [`Source`] | a text with the modules that were read of it; several are one set of modules |
+//! | [`collect_names`] | the names that the modules define, import and use, as `asn1_names` checks them |
+//! | [`append_problem`] | appends the message of what is wrong with a name |
+//! | [`standard_arc`] | the number of an arc that has a name of its own |
 //!
-//! The contract of [`collect_names`] promises that the names of all definitions are listed, and all names behind IMPORTS, by
-//! their places (`defined`, `imported`; `specs/Places.antt`). Of the references it promises nothing.
+//! The contract of [`collect_names`] promises that the names of all definitions of all modules are listed, in the order of the
+//! texts (`defined`), and all names behind IMPORTS (`imported`), each by its place (`specs/Places`).
 //!
-//! Every reference to a type, to the number of a tag, of an item or of an arc, and every exported name is in the list. A name
-//! of a value is in it if no type of the set has an item of this name: whether it is the name of an item, its type tells.
-//! Names side by side, as the arcs of an object identifier, are listed in a definition of an OBJECT IDENTIFIER, and in no
-//! other value.
+//! No clause covers the list of references, which tests alone show:
 //!
-//! The calls fail only if memory runs out, and panic for no tree. Which references they list is tested, and not a clause.
+//! - It has every reference to a type, to the number of a tag, of an item or of an arc, and every exported name.
+//! - It has the name of a value if no type of the set has an item of this name. Only the type of the value tells whether such a
+//!   name is that of an item.
+//! - Names side by side, as the arcs of an object identifier, are in it from a definition of an OBJECT IDENTIFIER, and from no
+//!   other value.
+//!
+//! The calls return for all modules, and fail only if memory runs out.
 #![tactic(auto)]
 
 mod arcs;

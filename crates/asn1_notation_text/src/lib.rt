@@ -1,11 +1,19 @@
-//! The notation of X.680 as text.
+//! Writes trees of `asn1_notation` as text in the notation of X.680.
 //!
-//! The calls append the text of a tree of [`asn1_notation`] to a [`Printer`], which knows the source that the tree was read from.
-//! The text is meant to be read as the same tree, with other offsets, so parentheses are put round every part of a constraint; no
-//! contract covers that. Comments and the exceptions of extension markers (`!`) are not in
-//! the tree, and not in the text.
+//! | Item | What it is |
+//! |---|---|
+//! | [`Printer`] | the text so far, and the source that the tree was read from |
+//! | [`print_module`] | appends a module |
+//! | [`print_type`], [`print_constraint`] | append a type, and a constraint |
+//! | [`print_value`] | appends a value |
+//! | [`type_word`] | X.680's word for a type |
 //!
-//! A call fails only if memory runs out. [`type_word`] gives X.680's word for a type alone.
+//! The calls take the names in a tree from its source. They put parentheses round every part of a constraint: the text is meant
+//! to be read as the same tree, with other offsets. Comments and the exceptions of extension markers (`!`) are not in the tree,
+//! and so not in the text.
+//!
+//! The calls return for every tree, and fail only if memory runs out. No contract covers the text; the stored run of
+//! test_notation shows it.
 #![tactic(auto)]
 
 mod modules;

@@ -1,14 +1,22 @@
-//! From the trees of a set of modules to a schema with every name and number resolved.
+//! Resolves the names and numbers in the trees of a set of modules: to a schema, and the problems of the modules.
 //!
-//! [`resolve`] goes through the trees of all texts of a run. It follows references, expands COMPONENTS OF, puts automatic tags
-//! on, numbers the items of each ENUMERATED, reads values by their types, and takes the constraints that a type can carry.
+//! | Item | What it is |
+//! |---|---|
+//! | [`resolve`] | the schema of all modules of a run (`asn1_resolved`), with the problems |
+//! | [`Resolution`] | the two, and whether the schema is accepted |
 //!
-//! Everything that is wrong is a [`Problem`](asn1_resolved::Problem) with its place. A schema with an error is incomplete:
-//! what could not be resolved is left out, or is NULL. There is at most one error at a place.
+//! [`resolve`] follows references, expands COMPONENTS OF, adds automatic tags, numbers the items of each ENUMERATED, reads values
+//! by their types, and takes the constraints that a type can carry. A [`Problem`](asn1_resolved::Problem) is an error or a
+//! warning with its place, at most one error at a place. A schema with an error is incomplete: a type or value that was not
+//! resolved is left out, or is NULL.
 //!
-//! The contracts promise that no module of an accepted schema has a name twice (`distinct` of `resolve`; `HasDistinctNames` in
-//! `specs/Accepted.antt`), and that `is_accepted` tells whether no problem is an error. Every call returns, and fails only if
-//! memory runs out. No contract covers which messages a text has.
+//! The contracts promise, in the words of `specs/Accepted`:
+//!
+//! - No module of an accepted schema has a name twice (`distinct` of [`resolve`]; `HasDistinctNames`).
+//! - A schema is accepted if and only if no problem is an error ([`Resolution::is_accepted`]).
+//!
+//! Every call returns for all modules, and fails only if memory runs out. No contract covers the rest of the schema, or the
+//! problems of a text; the stored run of test_notation shows both.
 #![tactic(auto)]
 
 mod accepted;

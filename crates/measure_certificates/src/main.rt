@@ -1,8 +1,15 @@
-//! Reads a certificate and writes it again, over and over: what `bench/certificates.py` measures.
+//! Reads a certificate and writes it again, over and over, so that `bench/certificates.py` can measure the time.
 //!
-//! Its DER comes on standard input. The first argument says how often it is read, the second how often it is written, and the third how
-//! often it is read by `read_canonical`; then it is read and written once more. It writes how many bytes were written at last, and their
-//! checksum, or why there are none.
+//! The program reads the DER of the certificate from standard input. Its arguments are three numbers:
+//!
+//! | Argument | Work |
+//! |---|---|
+//! | the first | how often the certificate is read |
+//! | the second | how often it is written |
+//! | the third | how often it is read by `read_canonical` |
+//!
+//! After that it is read and written once more. The output is the number of these bytes with a checksum, or the error. The
+//! contract of `repeated` promises that the bytes are the DER of some certificate. The stored run has one set of arguments.
 #![tactic(auto)]
 
 mod repeated;

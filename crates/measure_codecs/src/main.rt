@@ -1,18 +1,20 @@
-//! Writes and reads lists and chains over and over, or appends bytes to a stream, by its arguments, to measure how fast that is.
-//! The first word is a codec, `packed`, `tag` or `der`, or `each` for all of them, or `append`:
+//! Writes and reads lists over and over, or appends bytes to a stream, so that benchmarks can measure the time.
+//!
+//! `bench/run.py` runs the program beside `bench/plain_codecs.rs`, which writes the same, and `bench/append.py` measures the cost
+//! of appending. The arguments are a request:
 //!
 //! | Words | Work | Output |
 //! |---|---|---|
-//! | `packed write LIST COUNT TIMES` | writes a list of this many values this many times | the number of its bytes, and their checksum |
-//! | `packed read LIST COUNT TIMES` | writes the same list once, and reads it this many times | the same |
-//! | `packed canonical LIST COUNT TIMES` | writes the same list once, and reads it by `read_canonical` this many times | the same |
-//! | `append TOTAL SIZE WHEN` | appends this many bytes in pieces of this size, and takes blocks of 1000 of them | the number of blocks |
+//! | `packed write LIST COUNT TIMES` | writes a list of `COUNT` values this many times | its number of bytes, and a checksum |
+//! | `packed read LIST COUNT TIMES` | writes such a list once, and reads it this many times | the same |
+//! | `packed canonical LIST COUNT TIMES` | writes it once, and reads it by `read_canonical` this many times | the same |
+//! | `append TOTAL SIZE WHEN` | appends bytes in pieces of this size, and takes blocks of 1000 | the number of blocks |
 //!
-//! `LIST` is `person`, `profile` or `badge`, or `node` for a chain of `COUNT` nodes, which is written and read as a list is.
-//! Blocks are taken after each piece, or when all is appended if `WHEN` is `late`; with the size 0 nothing is appended. After the
-//! four words of `append` the words of another request may follow.
+//! The codec is `packed`, `tag` or `der`, or `each` for all of them. `LIST` is `person`, `profile` or `badge`, or `node` for a
+//! chain of `COUNT` nodes, which is written and read as a list is. Blocks are taken after each piece, or when all is appended if
+//! `WHEN` is `late`; with the size 0 nothing is appended. After the four words of `append` another request may follow.
 //!
-//! `bench/run.py` runs it beside `bench/plain_codecs.rs`, which writes the same, and `bench/append.py` measures what appending costs.
+//! `specs/Blocks` defines the blocks of a stream. No contract covers the output.
 #![tactic(auto)]
 
 mod appending;

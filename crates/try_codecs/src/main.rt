@@ -1,25 +1,31 @@
-//! Tries codecs over bytes, by lines that it reads from standard input: `CODEC TYPE DEPTH ACTION WORD BYTES`, where `BYTES` are
-//! those of a value, which the codec writes and reads with at most `DEPTH` nested scopes.
+//! Tries codecs by damaged bytes, refused memory, cut streams and deep values, one request of standard input after another.
 //!
-//! | Words | Work | Answer |
+//! `bench/run.py` runs the program: to measure how deep the machine's stack reaches, to damage bytes for as long as is wanted,
+//! and to refuse each growth in turn.
+//!
+//! A request is a line `CODEC TYPE DEPTH ACTION WORD BYTES`. `BYTES` are those of a value, which the codec writes and reads with
+//! at most `DEPTH` nested scopes:
+//!
+//! | Action and word | Work | Answer |
 //! |---|---|---|
-//! | `damage SEED` | the bytes of the value are damaged, 300 times, and read; what is read is written and read again | `comes back` |
-//! | `growths -` | the value is written and read, alone, by `read_canonical`, in a list, and out of two pieces | `comes back`, or `no memory` |
+//! | `damage SEED` | the bytes are damaged, 300 times, and read; what is read is written and read again | `comes back` |
+//! | `growths -` | the value is written and read: alone, canonically, in a list, in two pieces | `comes back`, or `no memory` |
 //! | `pieces -` | two values come out of two pieces, wherever their bytes are cut | `comes back` |
 //! | `begun -` | each beginning of the bytes is read | the number of beginnings that are too short, which all have to be |
-//! | `changed -` | each byte of the bytes is replaced by each byte; what is read has to be written as these bytes | the places at which not one byte alone makes a value, with the number of those bytes |
+//! | `changed -` | each byte is replaced by each byte; what is read has to be written as these bytes | places, with numbers |
 //! | `recode -` | the bytes of the value are recoded to the tag form, and back | `comes back` |
-//! | `nest LEVELS` | a value that holds itself is made, written, read and dropped; if `DEPTH` is too small to write it, it is written without a limit | a line after each step |
-//! | `long LENGTH` | an OCTET STRING of so many octets is written, whatever the type | how many bytes it has, or the error |
+//! | `nest LEVELS` | a value that holds itself is made, written, read and dropped | a line after each step |
+//! | `long LENGTH` | an OCTET STRING of this length is written, whatever the type | its number of bytes, or the error |
 //! | `drop LEVELS` | such a value is made and dropped | the same |
 //! | `table -` | a list of tags is made with a table that does not fit, whatever the codec and the type | the error |
 //!
-//! `CODEC` and `TYPE` are as in `test_vectors`; after `nest` and `drop` the type is `node`, `not` or `and` for two kinds of filter,
-//! `nested` or `open`. Lines that are empty or begin with `#` are written as they are, and ` ; ` begins a comment.
+//! The answer to `changed` has the places at which not one byte alone makes a value, each with the number of such bytes. If
+//! `DEPTH` is too small to write the value of `nest`, it is written without a limit. `CODEC` and `TYPE` are as in `test_vectors`;
+//! after `nest` and `drop` the type is `node`, `not` or `and` for two kinds of filter, `nested` or `open`. Lines that are empty
+//! or begin with `#` are written as they are, and ` ; ` begins a comment.
 //!
-//! `bench/run.py` runs it, to measure how deep the machine's stack reaches, to damage bytes for as long as is wanted, and to refuse
-//! each growth in turn; how fast codecs are is the job of `measure_codecs`. No contract covers the answers: that a valid value
-//! comes back is the theorem of `round_trip`, and that no call panics is proved of each. The program asks both of what was built.
+//! No contract covers the answers. The theorem of `round_trip` is that a valid value comes back, and each call is proved to panic
+//! for nothing; the program asks both of what was built.
 #![tactic(auto)]
 
 mod bytes;
