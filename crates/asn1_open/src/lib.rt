@@ -1,5 +1,4 @@
-//! `Open`: a value of one of nine types, which can hold another such value. It is rasn's
-//! `types::Open`.
+//! `Open`, rasn's `types::Open`: a value of one of nine types, which can hold another such value.
 //!
 //! ```text
 //! Open ::= CHOICE {
@@ -15,29 +14,26 @@
 //! }
 //! ```
 //!
-//! It is no open type of X.681, which is `Any`: its values are those of nine types alone, each
-//! under its own tag.
+//! X.681's open type is `Any` of `asn1_types`.
 //!
 //! | Item | What it is |
 //! |---|---|
 //! | [`Open`] | the CHOICE |
+//! | [`open_is_well_tagged`], [`each_open_is_valid`] | its premises of the round trip |
+//! | [`an_instance_is_three_deeper_than_its_value`] | how deep a value is nested |
 //! | [`laws`] | the names, the tags and the indices of its alternatives, and when two values are equal |
 //!
-//! The contracts promise the following, in these words:
+//! The promises:
 //!
-//! - An `Open` is well tagged (`open_is_well_tagged`), and each is valid, however deep
-//!   (`each_open_is_valid`).
-//! - `specs/OpenAlternatives.antt` says what it means: the alternatives beside what a value inside
-//!   another is to them, and by recursion on a value what the chosen alternative says of it.
-//!   Tables, meaning and writer are proved to say the same.
-//! - It is read by functions that call each other. Each `Open` opens a scope before its alternative
-//!   is read, so the depth left of the decoder ends the recursion, whatever the input.
-//! - The scopes of an INSTANCE OF are nested three deeper than those of the value in it, and those
-//!   of every other alternative one deep (`an_instance_is_three_deeper_than_its_value`). So a NULL
-//!   with `k` of them around it takes `1 + 3k` scopes.
-//! - `proofs/ReadingChoices.antt` of `asn1_laws` is for the author of any CHOICE that holds itself: a
-//!   lemma for each way out of its reading functions, which do what `ReadsValue`, `ReadsHeadOfChoice`
-//!   and `ReadsAlternative` say.
+//! - An `Open` is well tagged, and each value is valid, however deep (contracts of the two).
+//! - An INSTANCE OF is nested three deeper than the value in it (`instance`), and every other alternative takes one scope
+//!   (`others`). So a NULL inside `k` INSTANCE OF takes `1 + 3k` scopes.
+//! - Two values are equal if and only if they are of one alternative, and what they hold is equal
+//!   ([`laws::values_are_equal_by_their_contents`]).
+//!
+//! `specs/OpenAlternatives` has the alternatives and the meaning of a value, which is defined by recursion. Tables, meaning and
+//! writer are proved to agree. An `Open` is read by functions that call each other; each opens a scope first, so the depth left
+//! of the decoder ends the recursion. `proofs/ReadingChoices` of `asn1_laws` has the lemmas for such readers.
 //!
 //! A call takes memory where a codec does, and reading for the strings, the numbers and the boxes.
 #![tactic(auto, using(asn1_tags::proofs::Leaves::tree_shapes))]

@@ -1,25 +1,26 @@
-//! Sample CHOICE types that hold themselves. `Node` of `asn1_samples` is a SEQUENCE that does.
+//! Sample CHOICE types that hold themselves, written and read. `Node` of `asn1_samples` is a SEQUENCE that does.
 //!
-//! | Item | What it is |
-//! |---|---|
-//! | [`Filter`] | a CHOICE with sets of its own type inside: the filters of LDAP; it is written and read |
-//! | [`AttributeValueAssertion`], [`SubstringFilter`], [`Substring`], [`MatchingRuleAssertion`] | assertions on attributes |
-//! | [`Nested`] | a CHOICE with its own type inside, under a tag; it is written and read |
-//! | [`laws`] | the names of alternatives, and which parts of filters are valid |
+//! | Item | What it is | In `specs/` |
+//! |---|---|---|
+//! | [`Filter`] | LDAP's filters (RFC 4511): a CHOICE with sets of its own type | `FilterAlternatives`, `FilterCases` |
+//! | [`AttributeValueAssertion`], [`MatchingRuleAssertion`] | assertions on attributes | |
+//! | [`SubstringFilter`], [`Substrings`], [`Substring`] | an assertion on parts of a text | |
+//! | [`Nested`] | a CHOICE with its own type inside, under a tag | `NestedAlternatives` |
+//! | [`laws`] | the names of alternatives, and the validity of the parts of filters | |
 //!
-//! The contracts promise:
+//! The promises:
 //!
-//! - Each type can be inside other types (`filter_is_well_tagged`, `nested_is_well_tagged`), and each value of it is valid
-//!   (`each_filter_is_valid`, `each_nested_is_valid`).
-//! - A CHOICE defines the meaning of its chosen alternative by recursion on a value (`specs/FilterAlternatives.antt` and
-//!   `specs/NestedAlternatives.antt`). Tables and meaning are proved to say the same.
-//! - They are read by functions that call one another, with the calls of `asn1_nesting` between them: two for [`Nested`], and four
-//!   for [`Filter`], since its sets are read by a loop. Each opens a scope before its alternative is read, so the depth left of the
-//!   decoder ends the recursion, whatever the input.
-//! - [`laws`] states the names of the tables, and that the parts of a filter are valid.
+//! - Each type is well tagged (`filter_is_well_tagged`, `nested_is_well_tagged` and the like), so `round_trip` of `asn1_rules`
+//!   holds of it.
+//! - Each [`Filter`] and each [`Nested`] is valid, whatever is inside (`each_filter_is_valid`, `each_nested_is_valid`), and so is
+//!   each part of a filter ([`laws::parts_of_filters_are_valid`]).
 //!
-//! The prover wants such a type, its tables, its writer and its reader in one crate. A call allocates for a codec, and
-//! reading for the values inside.
+//! The meaning of a value is defined by recursion, and the tables are proved to agree with it. The types are read by functions
+//! that call one another, with the calls of `asn1_nesting` between them: two for [`Nested`], and four for [`Filter`], since a
+//! loop reads its sets (`specs/ReadingWhole`). Each opens a scope first, so the depth left of the decoder ends the recursion.
+//!
+//! The prover wants such a type, its tables, its writer and its reader in one crate. Memory is taken by a codec, and in reading
+//! for the values inside.
 #![tactic(auto, using(asn1_tags::proofs::Leaves::tree_shapes))]
 
 mod attribute_value_assertion;

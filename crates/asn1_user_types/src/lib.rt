@@ -7,18 +7,21 @@
 //! | [`Payment`] | a CHOICE |
 //! | [`Order`] | a SET, with a SET OF inside |
 //! | [`Signed`] | a SEQUENCE of any type |
-//! | [`Parcel`] | a CHOICE that holds itself |
+//! | [`Parcel`] | a CHOICE that holds itself (`specs/ParcelAlternatives`) |
 //!
-//! The contracts promise:
+//! The promises:
 //!
-//! - Each type is written and read by any codec. Each is well tagged (`price_is_well_tagged` and the like; for a [`Payment`] the
-//!   proof of `signed_payment_comes_back` uses it, and for a [`Parcel`] it is a lemma, proofs/ParcelLaws).
-//! - Each value of these is valid, and a [`Signed`] if and only if its content is (`price_is_valid` and the like).
-//! - A signed order or payment is read back as it was written, by any codec (`signed_order_comes_back`).
+//! - A [`Price`], a [`Currency`] and an [`Order`] are well tagged, and a [`Signed`] is if its content is (`price_is_well_tagged`
+//!   and the like). For a [`Parcel`] it is a lemma (proofs/ParcelLaws); for a [`Payment`] no clause says it, but the proof of
+//!   `signed_payment_comes_back` uses it.
+//! - Each [`Price`], [`Currency`] and [`Order`] is valid, and a [`Signed`] if and only if its content is (`price_is_valid` and
+//!   the like).
+//! - A signed order or payment that is read back equals the one that was written, by any codec (`signed_order_comes_back`,
+//!   `signed_payment_comes_back`).
 //!
-//! So one name in `crates.txt` is enough for each kind of type. Only a clause with the meaning of a CHOICE by its type, as
-//! `⟦<Payment as AsnType>⟧.meaning`, needs `asn1_tags` there too. `asn1_samples` and `asn1_recursive` have more types of each kind,
-//! over the crates below `asn1_schema`.
+//! So `my_types: asn1_schema` is enough in `crates.txt` for each kind of type. Only a clause with the meaning of a CHOICE by its
+//! type, as `⟦<Payment as AsnType>⟧.meaning`, needs `asn1_tags` there too. docs/TYPES.md explains how such types are written;
+//! `asn1_samples` and `asn1_recursive` have more of each kind, over the crates below `asn1_schema`.
 #![tactic(auto, using(asn1_schema::proofs::Trees::tree_shapes))]
 
 mod currency;

@@ -1,15 +1,18 @@
-//! The values below ASN.1's types: whole numbers of any size, strings of each kind, and names of objects.
+//! Exports the values below ASN.1's types: whole numbers of any size, strings of each kind, and object identifiers.
 //!
-//! The crate has no code of its own. It exports the types and traits of `asn1_integers` and of `asn1_strings`, whose pages
-//! say what they promise, so that the crates above name one crate for both.
+//! | Item | What it is | From |
+//! |---|---|---|
+//! | [`Integer`], [`IntegerType`] | a whole number of any size, and the Rust types that hold an INTEGER | `asn1_integers` |
+//! | [`ConstrainedInteger`], [`LimitedInteger`] | a whole number from a least to a greatest one | `asn1_integers` |
+//! | [`Limits`], [`Between`] | the least number and the greatest one | `asn1_integers` |
+//! | [`OutOfRangeError`] | a number that does not fit | `asn1_integers` |
+//! | [`BitString`], [`OctetString`], [`VisibleString`] and the like, [`kind`] | the kinds of string | `asn1_strings` |
+//! | [`AlphabetString`], [`UnitString`] | strings of an alphabet, and of any units | `asn1_strings` |
+//! | [`ObjectIdentifier`] | the arcs of an object identifier | `asn1_strings` |
+//! | [`integers`], [`strings`] | both crates, with their modules of laws | |
 //!
-//! | Types | From |
-//! |---|---|
-//! | [`Integer`], [`IntegerType`], [`ConstrainedInteger`], [`LimitedInteger`] | `asn1_integers` |
-//! | [`VisibleString`], [`OctetString`] and the other kinds of string, [`ObjectIdentifier`] | `asn1_strings` |
-//!
-//! Both crates are here as [`integers`] and [`strings`] too, with their modules of laws. `specs/Lib.antt` exports the
-//! definitions of both under their own names, and `proofs/Lib.antt` their lemmas.
+//! The crate has no code and no promise of its own: the pages of the two crates have them. `specs/Lib` exports the definitions of
+//! both under their own names, and `proofs/Lib` their lemmas.
 #![tactic(auto)]
 
 pub use asn1_integers as integers;

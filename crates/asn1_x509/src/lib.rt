@@ -1,4 +1,4 @@
-//! Certificates (RFC 5280): their types, written and read by any codec.
+//! Certificates (RFC 5280, 4.1): their types, written and read by any codec.
 //!
 //! | Item | What it is |
 //! |---|---|
@@ -10,18 +10,19 @@
 //! | [`AlgorithmIdentifier`], [`SubjectPublicKeyInfo`], [`RsaPublicKey`] | an algorithm, a public key, and a key of RSA |
 //! | [`Extension`], [`Extensions`] | the extensions of a certificate |
 //!
-//! The contracts promise:
+//! The promises:
 //!
-//! - Each type states its components or its alternatives once, and its tables, meaning, writer and reader are proved to say
-//!   the same. Components are read by index, each into a slot of its own. So a valid value comes back equal (`round_trip` of
-//!   `asn1_schema`).
-//! - Each type can be inside other types (`certificate_is_well_tagged` and the like): no tag is where another is expected.
-//! - A version that is the first is its default, and is written as absent: `first_version_is_absent` states it for a certificate
-//!   without unique names and extensions, which are absent too.
-//! - The parameters of algorithms and the values of attributes are open types. A certificate is valid if and only if the codec
-//!   accepts each of them as one value (`certificate_is_valid`; `specs/OpenValues.antt`). All other values are valid.
+//! - Each type is well tagged (`certificate_is_well_tagged` and the like), a [`Signed`] if the signed type is. So `round_trip` of
+//!   `asn1_schema` holds of it.
+//! - A certificate, and each of its parts, is valid if and only if the codec accepts each open type in it as one value: the
+//!   parameters of its algorithms and the values of the attributes in its names (`certificate_is_valid` and the like;
+//!   `specs/OpenValues`). Times, texts, RSA keys and extensions are valid whatever is in them.
+//! - A version that is the first is its default, and is not written: `first_version_is_absent` states it of a certificate without
+//!   unique names and extensions (`specs/CertificateRecords`).
+//! - Equal certificates have the same records, up to the order inside sets (`equal_certificates_have_the_same_records`).
 //!
-//! The caller ensures the other constraints of the schema: a list has an element, and a text is a time.
+//! Each type states its components or its alternatives once; its tables, writer and reader are proved to agree with them. The
+//! caller ensures the other constraints of the schema: a list has an element, and a text is a time.
 #![tactic(auto, using(asn1_tags::proofs::Leaves::tree_shapes))]
 
 mod algorithm_identifier;

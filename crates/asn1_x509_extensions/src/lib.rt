@@ -3,21 +3,24 @@
 //! | Item | What it is |
 //! |---|---|
 //! | [`GeneralName`], [`GeneralNames`] | a name of one of nine kinds |
+//! | [`AnotherName`], [`EdiPartyName`] | two of these kinds |
 //! | [`SubjectAltName`], [`IssuerAltName`] | the further names of the subject of a certificate, and of its issuer |
 //! | [`BasicConstraints`], [`PathLength`] | whether a certificate is that of an authority |
 //! | [`KeyUsage`], [`ExtKeyUsageSyntax`] | the usages and purposes of a key |
 //! | [`SubjectKeyIdentifier`], [`AuthorityKeyIdentifier`] | the key of a certificate, and the key that signed it |
-//! | [`AnotherName`], [`EdiPartyName`] | two kinds of name |
 //!
-//! The contracts promise:
+//! The promises:
 //!
-//! - Each type states its components or its alternatives once, and its tables, meaning, writer and reader are proved to say
-//!   the same. So a valid value comes back equal (`round_trip` of `asn1_schema`).
-//! - Each type can be inside other types (`general_name_is_well_tagged` and the like).
-//! - A name is valid if and only if the codec accepts as one value each open type in it (`general_name_is_valid`;
-//!   `specs/OpenNames.antt`), and so a key of an authority. All other values are valid.
+//! - Each type is well tagged (`general_name_is_well_tagged` and the like), so `round_trip` of `asn1_schema` holds of it.
+//! - A [`GeneralName`] is valid if and only if the codec accepts each open type in it as one value (`general_name_is_valid`;
+//!   `specs/OpenNames`), an [`AnotherName`] if and only if it accepts its value, and an [`AuthorityKeyIdentifier`] if and only if
+//!   it accepts those in the names of the issuer (`another_name_is_valid`, `authority_key_identifier_is_valid`).
+//! - Each [`EdiPartyName`], [`BasicConstraints`], [`PathLength`], [`KeyUsage`], [`ExtKeyUsageSyntax`] and
+//!   [`SubjectKeyIdentifier`] is valid, a negative path length too (`path_length_is_valid`, `key_extensions_are_valid` and the
+//!   like).
 //!
-//! The value of an [`asn1_x509::Extension`] is the bytes that a codec writes of one of these. The caller ensures the other
+//! Each type states its components or its alternatives once; its tables, writer and reader are proved to agree with them. The
+//! value of an [`asn1_x509::Extension`] is the bytes that a codec writes of one of these. The caller ensures the other
 //! constraints of the schema: a list has an element, and a text has a length within its limits.
 #![tactic(auto, using(asn1_tags::proofs::Leaves::tree_shapes))]
 
