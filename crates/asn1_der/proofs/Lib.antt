@@ -6,7 +6,4 @@ mod Ordering
 mod Pieces
 mod WrittenElements
 mod AscendingElements
-mod Inside
-mod ParsedElements
-mod PresenceByTag
 pub mod RemainingElements

@@ -5,12 +5,12 @@
 //! | [`DerRules`] | the codec | `Format`, `Outputs` |
 //! | [`DerReader`] | reads values one after another from DER | `Cuts` |
 //! | [`DerEncoder`], [`DerBuffer`] | the encoder, and the buffer in which it writes | `WrittenElements`, `Scopes`, `Sorting` |
-//! | [`DerDecoder`] | the decoder | `Decoder`, `Ascending`, `UnreadBytes` |
+//! | [`DerDecoder`], [`DerForm`] | the decoder, and the form of elements that it reads | `Decoder`, `Ascending` |
 //! | [`canonical`] | records have one output, and values one spelling | `OneOutput` |
 //! | [`laws`], [`encoder_laws`], [`decoder_laws`] | the laws of the codec and its reader, of the encoder, and of the decoder | |
 //!
-//! A CHOICE has no element of its own, and presence marks and groups of additions have no octets. A component is present if the
-//! next element in its scope has one of its tags. The encoder sorts a SET by tags and a SET OF by encodings when its scope ends.
+//! A CHOICE has no element of its own, and presence marks and groups of additions have no octets. The encoder sorts a SET by tags and
+//! a SET OF by encodings when its scope ends. The decoder is that of `asn1_elements` for the form of DER.
 //!
 //! The main promises (docs/PROMISES.md has more):
 //!
@@ -24,9 +24,8 @@
 //! - If `read_canonical` answers equal values, the octets were the same (`equal_values_have_one_spelling` of [`canonical`]), and
 //!   what is written of a value is its only spelling (`what_is_written_is_the_only_spelling`). Premises: equal values of the type
 //!   have the same records, and the components of each SET in the value have distinct tags.
-//! - A decoder of the DER of some records begins before these (`before`), and [`DerDecoder::finish`] succeeds if and only if all
-//!   has been read (`all_read`). It opens a set only if its elements are ascending (`in_order`). [`DerDecoder::unread`] answers
-//!   how many octets have not been read, if the number is below 2^64.
+//! - A decoder of the DER of some records begins before these (`before`), and `finish` succeeds if and only if all has been read (`all_read`).
+//!   It opens a set only if its elements are ascending (`in_order`, and `order` of [`decoder_laws`]).
 //!
 //! No contract covers octets that are not the DER of the type. Tests show that each of these is an error: a length that is
 //! indefinite or not the shortest, an integer, a tag or an arc that is not the shortest, a BOOLEAN other than 0 and 255, unused
@@ -37,25 +36,26 @@
 mod ascending;
 mod buffer;
 pub mod canonical;
-mod decoder;
 pub mod decoder_laws;
 mod elements;
 pub mod encoder_laws;
+mod form;
 mod frame;
-mod from_contents;
 pub mod laws;
-mod parsed_element;
 mod reader;
 mod rules;
 mod scopes;
 mod sorting;
-mod unread_bytes;
 
 use asn1_buffers::BufferEncoder;
+use asn1_elements::ElementDecoder;
 pub use buffer::DerBuffer;
-pub use decoder::DerDecoder;
+pub use form::DerForm;
 pub use reader::DerReader;
 pub use rules::DerRules;
 
 /// An encoder that writes DER.
 pub type DerEncoder = BufferEncoder<DerBuffer>;
+
+/// A decoder that reads from the bytes of DER.
+pub type DerDecoder<'a> = ElementDecoder<'a, DerForm>;

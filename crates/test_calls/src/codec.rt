@@ -1,5 +1,6 @@
 //! The codecs over bytes, by their names.
 use asn1_bench::{BenchReader, BenchRules};
+use asn1_ber::{BerReader, BerRules};
 use asn1_dec::{Decode, DecodeError};
 use asn1_der::{DerReader, DerRules};
 use asn1_enc::{Encode, EncodeError};
@@ -18,6 +19,8 @@ pub enum Codec {
     TagForm,
     /// DER.
     Der,
+    /// BER.
+    Ber,
 }
 
 impl Codec {
@@ -27,6 +30,7 @@ impl Codec {
             "packed" => Some(Codec::Packed),
             "tag" => Some(Codec::TagForm),
             "der" => Some(Codec::Der),
+            "ber" => Some(Codec::Ber),
             _ => None,
         }
     }
@@ -45,6 +49,7 @@ impl Codec {
             Codec::Packed => BenchRules::new(alloc).read_value(bytes, depth),
             Codec::TagForm => TagRules::new(alloc).read_value(bytes, depth),
             Codec::Der => DerRules::new(alloc).read_value(bytes, depth),
+            Codec::Ber => BerRules::new(alloc).read_value(bytes, depth),
         }
     }
 
@@ -62,6 +67,7 @@ impl Codec {
             Codec::Packed => BenchReader::new(alloc, depth).read_front(bytes),
             Codec::TagForm => Ok((self.read(alloc, bytes, depth)?, bytes.len())),
             Codec::Der => DerReader::new(alloc, depth).read_front(bytes),
+            Codec::Ber => BerReader::new(alloc, depth).read_front(bytes),
         }
     }
 
@@ -79,6 +85,7 @@ impl Codec {
             Codec::Packed => read_canonical(&BenchRules::new(alloc), bytes, depth),
             Codec::TagForm => read_canonical(&TagRules::new(alloc), bytes, depth),
             Codec::Der => read_canonical(&DerRules::new(alloc), bytes, depth),
+            Codec::Ber => read_canonical(&BerRules::new(alloc), bytes, depth),
         }
     }
 
@@ -104,6 +111,11 @@ impl Codec {
                 let reader = CanonicalReader::new(inner, DerRules::new(alloc), depth);
                 read_pieces(alloc, reader, &[bytes], usize::MAX)
             }
+            Codec::Ber => {
+                let inner = BerReader::new(alloc, depth);
+                let reader = CanonicalReader::new(inner, BerRules::new(alloc), depth);
+                read_pieces(alloc, reader, &[bytes], usize::MAX)
+            }
         }
     }
 
@@ -121,6 +133,7 @@ impl Codec {
             Codec::Packed => BenchRules::new(alloc).write_value(value, depth),
             Codec::TagForm => TagRules::new(alloc).write_value(value, depth),
             Codec::Der => DerRules::new(alloc).write_value(value, depth),
+            Codec::Ber => BerRules::new(alloc).write_value(value, depth),
         }
     }
 }

@@ -1,6 +1,6 @@
 //! A value that goes from a codec to the tag form and back.
 use crate::report::Report;
-use crate::trial::Trial;
+use crate::trial::{NOT_ASKED, Trial};
 use asn1_bench::BenchRules;
 use asn1_dec::Decode;
 use asn1_der::DerRules;
@@ -19,6 +19,7 @@ pub(crate) fn try_recoding<T: Encode + Decode>(
         Codec::Packed => go_and_return::<T, _>(trial, &BenchRules::new(trial.alloc), &there)?,
         Codec::TagForm => go_and_return::<T, _>(trial, &TagRules::new(trial.alloc), &there)?,
         Codec::Der => go_and_return::<T, _>(trial, &DerRules::new(trial.alloc), &there)?,
+        Codec::Ber => return Err(Failure::of_reading(NOT_ASKED)),
     }
     Ok(Report::ComesBack)
 }

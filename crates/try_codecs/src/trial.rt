@@ -9,6 +9,9 @@ use asn1_enc::Encode;
 use std::alloc::Global;
 use test_calls::{Codec, Failure, Request, TypeCase, is_same, try_named};
 
+/// The answer to what is not asked of a codec.
+pub(crate) const NOT_ASKED: DecodeError = DecodeError::Custom("not asked of this codec");
+
 /// What is tried.
 #[derive(Clone, Copy, Drop)]
 enum Action {

@@ -1,0 +1,82 @@
+-- Elements are cut off: trailing bytes change nothing, and what was written is one element.
+use Rattle.std.proofs.Common.{◌≡◌, ◌+◌, ◌≤◌, ℕ, Bool, false, List, [], ◌∷◌, ◌++◌, ap, sym, subst, ◌∙◌, arith, append-nil, length, length-append}
+use Rattle.asn1_ber.specs.Bytes.{AreBerOf, HaveBer}
+use Rattle.asn1_ber.specs.Cuts.{IsCut, ber_fronts, cut_within}
+use Rattle.asn1_ber.specs.Form.{ber_is_lawful_form}
+use Rattle.asn1_ber.specs.Format.{Carries, ber_format}
+use Rattle.asn1_ber.specs.declared.reader.BerReader.{BerReader}
+use Rattle.asn1_ber_items.proofs.Headers.{cut_shorter, header_shorter}
+use Rattle.asn1_ber_items.proofs.NormalForms.{one_normal_form, spells-append}
+use Rattle.asn1_ber_items.specs.Spellings.{Spells, SpellsOne, definite, indefinite, nothing, primitive}
+use Rattle.asn1_der_items.specs.Series.{is_one_element}
+use Rattle.asn1_model.proofs.SameRecords.{same-mark}
+use Rattle.asn1_model.proofs.SameUpToOrder.{same_as_cons, same_as_none}
+use Rattle.asn1_model.specs.Meaning.{Meaning, IsWellTagged}
+use Rattle.asn1_model.specs.Orders.{SameRecords}
+use Rattle.asn1_model.specs.Records.{Record, held, is_presence_mark, more, none}
+use Rattle.asn1_model.specs.Tags.{IsOneRecord, Tags}
+use Rattle.asn1_model.specs.WellFormed.{AreWellFormed}
+use Rattle.asn1_rules.proofs.ItemFronts.{belongs, steady}
+use Rattle.asn1_rules.specs.Fronts.{BelongsTo, IsSteady}
+use Rattle.asn1_rules.specs.ItemFronts.{CutsItems}
+
+-- the rest is no longer than the octets
+pub rest_within : (octets normal rest : List ℕ) → Spells octets normal rest → length rest ≤ length octets
+rest_within _ _ _ (nothing octets) = omega arith
+rest_within _ _ _ (primitive octets contents own back others rest h begin is element later) =
+    omega (arith, cut_shorter octets h contents back begin.at is, rest_within back others rest later)
+rest_within _ _ _ (definite octets contents inside own back others rest h begin is inner element later) =
+    omega (arith, cut_shorter octets h contents back begin.at is, rest_within back others rest later)
+rest_within _ _ _ (indefinite octets inside own back others rest h begin none inner element later) =
+    omega (arith, header_shorter octets h begin.at, rest_within h.rest inside (0 ∷ 0 ∷ back) inner, rest_within back others rest later)
+
+cut_remains : (octets behind : List ℕ) (n : ℕ) → IsCut octets n → IsCut (octets ++ behind) n
+cut_remains octets behind n cut = record {
+  normal = cut.normal;
+  rest = cut.rest ++ behind;
+  one = record { spells = spells-append octets cut.normal cut.rest behind cut.one.spells; one = cut.one.one };
+  long = omega (arith, cut.long, length-append cut.rest behind, length-append octets behind);
+}
+
+one_cut : (octets : List ℕ) (m n : ℕ) → IsCut octets m → IsCut octets n → m ≡ n
+one_cut octets m n a b =
+    let same = one_normal_form octets a.normal a.rest b.normal b.rest a.one b.one in
+    omega (arith, a.long, b.long, ap length same.1)
+
+-- as many octets are cut off as are in front of the rest
+pub cut_of_one_element : (octets normal rest : List ℕ) (n : ℕ) → SpellsOne octets normal rest → (IsCut octets n → n + length rest ≡ length octets) × (n + length rest ≡ length octets → IsCut octets n)
+cut_of_one_element octets normal rest n is = (
+  λ cut.
+      let same = one_normal_form octets cut.normal cut.rest normal rest cut.one is in
+      omega (arith, cut.long, ap length same.1),
+  λ long. record { normal = normal; rest = rest; one = is; long = long },
+)
+
+cuts_elements : CutsItems IsCut
+cuts_elements = record {
+  within = λ octets n cut. cut_within octets n cut;
+  remains = λ octets behind n cut. cut_remains octets behind n cut;
+  one_cut = λ octets m n a b. one_cut octets m n a b;
+}
+
+-- the octets of a record that is no presence mark are one cut
+cut_alone : (r : Record) (octets normal : List ℕ) → is_presence_mark r ≡ false → Spells octets normal [] → HaveBer (more r none) normal → IsCut octets (length octets)
+cut_alone r octets normal no_mark spell p =
+    let is : normal ≡ p.first = p.are ∙ ap (λ l. p.first ++ l) p.are_others ∙ append-nil p.first in
+    let e = ber_is_lawful_form.element r p.first no_mark p.is_first in
+    record { normal = normal; rest = []; one = record { spells = spell; one = ap is_one_element is ∙ e.one }; long = omega arith }
+
+-- so are the octets of a list of one record
+cut_of_one : (octets : List ℕ) (rs : List Record) (tags : Tags) → IsOneRecord tags rs → AreWellFormed (λ own. is_one_element own) rs → Carries octets rs → IsCut octets (length octets)
+cut_of_one octets rs tags one well_formed carried =
+    let same : SameRecords carried.exactly (one.item ∷ []) = subst (λ l. SameRecords carried.exactly l) one.alone carried.same in
+    let begins = same_as_cons carried.exactly one.item [] same in
+    let alone : carried.exactly ≡ begins.first ∷ [] = begins.is ∙ ap (λ l. begins.first ∷ l) (same_as_none begins.others begins.same_others) in
+    let b = carried.have_bytes in
+    cut_alone begins.first octets b.normal (same-mark begins.same_first ∙ one.no_mark) b.spell (subst (λ l. HaveBer (held l) b.normal) alone b.have)
+
+pub ber_steady : {V : Type 0} (m : Meaning V) (eq : V → V → Bool) (reader : BerReader) → IsSteady (ber_fronts m eq) reader
+ber_steady m eq reader = steady IsCut Carries (λ own. is_one_element own) (λ reader. reader.depth) m eq reader cuts_elements
+
+pub ber_belongs : {V : Type 0} (m : Meaning V) (eq : V → V → Bool) (reader : BerReader) → IsWellTagged m → BelongsTo (ber_fronts m eq) reader ber_format m eq
+ber_belongs m eq reader can = belongs IsCut Carries (λ own. is_one_element own) (λ reader. reader.depth) m eq reader ber_format.rejects can cut_of_one

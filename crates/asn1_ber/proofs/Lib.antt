@@ -1,0 +1,3 @@
+mod Written
+pub mod Cuts
+mod Contents

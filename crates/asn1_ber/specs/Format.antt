@@ -1,0 +1,76 @@
+-- The format of BER, and its law.
+use Rattle.std.specs.Prelude.{◌≡◌, ◌⊎◌, ℕ, true, List, [], ◌∷◌, ◌++◌, Vec}
+use Rattle.std.specs.declared.alloc.Global.{Global}
+use Rattle.std.proofs.Common.{inl, inr}
+use Rattle.asn1_ber.specs.Bytes.{AreBerOf, ArePlain}
+use Rattle.asn1_buffers.specs.Buffers.{BufferForm}
+use Rattle.asn1_buffers.specs.Encoder.{CarriesUpToOrder, in_one_order}
+use Rattle.asn1_buffers.specs.Format.{buffer_format, buffer_format_is_lawful}
+use Rattle.asn1_der.specs.WrittenElements.{rejects_by_parts as der_rejects_by_parts, written_der}
+use Rattle.asn1_der.specs.declared.buffer.DerBuffer.{DerBuffer}
+use Rattle.asn1_der_items.specs.Bytes.{SomeHasNoDer}
+use Rattle.asn1_der_items.specs.Series.{is_one_element}
+use Rattle.asn1_laws.specs.WritingUpToOrder.{RejectsByParts}
+use Rattle.asn1_model.specs.Records.{Head, Record, held, presence_marks_alone, scalar, scope, open_type, presence_mark}
+use Rattle.asn1_rules.specs.Rules.{Format, IsLawful}
+
+-- The records have no DER, or none that is BER.
+abbrev pub HaveNoPlainDer : List Record → Type 0
+HaveNoPlainDer rs = SomeHasNoDer (held rs) ⊎ (¬ ArePlain (held rs))
+
+-- What is written is DER. The octets are read as BER.
+abbrev pub written_ber : BufferForm DerBuffer
+written_ber = record {
+  wrote = written_der.wrote;
+  rejects = HaveNoPlainDer;
+  have_bytes = AreBerOf;
+}
+
+-- Parts of plain records are plain, and so is what they hold.
+later_plain : (before rs : List Record) → ArePlain (held (before ++ rs)) → ArePlain (held rs)
+later_plain [] rs p = p
+later_plain (b ∷ before) rs p = later_plain before rs p.1
+
+first_plain : (rs after : List Record) → ArePlain (held (rs ++ after)) → ArePlain (held rs)
+first_plain [] after p = tt
+first_plain (r ∷ rs) after p = (p.0, first_plain rs after p.1)
+
+part_rejected : (before rs after : List Record) → HaveNoPlainDer rs → HaveNoPlainDer (before ++ (rs ++ after))
+part_rejected before rs after (inl none) = inl (der_rejects_by_parts.part before rs after none)
+part_rejected before rs after (inr not) = inr (λ plain. not (first_plain rs after (later_plain before (rs ++ after) plain)))
+
+inner_rejected : (h : Head) (rs : List Record) → HaveNoPlainDer rs → HaveNoPlainDer (scope h (held rs) ∷ [])
+inner_rejected h rs (inl none) = inl (der_rejects_by_parts.inner h rs none)
+inner_rejected h rs (inr not) = inr (λ plain. not plain.0.1)
+
+marks_plain : (rs : List Record) → presence_marks_alone rs ≡ true → ArePlain (held rs)
+marks_plain [] e = tt
+marks_plain (scalar t c n x ∷ rs) e = cc
+marks_plain (scope h is ∷ rs) e = cc
+marks_plain (open_type n own ∷ rs) e = cc
+marks_plain (presence_mark m ∷ rs) e = (tt, marks_plain rs e)
+
+marks_rejected : (rs others : List Record) → presence_marks_alone rs ≡ true → (SomeHasNoDer (held rs) → SomeHasNoDer (held others)) → HaveNoPlainDer rs → HaveNoPlainDer others
+marks_rejected rs others alone der (inl none) = inl (der none)
+marks_rejected rs others alone der (inr not) = absurd (not (marks_plain rs alone))
+
+-- Records are rejected where a part of them is, or what one of them holds; and presence marks alone never are.
+pub rejects_by_parts : RejectsByParts (in_one_order written_ber)
+rejects_by_parts = record {
+  part = part_rejected;
+  inner = inner_rejected;
+  marks = λ rs alone rejected. marks_rejected rs _ alone (der_rejects_by_parts.marks rs alone) rejected;
+}
+
+-- The format of BER: octets carry the records whose BER they are, up to the order inside sets. Records are rejected that have no
+-- DER which is BER, and an open type is one element.
+abbrev pub ber_format : Format (Vec ℕ Global)
+ber_format = buffer_format written_ber (λ bytes. is_one_element bytes)
+
+-- it keeps to the law
+pub ber_is_lawful : IsLawful ber_format
+ber_is_lawful = buffer_format_is_lawful written_ber (λ bytes. is_one_element bytes) rejects_by_parts
+
+-- The octets are BER of these records, up to the order inside sets.
+abbrev pub Carries : List ℕ → List Record → Type 0
+Carries octets rs = CarriesUpToOrder AreBerOf octets rs

@@ -1,0 +1,4 @@
+pub mod Bytes
+pub mod Form
+pub mod Format
+pub mod Cuts

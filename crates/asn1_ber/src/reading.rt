@@ -1,0 +1,30 @@
+//! Reading a value from all of its octets.
+ghost use Rattle.asn1_ber.specs.Format.{Carries};
+ghost use Rattle.asn1_der_items.specs.Series.{is_one_element};
+ghost use Rattle.asn1_rules.specs.Rules.{ReadsCarried, RefusesCarried, RefusesTrailingRecords};
+
+use crate::BerDecoder;
+use crate::errors::decode_error_of;
+use asn1_ber_items::normal_form;
+use asn1_buffers::read_whole;
+use asn1_dec::{Decode, DecodeError};
+use std::alloc::Global;
+
+/// Reads the value whose octets these are, with at most this many nested scopes.
+pub(crate) fn read_octets<T: Decode>(
+    alloc: Global,
+    octets: &[u8],
+    depth: usize,
+) -> Result<T, DecodeError>
+    ensures read { ReadsCarried (λ own. is_one_element own) (Carries octets.now) T.meaning T.eq
+        depth result }
+    ensures refuses { RefusesCarried (λ own. is_one_element own) (Carries octets.now) T.meaning
+        T.refusals depth result }
+    ensures none_left { RefusesTrailingRecords (λ own. is_one_element own) (Carries octets.now)
+        T.meaning result }
+{
+    match normal_form(alloc, octets) {
+        Ok(normal) => read_whole(BerDecoder::new(alloc, normal.as_slice(), depth)),
+        Err(error) => Err(decode_error_of(error)),
+    }
+}

@@ -1,0 +1,94 @@
+//! The codec BER as a whole.
+ghost use Rattle.asn1_ber_items.specs.Spellings.{Spells};
+ghost use Rattle.asn1_laws.specs.Writing.{IsRejection};
+ghost use Rattle.asn1_laws.specs.declared.encode_error.EncodeError.TheVariants.{Depth, Failed};
+ghost use Rattle.std.specs.Prelude.{◌≡◌, ◌≢◌, [], IfErr, IfOk};
+
+use crate::reading::read_octets;
+use asn1_ber_items::normal_form;
+use asn1_buffers::write_whole;
+use asn1_dec::{Decode, DecodeError};
+use asn1_der::DerBuffer;
+use asn1_enc::{Encode, EncodeError};
+use asn1_items::ItemError;
+use asn1_rules::Rules;
+use std::alloc::Global;
+
+/// The rules of BER (X.690, 8): a value has many encodings, each of which is read. Its distinguished encoding is written.
+///
+/// They reject the records that have no DER, those with tag universal 0, which end-of-contents octets have (8.1.5), and those with an
+/// open type that is not in normal form: one element, with definite lengths of the fewest octets at each depth. So `write_value`
+/// fails if memory runs out, where the value's records are nested deeper than the depth, or where they are rejected, by
+/// [`EncodeError::Custom`] with a text that says why; and for no other reason.
+///
+/// Of octets that are not BER of a value of the type, `read_value` answers an error or a value. [`DecodeError::Incomplete`] comes
+/// where octets are missing, with how many of the part that is read, and [`DecodeError::Custom`], with the text `bad item`, where the
+/// octets are not what is asked for or some are left. An error of the type's own is answered as it is. No memory is taken by a
+/// length that the octets tell, but by those that are there.
+#[derive(Clone, Copy, Debug)]
+pub struct BerRules {
+    alloc: Global,
+}
+
+impl BerRules {
+    /// The rules, with the allocator that octets and values are made by.
+    pub fn new(alloc: Global) -> BerRules
+        ensures { result.alloc ≡ alloc }
+    {
+        BerRules { alloc }
+    }
+}
+
+impl Rules for BerRules {
+    ghost use Rattle.asn1_ber.specs.Format.{ber_format, ber_is_lawful};
+    ghost use Rattle.asn1_rules.specs.Rules.{ReadsCarried, RefusesCarried, RefusesTrailingRecords};
+
+    type Output = Vec<u8>;
+
+    ghost format = { ber_format };
+
+    fn write_value<T: Encode>(&self, value: &T, depth: usize) -> Result<Vec<u8>, EncodeError> {
+        let octets = write_whole::<DerBuffer, T>(self.alloc, value, depth)?;
+        normal_octets(self.alloc, octets)
+    }
+
+    fn read_value<T: Decode>(&self, output: &Vec<u8>, depth: usize) -> Result<T, DecodeError>
+        ensures read { ReadsCarried ber_format.accepts (ber_format.carries output.now)
+            T.meaning T.eq depth result }
+        ensures refuses { RefusesCarried ber_format.accepts (ber_format.carries output.now)
+            T.meaning T.refusals depth result }
+        ensures none_left { RefusesTrailingRecords ber_format.accepts
+            (ber_format.carries output.now) T.meaning result }
+    {
+        read_octets(self.alloc, output.as_slice(), depth)
+    }
+
+    ghost lawful = { ber_is_lawful };
+}
+
+/// These octets, if they are elements in normal form.
+///
+/// # Errors
+/// [`EncodeError::Memory`], and [`EncodeError::Custom`] where they are not.
+fn normal_octets(alloc: Global, octets: Vec<u8>) -> Result<Vec<u8>, EncodeError>
+    ensures normal { IfOk result (λ own. (own.items ≡ octets.items) ×
+        Spells own.items own.items []) }
+    ensures refused { IfErr result (λ e. IsRejection e → ¬ Spells octets.items octets.items []) }
+    ensures not_too_deep { IfErr result (λ e. e ≢ Depth) }
+    ensures not_failed { IfErr result (λ e. e ≢ Failed) }
+{
+    match normal_form(alloc, octets.as_slice()) {
+        Ok(normal) => {
+            if normal.as_slice() == octets.as_slice() {
+                Ok(octets)
+            } else {
+                Err(NOT_NORMAL)
+            }
+        }
+        Err(ItemError::Memory) => Err(EncodeError::Memory),
+        Err(_) => Err(NOT_NORMAL),
+    }
+}
+
+/// What was written is no element of BER in normal form.
+const NOT_NORMAL: EncodeError = EncodeError::Custom("a tag is universal 0, or an open type not normal");

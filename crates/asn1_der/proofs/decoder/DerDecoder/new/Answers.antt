@@ -1,8 +1,0 @@
-use Rattle.asn1_der.proofs.RemainingElements.{is_form}
-use Rattle.asn1_items.proofs.DecodeStates.{begins}
-use Rattle.asn1_der.proofs.decoder.DerDecoder.new.Goals as goal
-
-pub returns-clause-before : goal.returns-clause-before
-returns-clause-before c = λ exactly rs have same.
-    let begun = c.new.ensures in
-    begins is_form (λ d. d.state) _ c.args.bytes.now exactly rs begun.no_failure begun.inside begun.outside have same

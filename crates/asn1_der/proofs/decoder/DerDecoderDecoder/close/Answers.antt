@@ -1,8 +1,0 @@
-use Rattle.asn1_der.proofs.RemainingElements.{is_form}
-use Rattle.asn1_items.proofs.DecodeStates.{scope_closed}
-use Rattle.asn1_der.proofs.decoder.DerDecoderDecoder.close.Goals as goal
-
-pub returns-clause-read : goal.returns-clause-read
-returns-clause-read c =
-    let closed = c.close.ensures in
-    scope_closed is_form (λ d. d.state) c.args.self.now _ c.close.result closed.closed closed.no_failure closed.not_closed

@@ -1,6 +1,0 @@
-use Rattle.asn1_der.proofs.RemainingElements.{is_form}
-use Rattle.asn1_items.proofs.DecodeStates.{more_is_decided}
-use Rattle.asn1_der.proofs.decoder.DerDecoderDecoder.more.Goals as goal
-
-pub returns-clause-read : goal.returns-clause-read
-returns-clause-read c = more_is_decided is_form (λ d. d.state) c.args.self.now c.more.result c.more.ensures.decided c.more.ensures.has_failed

@@ -1,7 +1,0 @@
-use Rattle.std.proofs.Common.{refl}
-use Rattle.asn1_model.specs.ConstraintSets.{constraint_set}
-use Rattle.asn1_model.specs.Records.{sequence_of}
-use Rattle.asn1_der.proofs.decoder.DerDecoderDecoder.open_sequence_of.Goals as goal
-
-pub returns-clause-read : goal.returns-clause-read
-returns-clause-read c = c.open_list.ensures.read (sequence_of c.args.tag (constraint_set c.args._constraints.now)) (λ n. record { has_order = refl; has_tag = refl }) (λ n. refl)

@@ -1,0 +1,8 @@
+use Rattle.asn1_elements.proofs.RemainingElements.{is_form}
+use Rattle.asn1_items.proofs.DecodeStates.{scope_closed}
+use Rattle.asn1_elements.proofs.decoder.ElementDecoderDecoder.close.Goals as goal
+
+pub returns-clause-read : goal.returns-clause-read
+returns-clause-read g c =
+    let closed = c.close.ensures in
+    scope_closed (is_form g.F.ElementForm.lawful) (λ d. d.state) c.args.self.now _ c.close.result closed.closed closed.no_failure closed.not_closed

@@ -1,0 +1,3 @@
+pub mod ElementForms
+pub mod Decoder
+pub mod UnreadBytes

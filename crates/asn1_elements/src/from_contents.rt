@@ -1,0 +1,98 @@
+//! Types that are read from contents octets, as DER has them.
+ghost use Rattle.asn1_der_items.specs.Contents.{HasContents};
+ghost use Rattle.asn1_items.specs.declared.error.ItemError.TheVariants.{Memory};
+ghost use Rattle.asn1_model.specs.Records as model;
+ghost use Rattle.asn1_types.specs.AnyStrings.{IsStringOf, content_of_string};
+ghost use Rattle.std.specs.Prelude.{◌≡◌, ⊤, MatchResult};
+
+use asn1_der_items::{read_arcs, read_integer};
+use asn1_items::{FromContent, ItemError, StringOf, read_bits, read_twos};
+use asn1_types::{AnyString, CodecString, StringKind};
+use asn1_values::{Integer, IntegerType, ObjectIdentifier};
+use std::alloc::{AllocError, Global};
+
+/// A type that is read from the contents octets of an element.
+pub(crate) trait FromContents: FromContent {
+    /// Reads a value from contents octets of the kind.
+    ///
+    /// # Errors
+    /// [`ItemError::Memory`], and [`ItemError::Malformed`] where the octets are no contents of the kind, or not of the type.
+    fn from_contents(alloc: Global, octets: &[u8]) -> Result<Self, ItemError>
+        ensures read { (x : Self.Value) → Self.IsOfType x → HasContents (Self.content x) octets.now →
+            MatchResult result (λ w. Self.Is w x) (λ e. e ≡ Memory) };
+}
+
+impl FromContents for bool {
+    fn from_contents(_alloc: Global, octets: &[u8]) -> Result<Self, ItemError> {
+        match octets {
+            [0] => Ok(false),
+            [255] => Ok(true),
+            _ => Err(ItemError::Malformed),
+        }
+    }
+}
+
+impl FromContents for () {
+    fn from_contents(_alloc: Global, octets: &[u8]) -> Result<Self, ItemError> {
+        match octets {
+            [] => Ok(()),
+            _ => Err(ItemError::Malformed),
+        }
+    }
+}
+
+impl FromContents for Integer {
+    fn from_contents(alloc: Global, octets: &[u8]) -> Result<Self, ItemError> {
+        read_integer(alloc, octets)
+    }
+}
+
+/// The number of an item of an ENUMERATED type.
+impl FromContents for isize {
+    fn from_contents(alloc: Global, octets: &[u8]) -> Result<Self, ItemError> {
+        let number = read_integer(alloc, octets)?;
+        match isize::try_from_integer(number) {
+            Some(number) => Ok(number),
+            None => Err(ItemError::Malformed),
+        }
+    }
+}
+
+impl FromContents for ObjectIdentifier {
+    fn from_contents(alloc: Global, octets: &[u8]) -> Result<Self, ItemError> {
+        let arcs = read_arcs(alloc, octets)?;
+        Ok(ObjectIdentifier::new(arcs))
+    }
+}
+
+impl<U, K: CodecString<U>> FromContents for StringOf<U, K> {
+    fn from_contents(alloc: Global, octets: &[u8]) -> Result<Self, ItemError> {
+        match K::from_any(read_string(alloc, K::kind(), octets)?) {
+            Some(string) => Ok(StringOf { string }),
+            None => Err(ItemError::Malformed),
+        }
+    }
+}
+/// Reads the octets of a string of this kind. Its units need not be those that strings of the kind can have.
+fn read_string(alloc: Global, kind: StringKind, octets: &[u8]) -> Result<AnyString, ItemError>
+    ensures read { (x : model.Content) → IsStringOf kind x → HasContents x octets.now →
+        MatchResult result (λ string. content_of_string string ≡ x) (λ e. e ≡ Memory) }
+{
+    match kind {
+        StringKind::Bits => Ok(AnyString::Bits(read_bits(alloc, octets)?)),
+        StringKind::Octets(kind) => Ok(AnyString::Octets(kind, Vec::from_slice(alloc, octets)?)),
+        StringKind::Teletex => Ok(AnyString::Teletex(read_ones(alloc, octets)?)),
+        StringKind::Bmp => Ok(AnyString::Bmp(read_twos(alloc, octets)?)),
+    }
+}
+
+/// Reads numbers of one octet each.
+fn read_ones(alloc: Global, octets: &[u8]) -> Result<Vec<u32>, AllocError>
+    ensures { MatchResult result (λ units. units.items ≡ octets.now) (λ _. ⊤) }
+{
+    let mut units = Vec::new(alloc);
+    for octet in octets {
+        units.push(u32::from(*octet))?;
+    }
+    Ok(units)
+}
