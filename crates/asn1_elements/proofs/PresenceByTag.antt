@@ -56,7 +56,7 @@ module _ {F : ReadForm} {AreInOrder : ContentOrder → List ℕ → Type 0} (for
   next_element left items some have = by (marks_passed items) refl (passed items left have)
     where
       by : (l : List model.Record) → marks_passed items ≡ l → F.Have l left → NextElement left items
-      by [] is have = absurd (some have)
+      by [] is have = absurd (some (form.only_nothing left have))
       by (s ∷ ss) is have =
           let j = form.joined s ss left have in
           let one = element_of_record s j.first (form.element s j.first (first_left items s ss is).no_mark j.is_first) in

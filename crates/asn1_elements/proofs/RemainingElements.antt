@@ -1,11 +1,12 @@
 -- The elements left to a decoder: presence marks have no bytes, and a record is not the end.
-use Rattle.std.proofs.Common.{◌≡◌, ◌∙◌, ◌≤◌, ℕ, false, List, [], ◌∷◌, ◌++◌, length, refl, sym, ap, subst}
+use Rattle.std.proofs.Common.{◌≡◌, ◌∙◌, ◌≤◌, ℕ, false, List, [], ◌∷◌, ◌++◌, length, refl, sym, ap, subst, arith}
 use Rattle.asn1_laws.proofs.RemainingRecords.{same_as_record}
 use Rattle.asn1_laws.specs.Reading.{Outside}
 use Rattle.asn1_der_items.proofs.OneElement.{one}
-use Rattle.asn1_der_items.proofs.RecordElements.{HasElement, alone_long}
+use Rattle.asn1_der_items.proofs.RecordElements.{HasElement}
+use Rattle.asn1_der_items.specs.Elements.{Element}
 use Rattle.asn1_der_items.specs.RecordElements.{IsElementOfRecord}
-use Rattle.asn1_der_items.specs.Series.{tag_found}
+use Rattle.asn1_der_items.specs.Series.{IsAlone, tag_found}
 use Rattle.asn1_der_items.specs.declared.content_order.ContentOrder.{ContentOrder}
 use Rattle.asn1_elements.specs.Decoder.{Remains}
 use Rattle.asn1_elements.specs.ElementForms.{IsElementForm}
@@ -23,6 +24,11 @@ pub element_of_record : (r : Record) (own : List ℕ) → IsElementOfRecord r ow
 element_of_record r own is =
     let o = one own is.one in
     record { element = o.element; alone = o.alone; has = subst (Has (record_tags r)) (ap tag_found o.alone.at) is.tag }
+
+-- so its bytes are not nothing
+alone_long : (e : Element) (own : List ℕ) → IsAlone e own → 1 ≤ length own
+alone_long e [] is = let wrong = is.at in cc
+alone_long e (o ∷ own) is = omega arith
 
 module _ {F : ReadForm} {AreInOrder : ContentOrder → List ℕ → Type 0} (form : IsElementForm F AreInOrder) where
   -- a record that is no presence mark has bytes

@@ -5,4 +5,4 @@ use Rattle.asn1_elements.proofs.decoder.ElementDecoder.new.Goals as goal
 pub returns-clause-before : goal.returns-clause-before
 returns-clause-before g c = λ exactly rs have same.
     let begun = c.new.ensures in
-    begins (is_form g.F.ElementForm.lawful) (λ d. d.state) _ c.args.bytes.now exactly rs begun.no_failure begun.inside begun.outside have same
+    begins (is_form g.met.F.ElementForm.lawful) (λ d. d.state) _ c.args.bytes.now exactly rs begun.no_failure begun.inside begun.outside have same

@@ -9,14 +9,14 @@ use Rattle.asn1_elements.proofs.decoder.ElementDecoder.open.Goals as goal
 
 pub returns-in_err-element-clause-read : goal.returns-in_err-element-clause-read
 returns-in_err-element-clause-read g c = λ h items rest outer expected at.
-    let form = g.F.ElementForm.lawful in
+    let form = g.met.F.ElementForm.lawful in
     let next = next_is (is_form form) c.args.self.now.state (holding h items) rest outer at in
     let s = form.inside h items next.front next.has in
     absurd (c.in_err-element.ensures.took next.front next.back s.element at.no_failure s.alone next.left)
 
 pub returns-then-not-is_under-clause-read : goal.returns-then-not-is_under-clause-read
 returns-then-not-is_under-clause-read g c = λ h items rest outer expected at.
-    let form = g.F.ElementForm.lawful in
+    let form = g.met.F.ElementForm.lawful in
     let next = next_is (is_form form) c.args.self.now.state (holding h items) rest outer at in
     let s = form.inside h items next.front next.has in
     let parsed = c.in_ok-element.ensures.took next.front next.back s.element at.no_failure s.alone next.left in
@@ -24,7 +24,7 @@ returns-then-not-is_under-clause-read g c = λ h items rest outer expected at.
 
 pub returns-in_default-clause-read : goal.returns-in_default-clause-read
 returns-in_default-clause-read g c = λ h items rest outer expected at.
-    let form = g.F.ElementForm.lawful in
+    let form = g.met.F.ElementForm.lawful in
     let next = next_is (is_form form) c.args.self.now.state (holding h items) rest outer at in
     let s = form.inside h items next.front next.has in
     let parsed = c.in_ok-element.ensures.took next.front next.back s.element at.no_failure s.alone next.left in
@@ -34,7 +34,7 @@ returns-in_default-clause-read g c = λ h items rest outer expected at.
 
 pub returns-clause-read : goal.returns-clause-read
 returns-clause-read g c = λ h items rest outer expected at.
-    let form = g.F.ElementForm.lawful in
+    let form = g.met.F.ElementForm.lawful in
     let next = next_is (is_form form) c.args.self.now.state (holding h items) rest outer at in
     let s = form.inside h items next.front next.has in
     let parsed = c.in_ok-element.ensures.took next.front next.back s.element at.no_failure s.alone next.left in

@@ -5,4 +5,4 @@ use Rattle.asn1_elements.proofs.decoder.ElementDecoderDecoder.close.Goals as goa
 pub returns-clause-read : goal.returns-clause-read
 returns-clause-read g c =
     let closed = c.close.ensures in
-    scope_closed (is_form g.F.ElementForm.lawful) (λ d. d.state) c.args.self.now _ c.close.result closed.closed closed.no_failure closed.not_closed
+    scope_closed (is_form g.met.F.ElementForm.lawful) (λ d. d.state) c.args.self.now _ c.close.result closed.closed closed.no_failure closed.not_closed

@@ -8,4 +8,4 @@ use Rattle.asn1_elements.proofs.decoder.ElementDecoderDecoder.close_group.Goals 
 pub returns-clause-read : goal.returns-clause-read
 returns-clause-read g c =
     reads_mark (in_one_order g.F.ElementForm.form) c.args.self.now c.args.self.now group_end (Ok (tt {0}))
-    (λ rest outer at. record { answer = tt; at = past_mark g.F.ElementForm.lawful c.args.self.now.state c.args.self.now.state group_end rest outer c.if-self.false refl at; within_depth_left = omega arith })
+    (λ rest outer at. record { answer = tt; at = past_mark g.met.F.ElementForm.lawful c.args.self.now.state c.args.self.now.state group_end rest outer c.if-self.false refl at; within_depth_left = omega arith })

@@ -8,7 +8,7 @@ use Rattle.asn1_elements.proofs.decoder.ElementDecoderDecoder.decode_any.Goals a
 
 pub returns-in_err-element-clause-read : goal.returns-in_err-element-clause-read
 returns-in_err-element-clause-read g c =
-    let form = g.F.ElementForm.lawful in
+    let form = g.met.F.ElementForm.lawful in
     reads_open_type (in_one_order g.F.ElementForm.form) c.args.self.now c.take.new.self (λ w bytes. w ≡ bytes) c.from_residual.result
     (λ bytes n rest outer accepts at.
     let next = next_is (is_form form) c.args.self.now.state (open_type n bytes) rest outer at in
@@ -17,7 +17,7 @@ returns-in_err-element-clause-read g c =
 
 pub returns-in-Ok-clause-read : goal.returns-in-Ok-clause-read
 returns-in-Ok-clause-read g c =
-    let form = g.F.ElementForm.lawful in
+    let form = g.met.F.ElementForm.lawful in
     reads_open_type (in_one_order g.F.ElementForm.form) c.args.self.now c.take.new.self (λ w bytes. w ≡ bytes) (Ok c.new.result)
     (λ bytes n rest outer accepts at.
     let next = next_is (is_form form) c.args.self.now.state (open_type n bytes) rest outer at in

@@ -12,4 +12,4 @@ returns-clause-read g c = λ tag n can.
     let h = set tag (rows g.C.FieldTable.components) n in
     let found = c.next_tag.ensures in
     tells_next_tag (in_one_order g.F.ElementForm.form) c.args.self.now c.next_tag.new.self h cs c.next_tag.result
-    (λ items rest outer. next_tag_found g.F.ElementForm.lawful cs c.args.self.now c.next_tag.new.self items ((h, rest) ∷ outer) c.next_tag.result found.found found.same_bytes found.opens_nothing.keeps_depth.no_failure)
+    (λ items rest outer. next_tag_found g.met.F.ElementForm.lawful cs c.args.self.now c.next_tag.new.self items ((h, rest) ∷ outer) c.next_tag.result found.found found.same_bytes found.opens_nothing.keeps_depth.no_failure)
