@@ -12,7 +12,7 @@ use Rattle.asn1_der_items.specs.declared.content_order.ContentOrder.{ContentOrde
 use Rattle.asn1_der_items.specs.declared.content_order.ContentOrder.TheVariants.{AsDefined, ByTag, ByEncoding, Chosen}
 use Rattle.asn1_der_items.proofs.TrailingBytes.{cut_off}
 use Rattle.asn1_der_items.proofs.OneElement.{one}
-use Rattle.asn1_der.proofs.ParsedElements.{found_before, front_of, is_found}
+use Rattle.asn1_elements.proofs.ParsedElements.{found_before, front_of, is_found}
 use Rattle.asn1_der_items.specs.Elements.{Element, element_at}
 use Rattle.asn1_der_items.specs.Series.{IsAlone, is_one_element, is_whole, tag_found, tag_of}
 use Rattle.asn1_model.specs.Tags.{CHOICE}
