@@ -2,6 +2,8 @@
 use Rattle.std.specs.Prelude.{◌≡◌, ◌≢◌, ℕ, Bool, false, true, None, Some, List, [], ◌∷◌, ◌++◌, length}
 use Rattle.asn1_ber_items.specs.Headers.{Header, end_of_contents, header_at}
 use Rattle.asn1_der_items.specs.Elements.{IsElement}
+use Rattle.asn1_der_items.specs.Series.{is_one_element}
+use Rattle.asn1_tags.specs.declared.tags.Tag.{Tag}
 
 -- The bytes begin with the header of an element of this form.
 pub record BeginWith (constructed : Bool) (h : Header) (bytes : List ℕ) : Type 0 where
@@ -28,3 +30,31 @@ pub data Spells : List ℕ → List ℕ → List ℕ → Type 0 where
   -- a constructed element of an indefinite length: elements, and two zeros after them
   indefinite : (bytes inside own back others rest : List ℕ) (h : Header) → BeginWith true h bytes → h.size ≡ None →
       Spells h.rest inside (0 ∷ 0 ∷ back) → IsElement h.tag true inside own → Spells back others rest → Spells bytes (own ++ others) rest
+
+-- The bytes begin with one element of BER. This is the same element with definite lengths of the fewest octets, and the rest follows it.
+pub record SpellsOne (bytes normal rest : List ℕ) : Type 0 where
+  pub spells : Spells bytes normal rest
+  pub one : is_one_element normal ≡ true
+
+-- An element has one normal form, and ends at one byte.
+abbrev pub NormalFormsAreUnique : Type 0
+NormalFormsAreUnique =
+    (bytes normal rest other back : List ℕ) → SpellsOne bytes normal rest → SpellsOne bytes other back → (normal ≡ other) × (rest ≡ back)
+
+-- Trailing bytes change nothing of the elements with which bytes begin.
+abbrev pub TrailingBytesStay : Type 0
+TrailingBytesStay = (bytes normal rest more : List ℕ) → Spells bytes normal rest → Spells (bytes ++ more) normal (rest ++ more)
+
+-- Elements that follow others follow them in the normal form too.
+abbrev pub NormalFormsFollow : Type 0
+NormalFormsFollow = (first own second others rest : List ℕ) → Spells first own [] → Spells second others rest → Spells (first ++ second) (own ++ others) rest
+
+-- The normal form of elements is its own normal form.
+abbrev pub NormalFormsStay : Type 0
+NormalFormsStay = (bytes normal rest : List ℕ) → Spells bytes normal rest → Spells normal normal []
+
+-- An element of DER is its own normal form: a primitive one, and a constructed one around elements of DER.
+abbrev pub DerIsNormal : Type 0
+DerIsNormal =
+    (t : Tag) (contents own : List ℕ) → t ≢ end_of_contents →
+    (IsElement t false contents own → SpellsOne own own []) × (IsElement t true contents own → Spells contents contents [] → SpellsOne own own [])

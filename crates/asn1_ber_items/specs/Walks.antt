@@ -1,7 +1,7 @@
 -- The walk through elements of BER: the elements that are open, and what is to come.
 use Rattle.std.specs.Prelude.{◌≡◌, ◌≢◌, ⊤, ℕ, ◌+◌, ◌*◌, ◌<◌, Some, true, List, [], ◌∷◌, ◌++◌, length, take, drop}
 use Rattle.asn1_ber_items.specs.Headers.{end_of_contents, header_at, header_of}
-use Rattle.asn1_ber_items.specs.Spellings.{Spells}
+use Rattle.asn1_ber_items.specs.Spellings.{Spells, SpellsOne}
 use Rattle.asn1_ber_items.specs.declared.header.Header.{Header as HeaderRead}
 use Rattle.asn1_ber_items.specs.declared.open_element.Extent.{Extent}
 use Rattle.asn1_ber_items.specs.declared.open_element.Extent.TheVariants.{Definite, Indefinite}
@@ -15,6 +15,26 @@ pub record AreLast (normal left written : List ℕ) : Type 0 where
   pub others : List ℕ
   pub spell : Spells left others []
   pub are : normal ≡ written ++ others
+
+-- Where nothing is open, the first element is to come, if nothing was written. Else it was written, and the rest is left.
+abbrev pub IsFront : List ℕ → List ℕ → List ℕ → List ℕ → Type 0
+IsFront normal rest left [] = SpellsOne left normal rest
+IsFront normal rest left (o ∷ written) = (normal ≡ o ∷ written) × (rest ≡ left)
+
+-- What a walk answers: the normal form of all the bytes; or that of the first element, and the rest.
+pub data Outcome : Type 0 where
+  whole : (normal : List ℕ) → Outcome
+  front : (normal rest : List ℕ) → Outcome
+
+-- what is to come where nothing is open
+abbrev pub Remains : Outcome → List ℕ → List ℕ → Type 0
+Remains (whole normal) left written = AreLast normal left written
+Remains (front normal rest) left written = IsFront normal rest left written
+
+-- nothing more is to come: nothing is open, and nothing is left, or something was written
+abbrev pub IsOver : Outcome → List OpenElement → List ℕ → List ℕ → Type 0
+IsOver (whole normal) es left written = (es ≡ []) × (left ≡ [])
+IsOver (front normal rest) es left written = (es ≡ []) × (written ≢ [])
 
 -- what is left after the elements inside an open element, if these bytes follow it
 abbrev pub end_of : Extent → List ℕ → List ℕ
@@ -41,9 +61,13 @@ abbrev pub Comes : List OpenElement → (List ℕ → List ℕ → Type 0) → L
 Comes [] Later left written = Later left written
 Comes (e ∷ es) Later left written = Comes es (AreInside e Later) left written
 
--- The walk will have written these bytes.
-abbrev pub Writes : Walk → List ℕ → Type 0
-Writes walk normal = Comes walk.begun.items (AreLast normal) walk.left.now walk.written.items
+-- The walk will have this outcome.
+abbrev pub Writes : Walk → Outcome → Type 0
+Writes walk outcome = Comes walk.begun.items (Remains outcome) walk.left.now walk.written.items
+
+-- The walk has to go on for this outcome.
+abbrev pub GoesOn : Walk → Outcome → Type 0
+GoesOn walk outcome = ¬ IsOver outcome walk.begun.items walk.left.now walk.written.items
 
 -- The element was begun, and its contents octets are the last that were written.
 pub record IsBegunIn (e : OpenElement) (Before : List ℕ → Type 0) (written : List ℕ) : Type 0 where
@@ -107,6 +131,8 @@ pub record IsSplit (Is : List ℕ → List ℕ → Type 0) (others rest : List �
 
 -- The element with which the bytes begin is one of which this holds, and no other.
 pub record Splits (Is : List ℕ → List ℕ → Type 0) (left : List ℕ) : Type 0 where
+  pub alone : (own back : List ℕ) → SpellsOne left own back → Is own back
+  pub one : (own back : List ℕ) → Is own back → SpellsOne left own back
   pub ahead : (others rest : List ℕ) → IsEnd rest → Spells left others rest → IsSplit Is others rest
   pub behind : (own back later rest : List ℕ) → Is own back → Spells back later rest → Spells left (own ++ later) rest
 
@@ -123,13 +149,13 @@ pub record IsElementHere (header : HeaderRead) (walk : Walk) : Type 0 where
   pub at : header_at walk.left.now ≡ Some (header_of header)
   pub is_element : header.tag ≢ end_of_contents
 
--- A step of a walk: it will have written the same bytes, and less is left to do.
+-- A step of a walk: it will have the same outcome, and less is left to do.
 pub record Goes (old new : Walk) : Type 0 where
   pub consistent : IsConsistent new
-  pub ahead : (normal : List ℕ) → Writes old normal → Writes new normal
-  pub behind : (normal : List ℕ) → Writes new normal → Writes old normal
+  pub ahead : (outcome : Outcome) → GoesOn old outcome → Writes old outcome → Writes new outcome
+  pub behind : (outcome : Outcome) → GoesOn old outcome → Writes new outcome → Writes old outcome
   pub less : work new < work old
 
--- The walk will have written nothing, since the bytes left are no elements.
+-- The walk has no outcome for which it has to go on, since the bytes left are no elements.
 abbrev pub IsStuck : Walk → Type 0
-IsStuck walk = (normal : List ℕ) → ¬ Writes walk normal
+IsStuck walk = (outcome : Outcome) → GoesOn walk outcome → ¬ Writes walk outcome

@@ -7,21 +7,35 @@
 //! | Item | What it is |
 //! |---|---|
 //! | [`normal_form`] | the elements of which some bytes are, with definite lengths of the fewest octets |
+//! | [`front_element`], [`FrontElement`] | the same of the first element alone, and the bytes after it |
+//! | [`octets_of_pieces`], [`bits_of_pieces`] | a string that is constructed of pieces, as the primitive form has it |
+//! | [`read_truth_value`], [`strict_bits`] | contents octets that BER has and DER has not |
+//! | [`laws`] | laws of normal forms |
 //!
-//! The contract promises, in the words of `specs/Spellings.antt`:
+//! The contracts promise, in the words of `specs/Spellings.antt`, `specs/Pieces.antt` and `specs/LooseContents.antt`:
 //!
 //! - The answer has the elements of the bytes, each with its tag and its form, primitive or constructed, and with the same contents
 //!   octets if it is primitive (`only`, by `Spells`).
 //! - Bytes that are elements of BER have one normal form, and it is the answer, unless memory runs out (`found`).
+//! - The first element of some bytes has one normal form and one end ([`laws::normal_forms_are_unique`]), whatever follows it
+//!   ([`laws::trailing_bytes_stay`]). An element of DER is its own normal form ([`laws::der_is_normal`]).
+//! - The octets of a string in pieces are those of its primitive pieces, one after another (`AreOctetPieces`). Of a bit string each piece
+//!   but the last has whole octets (`AreBitPieces`).
+//! - TRUE is any octet but zero (`IsTruthValue`), and unused bits may be any (`AreLooseBits`).
 //!
-//! Elements may be nested to any depth: the walk (`specs/Walks.antt`) keeps the open elements in a list and does not call itself. No
-//! length in the bytes reserves memory. Contents octets of strings, numbers and truth values are left as they are.
+//! Elements may be nested to any depth: the walk (`specs/Walks.antt`) keeps the open elements in a list and does not call itself, and
+//! pieces are read with no list. No length in the bytes reserves memory. A normal form leaves contents octets as they are.
 #![tactic(auto)]
 
 mod header;
+pub mod laws;
+mod loose;
 mod normal;
 mod open_element;
+mod pieces;
 mod size;
 mod walk;
 
-pub use normal::normal_form;
+pub use loose::{read_truth_value, strict_bits};
+pub use normal::{FrontElement, front_element, normal_form};
+pub use pieces::{bits_of_pieces, octets_of_pieces};

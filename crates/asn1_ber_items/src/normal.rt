@@ -1,5 +1,5 @@
 //! The normal form of elements.
-ghost use Rattle.asn1_ber_items.specs.Spellings.{Spells};
+ghost use Rattle.asn1_ber_items.specs.Spellings.{Spells, SpellsOne};
 ghost use Rattle.asn1_items.specs.declared.error.ItemError.TheVariants.{Memory};
 ghost use Rattle.std.specs.Prelude.{◌≡◌, [], IfOk, List, MatchResult, ℕ};
 
@@ -22,4 +22,34 @@ pub fn normal_form(alloc: Global, bytes: &[u8]) -> Result<Vec<u8>, ItemError>
         walk.step()?;
     }
     Ok(walk.written)
+}
+
+/// The normal form of an element, and the bytes after the element.
+#[derive(Debug, Drop)]
+pub struct FrontElement<'a> {
+    /// The element with definite lengths of the fewest octets.
+    pub normal: Vec<u8>,
+    /// The bytes after the element, as it is spelled.
+    pub rest: &'a [u8],
+}
+
+/// The element with which the bytes begin, with definite lengths of the fewest octets (X.690, 8.1.3 and 10.1).
+///
+/// # Errors
+/// [`ItemError::Memory`]; else the bytes begin with no element of BER: [`ItemError::Missing`] where they end too early, with the
+/// number of bytes that are missing of the part that is read, and otherwise [`ItemError::Malformed`].
+pub fn front_element(alloc: Global, bytes: &[u8]) -> Result<FrontElement<'_>, ItemError>
+    ensures found { (normal rest : List ℕ) → SpellsOne bytes.now normal rest →
+        MatchResult result (λ f. (f.normal.items ≡ normal) × (f.rest.now ≡ rest))
+        (λ e. e ≡ Memory) }
+    ensures only { IfOk result (λ f. SpellsOne bytes.now f.normal.items f.rest.now) }
+{
+    let mut walk = Walk::new(alloc, bytes);
+    while !walk.is_after_front() {
+        walk.step()?;
+    }
+    Ok(FrontElement {
+        normal: walk.written,
+        rest: walk.left,
+    })
 }

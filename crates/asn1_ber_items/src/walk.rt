@@ -1,7 +1,6 @@
 //! The walk through elements of BER.
 ghost use Rattle.asn1_ber_items.specs.Headers.{end_of_contents};
-ghost use Rattle.asn1_ber_items.specs.Spellings.{Spells};
-ghost use Rattle.asn1_ber_items.specs.Walks.{Goes, IsClosing, IsConsistent, IsCopy, IsElementHere, IsEnding, IsStuck, Splits, Writes, bytes_after};
+ghost use Rattle.asn1_ber_items.specs.Walks.{Goes, GoesOn, IsClosing, IsConsistent, IsCopy, IsElementHere, IsEnding, IsStuck, Outcome, Remains, Splits, Writes, bytes_after};
 ghost use Rattle.asn1_der_items.specs.Elements.{IsElement};
 ghost use Rattle.asn1_items.specs.Numbers.{Appended};
 ghost use Rattle.asn1_items.specs.declared.error.ItemError.TheVariants.{Memory};
@@ -28,15 +27,15 @@ pub(crate) struct Walk<'a> {
     /// The open elements, the outermost first.
     begun: Vec<OpenElement<'a>>,
     /// The bytes that are left of the innermost open element.
-    left: &'a [u8],
+    pub(crate) left: &'a [u8],
 }
 
 impl<'a> Walk<'a> {
     /// A walk through these bytes.
     pub(crate) fn new(alloc: Global, bytes: &'a [u8]) -> Walk<'a>
         ensures consistent { IsConsistent result }
-        ensures ahead { (normal : List ℕ) → Spells bytes.now normal [] → Writes result normal }
-        ensures behind { (normal : List ℕ) → Writes result normal → Spells bytes.now normal [] }
+        ensures ahead { (outcome : Outcome) → Remains outcome bytes.now [] → Writes result outcome }
+        ensures behind { (outcome : Outcome) → Writes result outcome → Remains outcome bytes.now [] }
     {
         Walk {
             written: Vec::new(alloc),
@@ -52,13 +51,19 @@ impl<'a> Walk<'a> {
         self.begun.is_empty() && self.left.is_empty()
     }
 
-    /// Goes on, if something is left.
+    /// Whether the first element was written, and nothing after it.
+    pub(crate) fn is_after_front(&self) -> bool
+        ensures { Decides result ((self.now.begun.items ≡ []) × (self.now.written.items ≢ [])) }
+    {
+        self.begun.is_empty() && !self.written.is_empty()
+    }
+
+    /// Goes on.
     ///
     /// # Errors
     /// [`ItemError::Memory`]; else the bytes left are no elements.
     pub(crate) fn step(&mut self) -> Result<(), ItemError>
-        ensures { ¬ ((self.old.begun.items ≡ []) × (self.old.left.now ≡ [])) →
-            IsConsistent self.old → MatchResult result (λ _. Goes self.old self.new)
+        ensures { IsConsistent self.old → MatchResult result (λ _. Goes self.old self.new)
             (λ e. e ≢ Memory → IsStuck self.old) }
     {
         match self.ending() {
@@ -104,8 +109,7 @@ impl<'a> Walk<'a> {
 
     /// Begins the next element, where none ends.
     fn begin_next(&mut self) -> Result<(), ItemError>
-        ensures { ¬ ((self.old.begun.items ≡ []) × (self.old.left.now ≡ [])) →
-            ((back : List ℕ) → ¬ IsEnding self.old back) → IsConsistent self.old →
+        ensures { ((back : List ℕ) → ¬ IsEnding self.old back) → IsConsistent self.old →
             MatchResult result (λ _. Goes self.old self.new)
             (λ e. e ≢ Memory → IsStuck self.old) }
     {
