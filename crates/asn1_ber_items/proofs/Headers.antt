@@ -1,11 +1,20 @@
--- The header with which bytes begin takes some of them.
-use Rattle.std.proofs.Common.{◌≡◌, ℕ, zero, suc, ◌+◌, ◌-◌, ◌<◌, ◌≤◌, ◌^◌, Bool, true, false, List, [], ◌∷◌, ◌++◌, Option, None, Some, length, length-append, take, drop, refl, ap, sym, ◌∙◌, arith}
-use Rattle.std.proofs.lemmas.List.{length-take-le, take-append-drop}
+-- The header with which bytes begin takes some of them, and is that of their front.
+use Rattle.std.proofs.Common.{◌≡◌, ℕ, zero, suc, ◌+◌, ◌-◌, ◌<◌, ◌≤◌, ◌^◌, Bool, true, false, List, [], ◌∷◌, ◌++◌, Option, None, Some, append_assoc, length, length-append, take, drop, refl, ap, sym, ◌∙◌, arith, inl, inr}
+use Rattle.std.proofs.Math.Seq.{drop-append_seam, take-append_seam}
+use Rattle.std.proofs.lemmas.Bool.{le-leb, le-ltb, leb-true, lt-ltb, ne_eqb}
+use Rattle.std.proofs.lemmas.Int.Digits.{length-digits_of-le}
+use Rattle.std.proofs.lemmas.List.{drop-append-le, length-take-le, take-append-drop, take-append-le}
+use Rattle.std.specs.Int.Digits.{digits_of}
 use Rattle.std.specs.Prelude.{◌&&◌, nat_eq, nat_le, nat_lt, if◌then◌else◌}
 use Rattle.std.specs.Option.{option_and_then, option_map}
+use Rattle.asn1_tags.specs.declared.tags.Tag.{Tag}
+use Rattle.asn1_values.proofs.Digits.{digits_of-magnitude}
 use Rattle.asn1_values.specs.Numbers.{magnitude}
-use Rattle.asn1_der_items.proofs.TrailingBytes.{identifier_at-shorter}
-use Rattle.asn1_der_items.specs.Identifiers.{Identified, identifier_at}
+use Rattle.asn1_der_items.proofs.Found.{identifier-found}
+use Rattle.asn1_der_items.proofs.TrailingBytes.{identifier_at-append, identifier_at-shorter}
+use Rattle.asn1_der_items.specs.Elements.{IsElement}
+use Rattle.asn1_der_items.specs.Identifiers.{Identified, IsIdentifier, identifier_at}
+use Rattle.asn1_der_items.specs.Lengths.{IsLength, IsLongForm}
 use Rattle.asn1_ber_items.specs.Headers.{Header, Measured, header_at, later_size_at, long_size_at, of_identifier, size_at, with_size}
 use Rattle.asn1_ber_items.specs.Spellings.{IsDefinite}
 
@@ -64,3 +73,106 @@ cut_there h size contents back is enough first later = record {
 
 pub cut_shorter : (left : List ℕ) (h : Header) (contents back : List ℕ) → header_at left ≡ Some h → IsDefinite h contents back → length contents + length back < length left
 cut_shorter left h contents back at is = omega (arith, header_shorter left h at, ap length is.are, length-append contents back)
+
+-- trailing bytes: what was read, with these bytes after what is left
+abbrev pub measured_before : Measured → List ℕ → Measured
+measured_before m behind = record { size = m.size; rest = m.rest ++ behind }
+
+abbrev pub header_before : Header → List ℕ → Header
+header_before h behind = record { tag = h.tag; constructed = h.constructed; size = h.size; rest = h.rest ++ behind }
+
+-- the length in these digits, if there are enough
+abbrev long_size : Bool → List ℕ → List ℕ → Option Measured
+long_size enough digits rest = if enough && nat_lt (magnitude digits) (2 ^ 64) then Some (record { size = Some (magnitude digits); rest = rest }) else None
+
+long_size_at-append : (count : ℕ) (bytes behind : List ℕ) (m : Measured) → long_size_at count bytes ≡ Some m → long_size_at count (bytes ++ behind) ≡ Some (measured_before m behind)
+long_size_at-append count bytes behind m is = by (nat_le count (length bytes)) refl is
+  where
+    fits : (b : Bool) → (if true && b then Some (record { size = Some (magnitude (take count bytes)); rest = drop count bytes }) else None) ≡ Some m →
+        (if true && b then Some (record { size = Some (magnitude (take count bytes)); rest = drop count bytes ++ behind }) else None) ≡ Some (measured_before m behind)
+    fits true is = ap (λ (n : Measured). Some (measured_before n behind)) (some_is is)
+    fits false is = cc
+
+    by : (a : Bool) → nat_le count (length bytes) ≡ a → long_size a (take count bytes) (drop count bytes) ≡ Some m → long_size_at count (bytes ++ behind) ≡ Some (measured_before m behind)
+    by false few is = cc
+    by true few is =
+        let enough : count ≤ length bytes = leb-true count (length bytes) few in
+        ap (λ a. long_size a (take count (bytes ++ behind)) (drop count (bytes ++ behind))) (le-leb count (length (bytes ++ behind)) (omega (arith, enough, length-append bytes behind)))
+        ∙ ap (λ l. long_size true l (drop count (bytes ++ behind))) (take-append-le count bytes behind enough)
+        ∙ ap (λ l. long_size true (take count bytes) l) (drop-append-le count bytes behind enough)
+        ∙ fits (nat_lt (magnitude (take count bytes)) (2 ^ 64)) is
+
+later_size_at-append : (count : ℕ) (bytes behind : List ℕ) (m : Measured) → later_size_at count bytes ≡ Some m → later_size_at count (bytes ++ behind) ≡ Some (measured_before m behind)
+later_size_at-append count bytes behind m is = by (nat_eq count 0) (nat_eq count 127) is
+  where
+    by : (a b : Bool) → (if a then Some (record { size = None; rest = bytes }) else (if b then None else long_size_at count bytes)) ≡ Some m →
+        (if a then Some (record { size = None; rest = bytes ++ behind }) else (if b then None else long_size_at count (bytes ++ behind))) ≡ Some (measured_before m behind)
+    by true b is = ap (λ (n : Measured). Some (measured_before n behind)) (some_is is)
+    by false true is = cc
+    by false false is = long_size_at-append count bytes behind m is
+
+pub size_at-append : (bytes behind : List ℕ) (m : Measured) → size_at bytes ≡ Some m → size_at (bytes ++ behind) ≡ Some (measured_before m behind)
+size_at-append [] behind m is = cc
+size_at-append (o ∷ rest) behind m is = by (nat_lt o 128) is
+  where
+    by : (b : Bool) → (if b then Some (record { size = Some o; rest = rest }) else later_size_at (o - 128) rest) ≡ Some m →
+        (if b then Some (record { size = Some o; rest = rest ++ behind }) else later_size_at (o - 128) (rest ++ behind)) ≡ Some (measured_before m behind)
+    by true is = ap (λ (n : Measured). Some (measured_before n behind)) (some_is is)
+    by false is = later_size_at-append (o - 128) rest behind m is
+
+pub header_at-append : (bytes behind : List ℕ) (h : Header) → header_at bytes ≡ Some h → header_at (bytes ++ behind) ≡ Some (header_before h behind)
+header_at-append bytes behind h is = by (identifier_at bytes) refl is
+  where
+    by_size : (i : Identified) (o : Option Measured) → size_at i.rest ≡ o → option_map (with_size i) o ≡ Some h → option_map (with_size i) (size_at (i.rest ++ behind)) ≡ Some (header_before h behind)
+    by_size i None found is = cc
+    by_size i (Some m) found is = ap (option_map (with_size i)) (size_at-append i.rest behind m found) ∙ ap (λ (g : Header). Some (header_before g behind)) (some_is is)
+
+    by : (o : Option Identified) → identifier_at bytes ≡ o → option_and_then of_identifier o ≡ Some h → header_at (bytes ++ behind) ≡ Some (header_before h behind)
+    by None found is = cc
+    by (Some i) found is = ap (option_and_then of_identifier) (identifier_at-append bytes behind i found) ∙ by_size i (size_at i.rest) refl is
+
+-- a header is found by its identifier octets and a length
+pub header-found : (t : Tag) (constructed : Bool) (identifier others : List ℕ) (m : Measured) → IsIdentifier t constructed identifier → size_at others ≡ Some m →
+    header_at (identifier ++ others) ≡ Some (record { tag = t; constructed = constructed; size = m.size; rest = m.rest })
+header-found t constructed identifier others m is found =
+    ap (option_and_then of_identifier) (identifier-found t constructed identifier others is)
+    ∙ ap (option_map (with_size (record { tag = t; constructed = constructed; rest = others }))) found
+
+-- a length of the fewest octets is a length
+few_digits : (n : ℕ) (octets : List ℕ) (is : IsLongForm n octets) → length is.digits ≤ 8
+few_digits n octets is =
+    let same : digits_of 256 n ≡ is.digits = digits_of-magnitude is.digits n is.shortest (sym is.value) in
+    omega (arith, ap length same, length-digits_of-le 256 8 n (omega arith) (omega (arith, is.fits)))
+
+some_digits : (digits : List ℕ) → 128 ≤ magnitude digits → length digits ≡ 0 → ⊥
+some_digits [] high none = omega arith
+some_digits (d ∷ digits) high none = omega arith
+
+long_size-found : (n : ℕ) (octets back : List ℕ) (is : IsLongForm n octets) → long_size_at (length is.digits) (is.digits ++ back) ≡ Some (record { size = Some n; rest = back })
+long_size-found n octets back is =
+    ap (λ a. long_size a (take (length is.digits) (is.digits ++ back)) (drop (length is.digits) (is.digits ++ back))) (le-leb (length is.digits) (length (is.digits ++ back)) (omega (arith, length-append is.digits back)))
+    ∙ ap (λ l. long_size true l (drop (length is.digits) (is.digits ++ back))) (take-append_seam is.digits back)
+    ∙ ap (λ l. long_size true is.digits l) (drop-append_seam is.digits back)
+    ∙ ap (λ k. if true && nat_lt k (2 ^ 64) then Some (record { size = Some k; rest = back }) else None) is.value
+    ∙ ap (λ b. if true && b then Some (record { size = Some n; rest = back }) else None) (lt-ltb n (2 ^ 64) is.fits)
+
+pub size-found : (n : ℕ) (octets back : List ℕ) → IsLength n octets → size_at (octets ++ back) ≡ Some (record { size = Some n; rest = back })
+size-found n octets back (inl is) =
+    ap (λ l. size_at (l ++ back)) is.are ∙ ap (λ b. if b then Some (record { size = Some n; rest = back }) else later_size_at (n - 128) back) (lt-ltb n 128 is.below)
+size-found n octets back (inr is) =
+    ap (λ l. size_at (l ++ back)) is.are
+    ∙ ap (λ b. if b then Some (record { size = Some (length is.digits + 128); rest = is.digits ++ back }) else later_size_at (length is.digits + 128 - 128) (is.digits ++ back)) (le-ltb (length is.digits + 128) 128 (omega arith))
+    ∙ ap (λ k. later_size_at k (is.digits ++ back)) (omega arith)
+    ∙ ap (λ b. if b then Some (record { size = None; rest = is.digits ++ back }) else (if nat_eq (length is.digits) 127 then None else long_size_at (length is.digits) (is.digits ++ back)))
+    (ne_eqb (length is.digits) 0 (some_digits is.digits (omega (arith, is.value, is.not_short))))
+    ∙ ap (λ b. if b then None else long_size_at (length is.digits) (is.digits ++ back)) (ne_eqb (length is.digits) 127 (λ e. omega (arith, e, few_digits n octets is)))
+    ∙ long_size-found n octets back is
+
+-- so the header of an element of DER is found, whatever follows
+pub element_header : (t : Tag) (constructed : Bool) (contents own back : List ℕ) → IsElement t constructed contents own →
+    header_at (own ++ back) ≡ Some (record { tag = t; constructed = constructed; size = Some (length contents); rest = contents ++ back })
+element_header t constructed contents own back is =
+    let whole : own ++ back ≡ is.identifier ++ (is.size ++ (contents ++ back)) =
+    ap (λ l. l ++ back) is.are ∙ append_assoc is.identifier (is.size ++ contents) back ∙ ap (λ l. is.identifier ++ l) (append_assoc is.size contents back) in
+    ap header_at whole
+    ∙ header-found t constructed is.identifier (is.size ++ (contents ++ back)) (record { size = Some (length contents); rest = contents ++ back }) is.is_identifier (size-found (length contents) is.size (contents ++ back) is.is_size)

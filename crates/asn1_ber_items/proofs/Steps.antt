@@ -6,7 +6,7 @@ use Rattle.asn1_tags.specs.declared.tags.Tag.{Tag}
 use Rattle.asn1_items.specs.Numbers.{Appended}
 use Rattle.asn1_der_items.specs.Elements.{IsBegun, IsElement}
 use Rattle.asn1_ber_items.specs.Headers.{Header, end_of_contents, header_at}
-use Rattle.asn1_ber_items.specs.Walks.{AreBegun, AreLast, Comes, IsAfter, IsClosing, IsCopy, Splits, bytes_after, bytes_behind, end_of}
+use Rattle.asn1_ber_items.specs.Walks.{AreBegun, Comes, IsAfter, IsClosing, IsCopy, IsOver, Outcome, Remains, Splits, bytes_after, bytes_behind, end_of}
 use Rattle.asn1_ber_items.specs.declared.open_element.Extent.{Extent}
 use Rattle.asn1_ber_items.specs.declared.open_element.Extent.TheVariants.{Definite, Indefinite}
 use Rattle.asn1_ber_items.specs.declared.open_element.OpenElement.{OpenElement}
@@ -16,8 +16,8 @@ use Rattle.asn1_ber_items.proofs.Walking.{begun_in, begun_too, comes_back, consu
 -- A step over raw lists: the open elements, the bytes left and those that were written, before and after.
 pub record Steps (es fs : List OpenElement) (left back written new : List ℕ) : Type 0 where
   pub consistent : AreBegun fs (λ _. ⊤) new
-  pub ahead : (normal : List ℕ) → Comes es (AreLast normal) left written → Comes fs (AreLast normal) back new
-  pub behind : (normal : List ℕ) → Comes fs (AreLast normal) back new → Comes es (AreLast normal) left written
+  pub ahead : (outcome : Outcome) → ¬ IsOver outcome es left written → Comes es (Remains outcome) left written → Comes fs (Remains outcome) back new
+  pub behind : (outcome : Outcome) → ¬ IsOver outcome es left written → Comes fs (Remains outcome) back new → Comes es (Remains outcome) left written
 
 bytes_behind-last : (es : List OpenElement) (e : OpenElement) → bytes_behind (es ++ e ∷ []) ≡ bytes_behind es + bytes_after e.extent
 bytes_behind-last [] e = omega arith
@@ -48,10 +48,10 @@ steps_out es outer e left back written new are ends after appended consistent =
     let a = appended e.tag true b.before b.front b.contents b.begun b.are b.inside in
     record {
       consistent = subst (λ l. AreBegun outer (λ _. ⊤) l) (sym a.joined) (ended_begun outer e left written back a.added ends after b a.is);
-      ahead = λ normal comes. subst (λ l. Comes outer (AreLast normal) back l) (sym a.joined)
-          (ends_ahead outer e left written back a.added ends after b a.is normal (subst (λ fs. Comes fs (AreLast normal) left written) are comes));
-      behind = λ normal comes. subst (λ fs. Comes fs (AreLast normal) left written) (sym are)
-          (ends_behind outer e left written back a.added ends after b a.is normal (subst (λ l. Comes outer (AreLast normal) back l) a.joined comes));
+      ahead = λ outcome more comes. subst (λ l. Comes outer (Remains outcome) back l) (sym a.joined)
+          (ends_ahead outer e left written back a.added ends after b a.is outcome (subst (λ fs. Comes fs (Remains outcome) left written) are comes));
+      behind = λ outcome more comes. subst (λ fs. Comes fs (Remains outcome) left written) (sym are)
+          (ends_behind outer e left written back a.added ends after b a.is outcome (subst (λ l. Comes outer (Remains outcome) back l) a.joined comes));
     }
 
 -- less is left to do after an element that ends
@@ -71,12 +71,12 @@ steps_in es e left contents written front new splits begun joined starts inside 
     let at : e.contents ≡ length (written ++ front) = inside ∙ ap length joined in
     record {
       consistent = subst (λ l. AreBegun (es ++ e ∷ []) (λ _. ⊤) l) (sym joined) (begun_too es e contents written front begun starts at consistent);
-      ahead = λ normal comes.
-          let q = consumed (IsClosing e.tag e.extent contents) left splits normal written es consistent comes in
-          subst (λ l. Comes (es ++ e ∷ []) (AreLast normal) contents l) (sym joined) (goes_in es e contents written front begun starts at normal q.own q.back q.is q.comes);
-      behind = λ normal comes.
-          let q = comes_back es e contents written front begun starts at normal (subst (λ l. Comes (es ++ e ∷ []) (AreLast normal) contents l) joined comes) in
-          produced (IsClosing e.tag e.extent contents) left splits normal written es q.own q.back q.is consistent q.comes;
+      ahead = λ outcome more comes.
+          let q = consumed (IsClosing e.tag e.extent contents) left splits outcome written es more consistent comes in
+          subst (λ l. Comes (es ++ e ∷ []) (Remains outcome) contents l) (sym joined) (goes_in es e contents written front begun starts at outcome q.own q.back q.is q.comes);
+      behind = λ outcome more comes.
+          let q = comes_back es e contents written front begun starts at outcome (subst (λ l. Comes (es ++ e ∷ []) (Remains outcome) contents l) joined comes) in
+          produced (IsClosing e.tag e.extent contents) left splits outcome written es q.own q.back q.is more consistent q.comes;
     }
 
 pub less_in : (es : List OpenElement) (e : OpenElement) (left contents : List ℕ) → length contents + bytes_after e.extent < length left →
@@ -87,11 +87,11 @@ less_in es e left contents less = omega (arith, less, bytes_behind-last es e, le
 pub steps_over : (es : List OpenElement) (left back written own new : List ℕ) → Splits (IsCopy own back) left → new ≡ written ++ own → AreBegun es (λ _. ⊤) written → Steps es es left back written new
 steps_over es left back written own new splits joined consistent = record {
   consistent = subst (λ l. AreBegun es (λ _. ⊤) l) (sym joined) (grow es written own consistent);
-  ahead = λ normal comes.
-      let q = consumed (IsCopy own back) left splits normal written es consistent comes in
-      subst (λ l. Comes es (AreLast normal) back l) (sym joined)
-      (subst (λ l. Comes es (AreLast normal) back (written ++ l)) q.is.own_is (subst (λ l. Comes es (AreLast normal) l (written ++ q.own)) q.is.back_is q.comes));
-  behind = λ normal comes. produced (IsCopy own back) left splits normal written es own back (record { own_is = refl; back_is = refl }) consistent (subst (λ l. Comes es (AreLast normal) back l) joined comes);
+  ahead = λ outcome more comes.
+      let q = consumed (IsCopy own back) left splits outcome written es more consistent comes in
+      subst (λ l. Comes es (Remains outcome) back l) (sym joined)
+      (subst (λ l. Comes es (Remains outcome) back (written ++ l)) q.is.own_is (subst (λ l. Comes es (Remains outcome) l (written ++ q.own)) q.is.back_is q.comes));
+  behind = λ outcome more comes. produced (IsCopy own back) left splits outcome written es own back (record { own_is = refl; back_is = refl }) more consistent (subst (λ l. Comes es (Remains outcome) back l) joined comes);
 }
 
 -- what an element that begins has to be, by its header

@@ -1,12 +1,13 @@
 -- Each step of a walk leaves what it will have written.
-use Rattle.std.proofs.Common.{◌≡◌, ◌⊎◌, inl, inr, ℕ, ◌≤◌, true, List, [], ◌∷◌, ◌++◌, append-nil, length, length-append, take, drop, refl, ap, sym, subst, ◌∙◌, arith}
+use Rattle.std.proofs.Common.{◌≡◌, ◌≢◌, ◌⊎◌, inl, inr, ℕ, ◌≤◌, true, List, [], ◌∷◌, ◌++◌, append-nil, length, length-append, take, drop, refl, ap, sym, subst, ◌∙◌, arith}
 use Rattle.std.specs.Bool.{⊤}
 use Rattle.std.proofs.Math.Seq.{drop-append_seam, take-append_seam}
 use Rattle.std.proofs.lemmas.List.{append_assoc, drop-append-le, take-append-le}
 use Rattle.asn1_der_items.proofs.Encodings.{one_element}
+use Rattle.asn1_der_items.proofs.OneElement.{some_bytes as one_has_bytes}
 use Rattle.asn1_der_items.specs.Elements.{IsBegun, IsElement}
-use Rattle.asn1_ber_items.specs.Spellings.{Spells, nothing}
-use Rattle.asn1_ber_items.specs.Walks.{AreBegun, AreInside, AreLast, Comes, IsAfter, IsBegunIn, IsClosing, IsEnd, Splits, end_octets, end_of, nothing_left}
+use Rattle.asn1_ber_items.specs.Spellings.{Spells, SpellsOne, nothing}
+use Rattle.asn1_ber_items.specs.Walks.{AreBegun, AreInside, AreLast, Comes, IsAfter, IsBegunIn, IsClosing, IsEnd, IsFront, IsOver, Outcome, Remains, Splits, end_octets, end_of, front, nothing_left, whole}
 use Rattle.asn1_ber_items.specs.declared.open_element.Extent.{Extent}
 use Rattle.asn1_ber_items.specs.declared.open_element.Extent.TheVariants.{Definite, Indefinite}
 use Rattle.asn1_ber_items.specs.declared.open_element.OpenElement.{OpenElement}
@@ -72,15 +73,25 @@ is_end (Definite after) back = nothing_left
 is_end Indefinite back = end_octets back
 
 -- What is to come of an element that is there, in front of what comes after it.
-pub record Consumed (Is : List ℕ → List ℕ → Type 0) (es : List OpenElement) (normal written : List ℕ) : Type 0 where
+pub record Consumed (Is : List ℕ → List ℕ → Type 0) (es : List OpenElement) (outcome : Outcome) (written : List ℕ) : Type 0 where
   pub own : List ℕ
   pub back : List ℕ
   pub is : Is own back
-  pub comes : Comes es (AreLast normal) back (written ++ own)
+  pub comes : Comes es (Remains outcome) back (written ++ own)
 
-module _ (Is : List ℕ → List ℕ → Type 0) (left : List ℕ) (splits : Splits Is left) (normal written : List ℕ) where
-  consumed_last : AreLast normal left written → Consumed Is [] normal written
-  consumed_last l =
+-- the first element was written, where something was
+pub front_there : (normal rest left own : List ℕ) → own ≢ [] → normal ≡ own → rest ≡ left → IsFront normal rest left own
+front_there normal rest left [] some n r = absurd (some refl)
+front_there normal rest left (o ∷ own) some n r = (n, r)
+
+pub front_was : (normal rest left own : List ℕ) → own ≢ [] → IsFront normal rest left own → (normal ≡ own) × (rest ≡ left)
+front_was normal rest left [] some f = absurd (some refl)
+front_was normal rest left (o ∷ own) some f = f
+
+-- where nothing is open
+module _ (Is : List ℕ → List ℕ → Type 0) (left : List ℕ) (splits : Splits Is left) where
+  consumed_last : (outcome : Outcome) (written : List ℕ) → ¬ IsOver outcome [] left written → Remains outcome left written → Consumed Is [] outcome written
+  consumed_last (whole normal) written more l =
       let s = splits.ahead l.others [] nothing_left l.spell in
       record {
         own = s.own;
@@ -88,8 +99,28 @@ module _ (Is : List ℕ → List ℕ → Type 0) (left : List ℕ) (splits : Spl
         is = s.is;
         comes = record { others = s.later; spell = s.spell; are = l.are ∙ ap (λ x. written ++ x) s.are ∙ sym (append_assoc written s.own s.later) };
       }
+  consumed_last (front normal rest) [] more s = record {
+    own = normal;
+    back = rest;
+    is = splits.alone normal rest s;
+    comes = front_there normal rest rest normal (one_has_bytes normal s.one) refl refl;
+  }
+  consumed_last (front normal rest) (o ∷ written) more s = absurd (more (refl, λ e. cc))
 
-  consumed_inside : (outer : List OpenElement) (e : OpenElement) → IsBegunIn e (AreBegun outer (λ _. ⊤)) written → AreInside e (Comes outer (AreLast normal)) left written → Consumed Is (outer ++ e ∷ []) normal written
+  produced_last : (outcome : Outcome) (written own back : List ℕ) → Is own back → ¬ IsOver outcome [] left written → Remains outcome back (written ++ own) → Remains outcome left written
+  produced_last (whole normal) written own back is more l = record {
+    others = own ++ l.others;
+    spell = splits.behind own back l.others [] is l.spell;
+    are = l.are ∙ append_assoc written own l.others;
+  }
+  produced_last (front normal rest) [] own back is more f =
+      let s = splits.one own back is in
+      let w = front_was normal rest back own (one_has_bytes own s.one) f in
+      subst (λ l. SpellsOne left l rest) (sym w.0) (subst (λ l. SpellsOne left own l) (sym w.1) s)
+  produced_last (front normal rest) (o ∷ written) own back is more f = absurd (more (refl, λ e. cc))
+
+module _ (Is : List ℕ → List ℕ → Type 0) (left : List ℕ) (splits : Splits Is left) (outcome : Outcome) (written : List ℕ) where
+  consumed_inside : (outer : List OpenElement) (e : OpenElement) → IsBegunIn e (AreBegun outer (λ _. ⊤)) written → AreInside e (Comes outer (Remains outcome)) left written → Consumed Is (outer ++ e ∷ []) outcome written
   consumed_inside outer e b i =
       let s = splits.ahead i.others (end_of e.extent i.back) (is_end e.extent i.back) i.spell in
       let starts : e.start ≤ length written = omega (arith, b.starts, ap length b.are, length-append (b.before ++ b.front) b.contents, length-append b.before b.front) in
@@ -100,33 +131,26 @@ module _ (Is : List ℕ → List ℕ → Type 0) (left : List ℕ) (splits : Spl
         own = s.own;
         back = s.back;
         is = s.is;
-        comes = comes_out outer e (AreLast normal) s.back (written ++ s.own) (record {
+        comes = comes_out outer e (Remains outcome) s.back (written ++ s.own) (record {
           others = s.later;
           back = i.back;
           own = i.own;
           spell = s.spell;
           after = i.after;
           element = subst (λ l. IsElement e.tag true l i.own) same i.element;
-          later = subst (λ l. Comes outer (AreLast normal) i.back (l ++ i.own)) (sym (take-append-le e.start written s.own starts)) i.later;
+          later = subst (λ l. Comes outer (Remains outcome) i.back (l ++ i.own)) (sym (take-append-le e.start written s.own starts)) i.later;
         });
       }
 
-  pub consumed : (es : List OpenElement) → AreBegun es (λ _. ⊤) written → Comes es (AreLast normal) left written → Consumed Is es normal written
+  pub consumed : (es : List OpenElement) → ¬ IsOver outcome es left written → AreBegun es (λ _. ⊤) written → Comes es (Remains outcome) left written → Consumed Is es outcome written
   consumed es = by (view es)
     where
-      by : (es ≡ []) ⊎ IsSnoc es → AreBegun es (λ _. ⊤) written → Comes es (AreLast normal) left written → Consumed Is es normal written
-      by (inl none) = subst (λ fs. AreBegun fs (λ _. ⊤) written → Comes fs (AreLast normal) left written → Consumed Is fs normal written) (sym none) (λ b c. consumed_last c)
-      by (inr s) = subst (λ fs. AreBegun fs (λ _. ⊤) written → Comes fs (AreLast normal) left written → Consumed Is fs normal written) (sym s.are)
-          (λ b c. consumed_inside s.outer s.innermost (begun_in s.outer s.innermost (λ _. ⊤) written b) (comes_in s.outer s.innermost (AreLast normal) left written c))
+      by : (es ≡ []) ⊎ IsSnoc es → ¬ IsOver outcome es left written → AreBegun es (λ _. ⊤) written → Comes es (Remains outcome) left written → Consumed Is es outcome written
+      by (inl none) = subst (λ fs. ¬ IsOver outcome fs left written → AreBegun fs (λ _. ⊤) written → Comes fs (Remains outcome) left written → Consumed Is fs outcome written) (sym none) (λ more b c. consumed_last Is left splits outcome written more c)
+      by (inr s) = subst (λ fs. ¬ IsOver outcome fs left written → AreBegun fs (λ _. ⊤) written → Comes fs (Remains outcome) left written → Consumed Is fs outcome written) (sym s.are)
+          (λ more b c. consumed_inside s.outer s.innermost (begun_in s.outer s.innermost (λ _. ⊤) written b) (comes_in s.outer s.innermost (Remains outcome) left written c))
 
-  produced_last : (own back : List ℕ) → Is own back → AreLast normal back (written ++ own) → AreLast normal left written
-  produced_last own back is l = record {
-    others = own ++ l.others;
-    spell = splits.behind own back l.others [] is l.spell;
-    are = l.are ∙ append_assoc written own l.others;
-  }
-
-  produced_inside : (outer : List OpenElement) (e : OpenElement) (own back : List ℕ) → Is own back → IsBegunIn e (AreBegun outer (λ _. ⊤)) written → AreInside e (Comes outer (AreLast normal)) back (written ++ own) → AreInside e (Comes outer (AreLast normal)) left written
+  produced_inside : (outer : List OpenElement) (e : OpenElement) (own back : List ℕ) → Is own back → IsBegunIn e (AreBegun outer (λ _. ⊤)) written → AreInside e (Comes outer (Remains outcome)) back (written ++ own) → AreInside e (Comes outer (Remains outcome)) left written
   produced_inside outer e own back is b i =
       let starts : e.start ≤ length written = omega (arith, b.starts, ap length b.are, length-append (b.before ++ b.front) b.contents, length-append b.before b.front) in
       let inside : e.contents ≤ length written = omega (arith, b.inside, ap length b.are, length-append (b.before ++ b.front) b.contents) in
@@ -139,17 +163,17 @@ module _ (Is : List ℕ → List ℕ → Type 0) (left : List ℕ) (splits : Spl
         spell = splits.behind own back i.others (end_of e.extent i.back) is i.spell;
         after = i.after;
         element = subst (λ l. IsElement e.tag true l i.own) same i.element;
-        later = subst (λ l. Comes outer (AreLast normal) i.back (l ++ i.own)) (take-append-le e.start written own starts) i.later;
+        later = subst (λ l. Comes outer (Remains outcome) i.back (l ++ i.own)) (take-append-le e.start written own starts) i.later;
       }
 
-  pub produced : (es : List OpenElement) (own back : List ℕ) → Is own back → AreBegun es (λ _. ⊤) written → Comes es (AreLast normal) back (written ++ own) → Comes es (AreLast normal) left written
+  pub produced : (es : List OpenElement) (own back : List ℕ) → Is own back → ¬ IsOver outcome es left written → AreBegun es (λ _. ⊤) written → Comes es (Remains outcome) back (written ++ own) → Comes es (Remains outcome) left written
   produced es own back is = by (view es)
     where
-      by : (es ≡ []) ⊎ IsSnoc es → AreBegun es (λ _. ⊤) written → Comes es (AreLast normal) back (written ++ own) → Comes es (AreLast normal) left written
-      by (inl none) = subst (λ fs. AreBegun fs (λ _. ⊤) written → Comes fs (AreLast normal) back (written ++ own) → Comes fs (AreLast normal) left written) (sym none) (λ b c. produced_last own back is c)
-      by (inr s) = subst (λ fs. AreBegun fs (λ _. ⊤) written → Comes fs (AreLast normal) back (written ++ own) → Comes fs (AreLast normal) left written) (sym s.are)
-          (λ b c. comes_out s.outer s.innermost (AreLast normal) left written
-          (produced_inside s.outer s.innermost own back is (begun_in s.outer s.innermost (λ _. ⊤) written b) (comes_in s.outer s.innermost (AreLast normal) back (written ++ own) c)))
+      by : (es ≡ []) ⊎ IsSnoc es → ¬ IsOver outcome es left written → AreBegun es (λ _. ⊤) written → Comes es (Remains outcome) back (written ++ own) → Comes es (Remains outcome) left written
+      by (inl none) = subst (λ fs. ¬ IsOver outcome fs left written → AreBegun fs (λ _. ⊤) written → Comes fs (Remains outcome) back (written ++ own) → Comes fs (Remains outcome) left written) (sym none) (λ more b c. produced_last Is left splits outcome written own back is more c)
+      by (inr s) = subst (λ fs. ¬ IsOver outcome fs left written → AreBegun fs (λ _. ⊤) written → Comes fs (Remains outcome) back (written ++ own) → Comes fs (Remains outcome) left written) (sym s.are)
+          (λ more b c. comes_out s.outer s.innermost (Remains outcome) left written
+          (produced_inside s.outer s.innermost own back is (begun_in s.outer s.innermost (λ _. ⊤) written b) (comes_in s.outer s.innermost (Remains outcome) back (written ++ own) c)))
 
 -- an element that was begun is inside what is open
 module _ (es : List OpenElement) (e : OpenElement) (contents written front : List ℕ) (begun : IsBegun e.tag true front) (starts : e.start ≡ length written) (inside : e.contents ≡ length (written ++ front)) where
@@ -171,25 +195,25 @@ module _ (es : List OpenElement) (e : OpenElement) (contents written front : Lis
   dropped : drop e.contents (written ++ front) ≡ []
   dropped = ap (λ l. drop e.contents l) (sym (append-nil (written ++ front))) ∙ ap (λ n. drop n ((written ++ front) ++ [])) inside ∙ drop-append_seam (written ++ front) []
 
-  pub goes_in : (normal own back : List ℕ) → IsClosing e.tag e.extent contents own back → Comes es (AreLast normal) back (written ++ own) → Comes (es ++ e ∷ []) (AreLast normal) contents (written ++ front)
-  goes_in normal own back c comes = comes_out es e (AreLast normal) contents (written ++ front) (record {
+  pub goes_in : (outcome : Outcome) (own back : List ℕ) → IsClosing e.tag e.extent contents own back → Comes es (Remains outcome) back (written ++ own) → Comes (es ++ e ∷ []) (Remains outcome) contents (written ++ front)
+  goes_in outcome own back c comes = comes_out es e (Remains outcome) contents (written ++ front) (record {
     others = c.others;
     back = back;
     own = own;
     spell = c.spell;
     after = c.after;
     element = subst (λ l. IsElement e.tag true (l ++ c.others) own) (sym dropped) c.element;
-    later = subst (λ l. Comes es (AreLast normal) back (l ++ own)) (sym taken) comes;
+    later = subst (λ l. Comes es (Remains outcome) back (l ++ own)) (sym taken) comes;
   })
 
-  pub comes_back : (normal : List ℕ) → Comes (es ++ e ∷ []) (AreLast normal) contents (written ++ front) → Consumed (IsClosing e.tag e.extent contents) es normal written
-  comes_back normal comes =
-      let i = comes_in es e (AreLast normal) contents (written ++ front) comes in
+  pub comes_back : (outcome : Outcome) → Comes (es ++ e ∷ []) (Remains outcome) contents (written ++ front) → Consumed (IsClosing e.tag e.extent contents) es outcome written
+  comes_back outcome comes =
+      let i = comes_in es e (Remains outcome) contents (written ++ front) comes in
       record {
         own = i.own;
         back = i.back;
         is = record { others = i.others; spell = i.spell; after = i.after; element = subst (λ l. IsElement e.tag true (l ++ i.others) i.own) dropped i.element };
-        comes = subst (λ l. Comes es (AreLast normal) i.back (l ++ i.own)) taken i.later;
+        comes = subst (λ l. Comes es (Remains outcome) i.back (l ++ i.own)) taken i.later;
       }
 
 -- what follows an element that ends here
@@ -209,62 +233,70 @@ module _ (outer : List OpenElement) (e : OpenElement) (left written back own : L
   pub ended_begun : AreBegun outer (λ _. ⊤) (b.before ++ own)
   ended_begun = grow outer b.before own b.outer
 
-  pub ends_ahead : (normal : List ℕ) → Comes (outer ++ e ∷ []) (AreLast normal) left written → Comes outer (AreLast normal) back (b.before ++ own)
-  ends_ahead normal comes = by (comes_in outer e (AreLast normal) left written comes)
+  pub ends_ahead : (outcome : Outcome) → Comes (outer ++ e ∷ []) (Remains outcome) left written → Comes outer (Remains outcome) back (b.before ++ own)
+  ends_ahead outcome comes = by (comes_in outer e (Remains outcome) left written comes)
     where
-      by : AreInside e (Comes outer (AreLast normal)) left written → Comes outer (AreLast normal) back (b.before ++ own)
+      by : AreInside e (Comes outer (Remains outcome)) left written → Comes outer (Remains outcome) back (b.before ++ own)
       by i = at (none_or_more left i.others (end_of e.extent i.back) i.spell)
         where
-          at : ((left ≡ end_of e.extent i.back) × (i.others ≡ [])) ⊎ Begins left → Comes outer (AreLast normal) back (b.before ++ own)
+          at : ((left ≡ end_of e.extent i.back) × (i.others ≡ [])) ⊎ Begins left → Comes outer (Remains outcome) back (b.before ++ own)
           at (inr b) = absurd (none_begins (end_of e.extent back) (is_end e.extent back) (subst Begins ends b))
           at (inl none) =
               let same : i.back ≡ back = sym (same_back e.extent back i.back after i.after (sym ends ∙ none.0)) in
               let contents : drop e.contents written ++ i.others ≡ b.contents = ap (λ l. drop e.contents written ++ l) none.1 ∙ append-nil (drop e.contents written) ∙ dropped_front in
               let one : i.own ≡ own = one_element e.tag true b.contents i.own own (subst (λ l. IsElement e.tag true l i.own) contents i.element) element in
-              subst (λ l. Comes outer (AreLast normal) l (b.before ++ own)) same
-              (subst (λ l. Comes outer (AreLast normal) i.back (b.before ++ l)) one
-              (subst (λ l. Comes outer (AreLast normal) i.back (l ++ i.own)) taken_before i.later))
+              subst (λ l. Comes outer (Remains outcome) l (b.before ++ own)) same
+              (subst (λ l. Comes outer (Remains outcome) i.back (b.before ++ l)) one
+              (subst (λ l. Comes outer (Remains outcome) i.back (l ++ i.own)) taken_before i.later))
 
-  pub ends_behind : (normal : List ℕ) → Comes outer (AreLast normal) back (b.before ++ own) → Comes (outer ++ e ∷ []) (AreLast normal) left written
-  ends_behind normal comes = comes_out outer e (AreLast normal) left written (record {
+  pub ends_behind : (outcome : Outcome) → Comes outer (Remains outcome) back (b.before ++ own) → Comes (outer ++ e ∷ []) (Remains outcome) left written
+  ends_behind outcome comes = comes_out outer e (Remains outcome) left written (record {
     others = [];
     back = back;
     own = own;
     spell = subst (λ l. Spells l [] (end_of e.extent back)) (sym ends) (nothing (end_of e.extent back));
     after = after;
     element = subst (λ l. IsElement e.tag true l own) (sym dropped_front ∙ sym (append-nil (drop e.contents written))) element;
-    later = subst (λ l. Comes outer (AreLast normal) back (l ++ own)) (sym taken_before) comes;
+    later = subst (λ l. Comes outer (Remains outcome) back (l ++ own)) (sym taken_before) comes;
   })
 
--- where nothing ends and something is left, an element begins, if any bytes will have been written
-module _ (es : List OpenElement) (left written normal : List ℕ) (more : (es ≡ []) → (left ≡ []) → ⊥)
+-- where nothing ends and the walk goes on, an element begins, if the walk has an outcome
+begins_last : (outcome : Outcome) (left written : List ℕ) → ¬ IsOver outcome [] left written → Remains outcome left written → Begins left
+begins_last (whole normal) left written more l = by (none_or_more left l.others [] l.spell)
+  where
+    by : ((left ≡ []) × (l.others ≡ [])) ⊎ Begins left → Begins left
+    by (inl ended) = absurd (more (refl, ended.0))
+    by (inr b) = b
+begins_last (front normal rest) left [] more s = by (none_or_more left normal rest s.spells)
+  where
+    by : ((left ≡ rest) × (normal ≡ [])) ⊎ Begins left → Begins left
+    by (inl ended) = absurd (one_has_bytes normal s.one ended.1)
+    by (inr b) = b
+begins_last (front normal rest) left (o ∷ written) more s = absurd (more (refl, λ e. cc))
+
+module _ (es : List OpenElement) (left written : List ℕ) (outcome : Outcome) (more : ¬ IsOver outcome es left written)
     (none : (outer : List OpenElement) (e : OpenElement) (back : List ℕ) → es ≡ outer ++ e ∷ [] → left ≡ end_of e.extent back → IsAfter e.extent back → ⊥) where
-  pub begins : Comes es (AreLast normal) left written → Begins left
+  pub begins : Comes es (Remains outcome) left written → Begins left
   begins = by es more none (view es)
     where
-      last : ((left ≡ []) → ⊥) → AreLast normal left written → Begins left
-      last some l = at (none_or_more left l.others [] l.spell)
-        where
-          at : ((left ≡ []) × (l.others ≡ [])) ⊎ Begins left → Begins left
-          at (inl ended) = absurd (some ended.0)
-          at (inr b) = b
-
-      inside : (outer : List OpenElement) (e : OpenElement) → ((back : List ℕ) → left ≡ end_of e.extent back → IsAfter e.extent back → ⊥) → AreInside e (Comes outer (AreLast normal)) left written → Begins left
+      inside : (outer : List OpenElement) (e : OpenElement) → ((back : List ℕ) → left ≡ end_of e.extent back → IsAfter e.extent back → ⊥) → AreInside e (Comes outer (Remains outcome)) left written → Begins left
       inside outer e not i = at (none_or_more left i.others (end_of e.extent i.back) i.spell)
         where
           at : ((left ≡ end_of e.extent i.back) × (i.others ≡ [])) ⊎ Begins left → Begins left
           at (inl ended) = absurd (not i.back ended.0 i.after)
           at (inr b) = b
 
-      by : (fs : List OpenElement) → ((fs ≡ []) → (left ≡ []) → ⊥) → ((outer : List OpenElement) (e : OpenElement) (back : List ℕ) → fs ≡ outer ++ e ∷ [] → left ≡ end_of e.extent back → IsAfter e.extent back → ⊥) → (fs ≡ []) ⊎ IsSnoc fs → Comes fs (AreLast normal) left written → Begins left
-      by fs more none (inl empty) comes = last (more empty) (subst (λ gs. Comes gs (AreLast normal) left written) empty comes)
+      by : (fs : List OpenElement) → ¬ IsOver outcome fs left written → ((outer : List OpenElement) (e : OpenElement) (back : List ℕ) → fs ≡ outer ++ e ∷ [] → left ≡ end_of e.extent back → IsAfter e.extent back → ⊥) → (fs ≡ []) ⊎ IsSnoc fs →
+          Comes fs (Remains outcome) left written → Begins left
+      by fs more none (inl empty) comes =
+          begins_last outcome left written (subst (λ gs. ¬ IsOver outcome gs left written) empty more) (subst (λ gs. Comes gs (Remains outcome) left written) empty comes)
       by fs more none (inr s) comes = inside s.outer s.innermost (λ back. none s.outer s.innermost back s.are)
-          (comes_in s.outer s.innermost (AreLast normal) left written (subst (λ gs. Comes gs (AreLast normal) left written) s.are comes))
+          (comes_in s.outer s.innermost (Remains outcome) left written (subst (λ gs. Comes gs (Remains outcome) left written) s.are comes))
 
 -- where nothing is left, these bytes have been written
 pub at_end : (normal left written : List ℕ) → left ≡ [] → AreLast normal left written → normal ≡ written
-at_end normal left written none l = at (none_or_more left l.others [] l.spell)
+at_end normal left written none l = by (none_or_more left l.others [] l.spell)
   where
-    at : ((left ≡ []) × (l.others ≡ [])) ⊎ Begins left → normal ≡ written
-    at (inl ended) = l.are ∙ ap (λ x. written ++ x) ended.1 ∙ append-nil written
-    at (inr b) = absurd (none_begins [] nothing_left (subst Begins none b))
+    by : ((left ≡ []) × (l.others ≡ [])) ⊎ Begins left → normal ≡ written
+    by (inl ended) = l.are ∙ ap (λ x. written ++ x) ended.1 ∙ append-nil written
+    by (inr b) = absurd (none_begins [] nothing_left (subst Begins none b))

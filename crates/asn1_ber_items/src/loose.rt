@@ -30,16 +30,22 @@ pub fn strict_bits(alloc: Global, octets: &[u8]) -> Result<Vec<u8>, ItemError>
         MatchResult result (λ own. AreBits bits own.items) (λ e. e ≡ Memory) }
     ensures only { IfOk result (λ own. AreSameBits octets.now own.items) }
 {
+    let [unused, octets @ ..] = octets else {
+        return Err(ItemError::Malformed);
+    };
+    if *unused > 7 {
+        return Err(ItemError::Malformed);
+    }
     let mut bits = Vec::new(alloc);
-    bits.extend_from_slice(octets)?;
-    match octets {
-        [0] => Ok(bits),
-        [unused, .., last] if *unused < 8 => {
-            let end = octets.len() - 1;
-            bits[end] = without_unused(*last, *unused);
+    bits.push(*unused)?;
+    match octets.split_last() {
+        Some((last, front)) => {
+            bits.extend_from_slice(front)?;
+            bits.push(without_unused(*last, *unused))?;
             Ok(bits)
         }
-        _ => Err(ItemError::Malformed),
+        None if *unused == 0 => Ok(bits),
+        None => Err(ItemError::Malformed),
     }
 }
 

@@ -1,18 +1,17 @@
 //! Strings that are constructed of pieces.
+ghost use Rattle.asn1_ber_items.specs.Headers.{header_of};
 ghost use Rattle.asn1_ber_items.specs.Pieces.{AreBitPieces, AreOctetPieces, ArePiecesOfBits, BIT_STRING, HaveUnused, OCTET_STRING};
-ghost use Rattle.asn1_ber_items.specs.Spellings.{Spells};
-ghost use Rattle.asn1_der_items.specs.Elements.{element_at, element_of};
+ghost use Rattle.asn1_ber_items.specs.Spellings.{IsDefinite, Spells};
 ghost use Rattle.asn1_items.specs.declared.error.ItemError.TheVariants.{Memory};
-ghost use Rattle.asn1_tags.specs.declared.tags.Tag.{Tag as TagView};
-ghost use Rattle.std.specs.Prelude.{◌≡◌, ◌∷◌, ◌++◌, [], Decides, IfOk, List, MatchResult, Some, ℕ};
+ghost use Rattle.std.specs.Prelude.{◌≡◌, ◌<◌, ◌∷◌, ◌++◌, Decides, IfOk, IsOk, List, MatchResult, length, ℕ};
 
-use asn1_der_items::{Element, find_element};
+use crate::header::{Header, read_header};
 use asn1_items::ItemError;
 use asn1_tags::Tag;
 use std::alloc::Global;
 
-/// The octets of a string that is constructed of pieces (X.690, 8.7.3 and 8.23), nested to any depth. The pieces have definite lengths
-/// of the fewest octets, as in the answer of [`crate::front_element`].
+/// The octets of a string that is constructed of pieces (X.690, 8.7.3 and 8.23), nested to any depth. They are given in their normal
+/// form, as by [`crate::front_element`].
 ///
 /// # Errors
 /// [`ItemError::Memory`]; else the bytes are no such pieces: [`ItemError::Missing`] where they end too early, and otherwise
@@ -26,23 +25,23 @@ pub fn octets_of_pieces(alloc: Global, contents: &[u8]) -> Result<Vec<u8>, ItemE
     let mut octets = Vec::new(alloc);
     let mut left = contents;
     while !left.is_empty() {
-        let piece = find_element(left)?;
-        if !is_octet_string(piece.tag) {
+        let header = read_header(left)?;
+        if !is_octet_string(header.tag) {
             return Err(ItemError::Malformed);
         }
-        if piece.constructed {
-            left = from_contents(left, piece);
-        } else {
-            octets.extend_from_slice(piece.contents)?;
-            left = piece.rest;
+        if header.constructed {
+            left = header.rest;
+            continue;
         }
+        let piece = primitive_piece(header)?;
+        octets.extend_from_slice(piece.contents)?;
+        left = piece.rest;
     }
     Ok(octets)
 }
 
 /// The contents octets of the primitive form of a bit string that is constructed of pieces (X.690, 8.6.4), nested to any depth: how many
-/// bits of the last octet are unused, and the octets. The pieces have definite lengths of the fewest octets, as in the answer of
-/// [`crate::front_element`].
+/// bits of the last octet are unused, and the octets. The pieces are given in their normal form, as by [`crate::front_element`].
 ///
 /// # Errors
 /// [`ItemError::Memory`]; else the bytes are no such pieces: [`ItemError::Missing`] where they end too early, and otherwise
@@ -57,52 +56,69 @@ pub fn bits_of_pieces(alloc: Global, contents: &[u8]) -> Result<Vec<u8>, ItemErr
     bits.push(0)?;
     let mut left = contents;
     while !left.is_empty() {
-        let piece = find_element(left)?;
-        if !is_bit_string(piece.tag) {
+        let header = read_header(left)?;
+        if !is_bit_string(header.tag) {
             return Err(ItemError::Malformed);
         }
-        if piece.constructed {
-            left = from_contents(left, piece);
-        } else {
-            match piece.contents {
-                [0, octets @ ..] => {
-                    bits.extend_from_slice(octets)?;
-                    left = piece.rest;
-                }
-                [unused, octets @ ..] if piece.rest.is_empty() => {
-                    return with_last(bits, *unused, octets);
-                }
-                _ => return Err(ItemError::Malformed),
-            }
+        if header.constructed {
+            left = header.rest;
+            continue;
         }
+        let piece = primitive_piece(header)?;
+        let [unused, octets @ ..] = piece.contents else {
+            return Err(ItemError::Malformed);
+        };
+        if *unused > 0 {
+            return match piece.rest {
+                [] => with_last(bits, *unused, octets),
+                _ => Err(ItemError::Malformed),
+            };
+        }
+        bits.extend_from_slice(octets)?;
+        left = piece.rest;
     }
     Ok(bits)
 }
 
 /// The bits with the octets of the last piece, of which so many bits are unused.
-fn with_last(bits: Vec<u8>, unused: u8, octets: &[u8]) -> Result<Vec<u8>, ItemError>
+fn with_last(mut bits: Vec<u8>, unused: u8, octets: &[u8]) -> Result<Vec<u8>, ItemError>
+    requires some_octet { 0 < length bits.items }
+    requires some_bits { 0 < unused }
     ensures { (whole : List ℕ) → bits.items ≡ 0 ∷ whole → MatchResult result
         (λ own. (own.items ≡ unused ∷ (whole ++ octets.now)) × HaveUnused unused octets.now)
         (λ e. HaveUnused unused octets.now → e ≡ Memory) }
 {
-    let mut bits = bits;
     if unused > 7 || octets.is_empty() {
         return Err(ItemError::Malformed);
     }
     bits.extend_from_slice(octets)?;
-    match bits.first_mut() {
-        Some(first) => *first = unused,
-        None => {}
-    }
+    bits[0] = unused;
     Ok(bits)
 }
 
-/// The contents octets of the element with which the bytes begin, and the bytes after it.
-fn from_contents<'a>(bytes: &'a [u8], element: Element<'a>) -> &'a [u8]
-    requires { element_at bytes.now ≡ Some (element_of element) }
-    ensures { result.now ≡ element.entry.contents.now ++ element.entry.rest.now }
+/// A primitive piece, and the bytes after it.
+#[derive(Clone, Copy)]
+struct Piece<'a> {
+    /// The contents octets.
+    contents: &'a [u8],
+    /// The bytes after the piece.
+    rest: &'a [u8],
+}
+
+/// The primitive piece of this header.
+fn primitive_piece(header: Header<'_>) -> Result<Piece<'_>, ItemError>
+    ensures found { (contents rest : List ℕ) →
+        IsDefinite (header_of header.entry) contents rest → IsOk result }
+    ensures only { IfOk result (λ p.
+        IsDefinite (header_of header.entry) p.contents.now p.rest.now) }
 {
-    &bytes[bytes.len() - element.contents.len() - element.rest.len()..]
+    let Some(size) = header.size else {
+        return Err(ItemError::Malformed);
+    };
+    match header.rest.split_at_checked(size as usize) {
+        Some((contents, rest)) => Ok(Piece { contents, rest }),
+        None => Err(ItemError::Missing(size as usize - header.rest.len())),
+    }
 }
 
 /// Whether a tag is that of an OCTET STRING.

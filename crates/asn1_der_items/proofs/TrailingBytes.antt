@@ -22,6 +22,11 @@ element_before e behind = record { tag = e.tag; constructed = e.constructed; con
 pub element_at-append : (bytes behind : List ℕ) (e : Element) → element_at bytes ≡ Some e → element_at (bytes ++ behind) ≡ Some (element_before e behind)
 element_at-append bytes behind e is = read_before element_leaves element_at bytes e (element_read bytes e is) behind
 
+-- so do identifier octets
+pub identifier_at-append : (bytes behind : List ℕ) (i : Identified) → identifier_at bytes ≡ Some i →
+    identifier_at (bytes ++ behind) ≡ Some (record { tag = i.tag; constructed = i.constructed; rest = i.rest ++ behind })
+identifier_at-append bytes behind i is = read_before identifier_leaves identifier_at bytes i (identifier_read bytes i is) behind
+
 -- The element with which the bytes begin, alone, and what is left after it.
 pub record IsCutOff (e : Element) (bytes : List ℕ) : Type 0 where
   pub own : List ℕ

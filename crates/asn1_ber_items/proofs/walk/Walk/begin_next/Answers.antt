@@ -8,23 +8,23 @@ use Rattle.asn1_ber_items.proofs.Walking.{begins}
 use Rattle.asn1_ber_items.proofs.walk.Walk.begin_next.Goals as goal
 
 pub returns-in-Err : goal.returns-in-Err
-returns-in-Err c = λ more none consistent memory normal writes.
+returns-in-Err c = λ none consistent memory outcome more writes.
     let left = c.args.self.now.left.now in
-    let b = begins c.args.self.now.begun.items left c.args.self.now.written.items normal (λ e f. more (e, f))
+    let b = begins c.args.self.now.begun.items left c.args.self.now.written.items outcome more
     (λ outer e back are ends after. none back (record { outer = outer; innermost = e; are = are; ends = ends; after = after })) writes in
     let h = has_header left b in
     let wrong = c.in-Err.ensures.found h.0 h.1 in cc
 
 pub returns-then-is_end_of_contents : goal.returns-then-is_end_of_contents
-returns-then-is_end_of_contents c = λ more none consistent memory normal writes.
+returns-then-is_end_of_contents c = λ none consistent memory outcome more writes.
     let left = c.args.self.now.left.now in
     let h = header_of c.in-Ok.header in
-    let b = begins c.args.self.now.begun.items left c.args.self.now.written.items normal (λ e f. more (e, f))
+    let b = begins c.args.self.now.begun.items left c.args.self.now.written.items outcome more
     (λ outer e back are ends after. none back (record { outer = outer; innermost = e; are = are; ends = ends; after = after })) writes in
     (its_header left h c.in-Ok.ensures.only b).0 (c.if-is_end_of_contents.ensures.0 refl)
 
 pub returns-in-None : goal.returns-in-None
-returns-in-None c = λ more none consistent.
+returns-in-None c = λ none consistent.
     let left = c.args.self.now.left.now in
     let h = header_of c.in-Ok.header in
     let at = c.in-Ok.ensures.only in
@@ -36,10 +36,10 @@ returns-in-None c = λ more none consistent.
     (λ e m other. absurd (other m))
 
 pub returns-in-None-2 : goal.returns-in-None-2
-returns-in-None-2 c = λ more none consistent memory normal writes.
+returns-in-None-2 c = λ none consistent memory outcome more writes.
     let left = c.args.self.now.left.now in
     let h = header_of c.in-Ok.header in
-    let b = begins c.args.self.now.begun.items left c.args.self.now.written.items normal (λ e f. more (e, f))
+    let b = begins c.args.self.now.begun.items left c.args.self.now.written.items outcome more
     (λ outer e back are ends after. none back (record { outer = outer; innermost = e; are = are; ends = ends; after = after })) writes in
     let form = (its_header left h c.in-Ok.ensures.only b).1 c.in-None.is in
     let wrong = sym form ∙ c.if-header.false in cc

@@ -1,17 +1,17 @@
 use Rattle.std.proofs.Common.{◌≤◌, length, arith}
 use Rattle.std.proofs.lemmas.Result.{MatchResult-weaker}
 use Rattle.asn1_ber_items.specs.Headers.{header_of}
-use Rattle.asn1_ber_items.proofs.Headers.{cut_shorter, cut_there, some_bytes}
+use Rattle.asn1_ber_items.proofs.Headers.{cut_shorter, cut_there}
 use Rattle.asn1_ber_items.proofs.Splits.{definite_splits, primitive_splits}
 use Rattle.asn1_ber_items.proofs.Steps.{has_contents}
 use Rattle.asn1_ber_items.proofs.Walking.{begins}
 use Rattle.asn1_ber_items.proofs.walk.Walk.begin_with_length.Goals as goal
 
 pub returns-in_default : goal.returns-in_default
-returns-in_default c = λ here size none consistent memory normal writes.
+returns-in_default c = λ here size none consistent memory outcome more writes.
     let left = c.args.self.now.left.now in
     let h = header_of c.args.header in
-    let b = begins c.args.self.now.begun.items left c.args.self.now.written.items normal (λ _ nothing. some_bytes left h here.at nothing)
+    let b = begins c.args.self.now.begun.items left c.args.self.now.written.items outcome more
     (λ outer e back are ends after. none back (record { outer = outer; innermost = e; are = are; ends = ends; after = after })) writes in
     let enough : c.args.size ≤ length c.args.header.rest.now = has_contents left h c.args.size here.at size b in
     absurd (omega (arith, enough, c.in_default.ensures.cases))
