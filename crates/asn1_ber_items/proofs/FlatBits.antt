@@ -1,5 +1,9 @@
 -- Pieces of a bit string, header after header: inside a constructed piece the next header follows its own.
-use Rattle.std.proofs.Common.{◌≡◌, ◌≢◌, ◌⊎◌, inl, inr, ℕ, ◌<◌, Bool, true, false, List, [], ◌∷◌, ◌++◌, append-nil, append_assoc, None, Some, length, refl, ap, sym, subst, ◌∙◌}
+use Rattle.std.proofs.Common.{◌≡◌, ◌≢◌, ◌⊎◌, inl, inr, ℕ, ◌<◌, Bool, true, false, List, [], ◌∷◌, ◌++◌, append-nil, append_assoc, None, Some, length, refl, ap, sym, subst, ◌∙◌, arith}
+use Rattle.std.specs.Prelude.{Err, IfOk, MatchResult, Ok, Result, Vec}
+use Rattle.std.specs.declared.alloc.Global.{Global}
+use Rattle.asn1_items.specs.declared.error.ItemError.{ItemError}
+use Rattle.asn1_items.specs.declared.error.ItemError.TheVariants.{Memory}
 use Rattle.asn1_tags.specs.declared.tags.Tag.{Tag}
 use Rattle.asn1_der_items.specs.Elements.{IsElement}
 use Rattle.asn1_ber_items.specs.Headers.{Header, header_at}
@@ -84,7 +88,7 @@ some_header _ _ _ (header_next bytes later unused h piece flat) some = (h, piece
 
 -- Of such bytes, of which the first are a normal form, the first are all pieces that there are; or they are pieces of whole octets, and
 -- others follow.
-data IsNested (whole more : List ℕ) (unused : ℕ) (octets : List ℕ) : Type 0 where
+pub data IsNested (whole more : List ℕ) (unused : ℕ) (octets : List ℕ) : Type 0 where
   all_there : more ≡ [] → AreBitPieces whole unused octets → IsNested whole more unused octets
   some_there : (own later : List ℕ) → AreBitPieces whole 0 own → FlatBits more unused later → octets ≡ own ++ later → IsNested whole more unused octets
 
@@ -243,6 +247,28 @@ bits_here bytes left written octets contents rest unused h at plain is r pieces 
     by later (are_last tag form it have) are = let same = one_extent h (unused ∷ later) [] contents rest it is in is_last later (sym same.contents_are) (sym same.back_is) have are
     by later (are_bits first last end tag form it f joined) are = let same = one_extent h (0 ∷ first) last contents rest it is in is_whole first (sym same.contents_are)
 
+-- a piece has contents octets
+pub some_contents : (octets read contents rest : List ℕ) (unused : ℕ) → IsBitsHere unused octets read contents rest → contents ≡ [] → ⊥
+some_contents octets read contents rest unused (is_last own are none have joined) empty = let e : [] ≡ unused ∷ own = sym empty ∙ are in cc
+some_contents octets read contents rest unused (is_whole own are) empty = let e : [] ≡ 0 ∷ own = sym empty ∙ are in cc
+
+-- A piece with unused bits is the last.
+pub record IsLastHere (unused first : ℕ) (octets read own rest : List ℕ) : Type 0 where
+  pub unused_is : first ≡ unused
+  pub none : rest ≡ []
+  pub have : HaveUnused first own
+  pub joined : octets ≡ read ++ own
+
+pub last_here : (octets read own rest : List ℕ) (unused first : ℕ) → 0 < first → IsBitsHere unused octets read (first ∷ own) rest → IsLastHere unused first octets read own rest
+last_here octets read own rest unused first some (is_last other are none have joined) =
+    let same : first ≡ unused = cc in
+    let later : own ≡ other = cc in
+    record { unused_is = same; none = none; have = subst (λ n. HaveUnused n own) (sym same) (subst (HaveUnused unused) (sym later) have); joined = joined ∙ ap (λ l. read ++ l) (sym later) }
+last_here octets read own rest unused first some (is_whole other are) =
+    let zero : first ≡ 0 = cc in
+    let none : ⊥ = omega (arith, some, zero) in
+    absurd none
+
 -- where none is left, all bits were read
 pub read_all : (bytes left written octets : List ℕ) (unused : ℕ) → left ≡ [] → AreReadBits bytes left written → AreBitPieces bytes unused octets → written ≡ unused ∷ octets
 read_all bytes left written octets unused none r pieces =
@@ -278,3 +304,15 @@ read_last spelling bytes rest left written octets new unused h piece is have r a
   are = are;
   pieces = nested_whole spelling bytes rest (r.octets ++ octets) unused spells (r.behind unused octets (last_bits left octets unused h piece is have));
 }
+
+-- the answer for the last piece
+pub last_found : (result : Result (Vec ℕ Global) ItemError) (octets read own rest : List ℕ) (unused first : ℕ) → IsLastHere unused first octets read own rest →
+    MatchResult result (λ v. (v.items ≡ first ∷ (read ++ own)) × HaveUnused first own) (λ e. HaveUnused first own → e ≡ Memory) → MatchResult result (λ v. v.items ≡ unused ∷ octets) (λ e. e ≡ Memory)
+last_found (Ok v) octets read own rest unused first last answer = answer.0 ∙ ap (λ n. n ∷ (read ++ own)) last.unused_is ∙ ap (λ l. unused ∷ l) (sym last.joined)
+last_found (Err e) octets read own rest unused first last answer = answer last.have
+
+pub last_only : (result : Result (Vec ℕ Global) ItemError) (spelling bytes rest left written own : List ℕ) (first : ℕ) (h : Header) → IsPiece BIT_STRING false h left → IsDefinite h (first ∷ own) [] →
+    (r : AreReadBits bytes left written) → Spells spelling bytes rest →
+    MatchResult result (λ v. (v.items ≡ first ∷ (r.octets ++ own)) × HaveUnused first own) (λ e. HaveUnused first own → e ≡ Memory) → IfOk result (λ v. ArePiecesOfBits bytes v.items)
+last_only (Ok v) spelling bytes rest left written own first h piece is r spells answer = read_last spelling bytes rest left written own v.items first h piece is answer.1 r answer.0 spells
+last_only (Err e) spelling bytes rest left written own first h piece is r spells answer = tt

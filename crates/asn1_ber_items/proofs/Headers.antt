@@ -71,6 +71,10 @@ cut_there h size contents back is enough first later = record {
   are = sym (take-append-drop size h.rest) ∙ ap (λ l. l ++ drop size h.rest) (sym first) ∙ ap (λ l. contents ++ l) (sym later);
 }
 
+pub cut_fits : (h : Header) (size : ℕ) (contents back : List ℕ) → h.size ≡ Some size → IsDefinite h contents back → size ≤ length h.rest
+cut_fits h size contents back is d =
+    let long : length contents ≡ size = some_is (sym d.size ∙ is) in omega (arith, long, ap length d.are, length-append contents back)
+
 pub cut_shorter : (left : List ℕ) (h : Header) (contents back : List ℕ) → header_at left ≡ Some h → IsDefinite h contents back → length contents + length back < length left
 cut_shorter left h contents back at is = omega (arith, header_shorter left h at, ap length is.are, length-append contents back)
 
@@ -160,9 +164,10 @@ pub size-found : (n : ℕ) (octets back : List ℕ) → IsLength n octets → si
 size-found n octets back (inl is) =
     ap (λ l. size_at (l ++ back)) is.are ∙ ap (λ b. if b then Some (record { size = Some n; rest = back }) else later_size_at (n - 128) back) (lt-ltb n 128 is.below)
 size-found n octets back (inr is) =
+    let same : length is.digits + 128 - 128 ≡ length is.digits = omega arith in
     ap (λ l. size_at (l ++ back)) is.are
     ∙ ap (λ b. if b then Some (record { size = Some (length is.digits + 128); rest = is.digits ++ back }) else later_size_at (length is.digits + 128 - 128) (is.digits ++ back)) (le-ltb (length is.digits + 128) 128 (omega arith))
-    ∙ ap (λ k. later_size_at k (is.digits ++ back)) (omega arith)
+    ∙ ap (λ k. later_size_at k (is.digits ++ back)) same
     ∙ ap (λ b. if b then Some (record { size = None; rest = is.digits ++ back }) else (if nat_eq (length is.digits) 127 then None else long_size_at (length is.digits) (is.digits ++ back)))
     (ne_eqb (length is.digits) 0 (some_digits is.digits (omega (arith, is.value, is.not_short))))
     ∙ ap (λ b. if b then None else long_size_at (length is.digits) (is.digits ++ back)) (ne_eqb (length is.digits) 127 (λ e. omega (arith, e, few_digits n octets is)))

@@ -1,7 +1,7 @@
 mod FlatBits
 mod FlatOctets
 pub mod Headers
-mod Loose
+mod LooseOctets
 pub mod NormalForms
 mod Splits
 mod Steps

@@ -3,6 +3,8 @@ use Rattle.std.proofs.Common.{◌≡◌, ◌≢◌, ℕ, ◌+◌, ◌*◌, ◌<�
 use Rattle.std.specs.Bool.{⊤}
 use Rattle.std.proofs.Math.Seq.{drop-append_seam, take-append_seam}
 use Rattle.asn1_tags.specs.declared.tags.Tag.{Tag}
+use Rattle.asn1_items.specs.declared.error.ItemError.{ItemError}
+use Rattle.asn1_items.specs.declared.error.ItemError.TheVariants.{Malformed, Memory, Missing}
 use Rattle.asn1_items.specs.Numbers.{Appended}
 use Rattle.asn1_der_items.specs.Elements.{IsBegun, IsElement}
 use Rattle.asn1_ber_items.specs.Headers.{Header, end_of_contents, header_at}
@@ -128,3 +130,9 @@ has_contents left h size at is (with_length g contents back begin d) =
     omega (arith, long, ap length (sym (ap (λ (i : Header). i.rest) same) ∙ d.are), length-append contents back)
 has_contents left h size at is (with_end g begin none) =
     let e : None ≡ Some size = sym none ∙ ap (λ (i : Header). i.size) (some_is (sym begin.at ∙ at)) ∙ is in cc
+
+-- an error that cannot be another is that there was no memory
+pub only_memory : (e : ItemError) → ((e ≢ Memory) → ⊥) → e ≡ Memory
+only_memory Memory never = refl
+only_memory (Missing count) never = absurd (never (λ e. cc))
+only_memory Malformed never = absurd (never (λ e. cc))

@@ -7,7 +7,7 @@ use Rattle.asn1_der_items.proofs.Encodings.{one_element}
 use Rattle.asn1_der_items.proofs.OneElement.{some_bytes as one_has_bytes}
 use Rattle.asn1_der_items.specs.Elements.{IsBegun, IsElement}
 use Rattle.asn1_ber_items.specs.Spellings.{Spells, SpellsOne, nothing}
-use Rattle.asn1_ber_items.specs.Walks.{AreBegun, AreInside, AreLast, Comes, IsAfter, IsBegunIn, IsClosing, IsEnd, IsFront, IsOver, Outcome, Remains, Splits, end_octets, end_of, front, nothing_left, whole}
+use Rattle.asn1_ber_items.specs.Walks.{AreBegun, AreInside, AreLast, Comes, IsAfter, IsBegunIn, IsClosing, IsEnd, IsFront, IsOver, Outcome, Remains, Splits, end_octets, end_of, nothing_left, of_all, of_first}
 use Rattle.asn1_ber_items.specs.declared.open_element.Extent.{Extent}
 use Rattle.asn1_ber_items.specs.declared.open_element.Extent.TheVariants.{Definite, Indefinite}
 use Rattle.asn1_ber_items.specs.declared.open_element.OpenElement.{OpenElement}
@@ -91,7 +91,7 @@ front_was normal rest left (o ∷ own) some f = f
 -- where nothing is open
 module _ (Is : List ℕ → List ℕ → Type 0) (left : List ℕ) (splits : Splits Is left) where
   consumed_last : (outcome : Outcome) (written : List ℕ) → ¬ IsOver outcome [] left written → Remains outcome left written → Consumed Is [] outcome written
-  consumed_last (whole normal) written more l =
+  consumed_last (of_all normal) written more l =
       let s = splits.ahead l.others [] nothing_left l.spell in
       record {
         own = s.own;
@@ -99,25 +99,25 @@ module _ (Is : List ℕ → List ℕ → Type 0) (left : List ℕ) (splits : Spl
         is = s.is;
         comes = record { others = s.later; spell = s.spell; are = l.are ∙ ap (λ x. written ++ x) s.are ∙ sym (append_assoc written s.own s.later) };
       }
-  consumed_last (front normal rest) [] more s = record {
+  consumed_last (of_first normal rest) [] more s = record {
     own = normal;
     back = rest;
     is = splits.alone normal rest s;
     comes = front_there normal rest rest normal (one_has_bytes normal s.one) refl refl;
   }
-  consumed_last (front normal rest) (o ∷ written) more s = absurd (more (refl, λ e. cc))
+  consumed_last (of_first normal rest) (o ∷ written) more s = absurd (more (refl, λ e. cc))
 
   produced_last : (outcome : Outcome) (written own back : List ℕ) → Is own back → ¬ IsOver outcome [] left written → Remains outcome back (written ++ own) → Remains outcome left written
-  produced_last (whole normal) written own back is more l = record {
+  produced_last (of_all normal) written own back is more l = record {
     others = own ++ l.others;
     spell = splits.behind own back l.others [] is l.spell;
     are = l.are ∙ append_assoc written own l.others;
   }
-  produced_last (front normal rest) [] own back is more f =
+  produced_last (of_first normal rest) [] own back is more f =
       let s = splits.one own back is in
       let w = front_was normal rest back own (one_has_bytes own s.one) f in
       subst (λ l. SpellsOne left l rest) (sym w.0) (subst (λ l. SpellsOne left own l) (sym w.1) s)
-  produced_last (front normal rest) (o ∷ written) own back is more f = absurd (more (refl, λ e. cc))
+  produced_last (of_first normal rest) (o ∷ written) own back is more f = absurd (more (refl, λ e. cc))
 
 module _ (Is : List ℕ → List ℕ → Type 0) (left : List ℕ) (splits : Splits Is left) (outcome : Outcome) (written : List ℕ) where
   consumed_inside : (outer : List OpenElement) (e : OpenElement) → IsBegunIn e (AreBegun outer (λ _. ⊤)) written → AreInside e (Comes outer (Remains outcome)) left written → Consumed Is (outer ++ e ∷ []) outcome written
@@ -262,17 +262,17 @@ module _ (outer : List OpenElement) (e : OpenElement) (left written back own : L
 
 -- where nothing ends and the walk goes on, an element begins, if the walk has an outcome
 begins_last : (outcome : Outcome) (left written : List ℕ) → ¬ IsOver outcome [] left written → Remains outcome left written → Begins left
-begins_last (whole normal) left written more l = by (none_or_more left l.others [] l.spell)
+begins_last (of_all normal) left written more l = by (none_or_more left l.others [] l.spell)
   where
     by : ((left ≡ []) × (l.others ≡ [])) ⊎ Begins left → Begins left
     by (inl ended) = absurd (more (refl, ended.0))
     by (inr b) = b
-begins_last (front normal rest) left [] more s = by (none_or_more left normal rest s.spells)
+begins_last (of_first normal rest) left [] more s = by (none_or_more left normal rest s.spells)
   where
     by : ((left ≡ rest) × (normal ≡ [])) ⊎ Begins left → Begins left
     by (inl ended) = absurd (one_has_bytes normal s.one ended.1)
     by (inr b) = b
-begins_last (front normal rest) left (o ∷ written) more s = absurd (more (refl, λ e. cc))
+begins_last (of_first normal rest) left (o ∷ written) more s = absurd (more (refl, λ e. cc))
 
 module _ (es : List OpenElement) (left written : List ℕ) (outcome : Outcome) (more : ¬ IsOver outcome es left written)
     (none : (outer : List OpenElement) (e : OpenElement) (back : List ℕ) → es ≡ outer ++ e ∷ [] → left ≡ end_of e.extent back → IsAfter e.extent back → ⊥) where

@@ -23,18 +23,18 @@ IsFront normal rest left (o ∷ written) = (normal ≡ o ∷ written) × (rest �
 
 -- What a walk answers: the normal form of all the bytes; or that of the first element, and the rest.
 pub data Outcome : Type 0 where
-  whole : (normal : List ℕ) → Outcome
-  front : (normal rest : List ℕ) → Outcome
+  of_all : (normal : List ℕ) → Outcome
+  of_first : (normal rest : List ℕ) → Outcome
 
 -- what is to come where nothing is open
 abbrev pub Remains : Outcome → List ℕ → List ℕ → Type 0
-Remains (whole normal) left written = AreLast normal left written
-Remains (front normal rest) left written = IsFront normal rest left written
+Remains (of_all normal) left written = AreLast normal left written
+Remains (of_first normal rest) left written = IsFront normal rest left written
 
 -- nothing more is to come: nothing is open, and nothing is left, or something was written
 abbrev pub IsOver : Outcome → List OpenElement → List ℕ → List ℕ → Type 0
-IsOver (whole normal) es left written = (es ≡ []) × (left ≡ [])
-IsOver (front normal rest) es left written = (es ≡ []) × (written ≢ [])
+IsOver (of_all normal) es left written = (es ≡ []) × (left ≡ [])
+IsOver (of_first normal rest) es left written = (es ≡ []) × (written ≢ [])
 
 -- what is left after the elements inside an open element, if these bytes follow it
 abbrev pub end_of : Extent → List ℕ → List ℕ

@@ -24,24 +24,24 @@ pub fn read_truth_value(octets: &[u8]) -> Result<bool, ItemError>
 /// The contents octets of a bit string as DER has them: the unused bits of the last octet are 0 (X.690, 11.2.1).
 ///
 /// # Errors
-/// [`ItemError::Memory`], and [`ItemError::Malformed`] where the octets are no bits (8.6.2).
-pub fn strict_bits(alloc: Global, octets: &[u8]) -> Result<Vec<u8>, ItemError>
-    ensures found { (bits : List Bool) → AreLooseBits bits octets.now →
+/// [`ItemError::Memory`], and [`ItemError::Malformed`] where the bytes are no bits (8.6.2).
+pub fn strict_bits(alloc: Global, bytes: &[u8]) -> Result<Vec<u8>, ItemError>
+    ensures found { (bits : List Bool) → AreLooseBits bits bytes.now →
         MatchResult result (λ own. AreBits bits own.items) (λ e. e ≡ Memory) }
-    ensures only { IfOk result (λ own. AreSameBits octets.now own.items) }
+    ensures only { IfOk result (λ own. AreSameBits bytes.now own.items) }
 {
-    let [unused, octets @ ..] = octets else {
+    let Some((unused, octets)) = bytes.split_first() else {
         return Err(ItemError::Malformed);
     };
     if *unused > 7 {
         return Err(ItemError::Malformed);
     }
     let mut bits = Vec::new(alloc);
-    bits.push(*unused)?;
+    bits.extend_from_slice(&[*unused])?;
     match octets.split_last() {
         Some((last, front)) => {
             bits.extend_from_slice(front)?;
-            bits.push(without_unused(*last, *unused))?;
+            bits.extend_from_slice(&[without_unused(*last, *unused)])?;
             Ok(bits)
         }
         None if *unused == 0 => Ok(bits),

@@ -53,7 +53,7 @@ pub fn bits_of_pieces(alloc: Global, contents: &[u8]) -> Result<Vec<u8>, ItemErr
         IfOk result (λ own. ArePiecesOfBits contents.now own.items) }
 {
     let mut bits = Vec::new(alloc);
-    bits.push(0)?;
+    bits.extend_from_slice(&[0])?;
     let mut left = contents;
     while !left.is_empty() {
         let header = read_header(left)?;
@@ -65,14 +65,14 @@ pub fn bits_of_pieces(alloc: Global, contents: &[u8]) -> Result<Vec<u8>, ItemErr
             continue;
         }
         let piece = primitive_piece(header)?;
-        let [unused, octets @ ..] = piece.contents else {
+        let Some((unused, octets)) = piece.contents.split_first() else {
             return Err(ItemError::Malformed);
         };
         if *unused > 0 {
-            return match piece.rest {
-                [] => with_last(bits, *unused, octets),
-                _ => Err(ItemError::Malformed),
-            };
+            if !piece.rest.is_empty() {
+                return Err(ItemError::Malformed);
+            }
+            return with_last(bits, *unused, octets);
         }
         bits.extend_from_slice(octets)?;
         left = piece.rest;

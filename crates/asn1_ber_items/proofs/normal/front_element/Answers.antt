@@ -1,14 +1,16 @@
 use Rattle.std.proofs.Common.{◌≡◌, refl, sym, subst}
+use Rattle.std.proofs.lemmas.Result.{err_from_is_err_and}
 use Rattle.asn1_ber_items.specs.Spellings.{SpellsOne}
-use Rattle.asn1_ber_items.specs.Walks.{Comes, Remains, front}
+use Rattle.asn1_ber_items.specs.Walks.{Comes, Remains, of_first}
+use Rattle.asn1_ber_items.proofs.Steps.{only_memory}
 use Rattle.asn1_ber_items.proofs.Walking.{front_there, front_was}
 use Rattle.asn1_ber_items.proofs.normal.front_element.Goals as goal
 
 pub loop-walk-init : goal.loop-walk-init
 loop-walk-init c = record {
   consistent = c.new-walk.ensures.consistent;
-  ahead = λ normal rest spells. c.new-walk.ensures.ahead (front normal rest) spells;
-  behind = λ normal rest writes. c.new-walk.ensures.behind (front normal rest) writes;
+  ahead = λ normal rest spells. c.new-walk.ensures.ahead (of_first normal rest) spells;
+  behind = λ normal rest writes. c.new-walk.ensures.behind (of_first normal rest) writes;
 }
 
 pub loop-walk-preserved : goal.loop-walk-preserved
@@ -17,19 +19,23 @@ loop-walk-preserved c =
     let s = c.in_ok-step.ensures i.consistent in
     record {
       consistent = s.consistent;
-      ahead = λ normal rest spells. s.ahead (front normal rest) (λ over. (let wrong = c.loop-walk-test.ensures.1 over in cc)) (i.ahead normal rest spells);
-      behind = λ normal rest writes. i.behind normal rest (s.behind (front normal rest) (λ over. (let wrong = c.loop-walk-test.ensures.1 over in cc)) writes);
+      ahead = λ normal rest spells. s.ahead (of_first normal rest) (λ over. (let wrong = c.loop-walk-test.ensures.1 over in cc)) (i.ahead normal rest spells);
+      behind = λ normal rest writes. i.behind normal rest (s.behind (of_first normal rest) (λ over. (let wrong = c.loop-walk-test.ensures.1 over in cc)) writes);
     }
 
 pub returns-in_err-step-clause-found : goal.returns-in_err-step-clause-found
-returns-in_err-step-clause-found c = λ normal rest spells. ?
+returns-in_err-step-clause-found c = λ normal rest spells.
+    let p = err_from_is_err_and c.from_residual.result c.from_residual.ensures.1 in
+    let i = c.loop-walk.invariant in
+    let stuck = c.in_err-step.ensures i.consistent in
+    rw (p.1, p.2) (only_memory c.in_err-step.field-0.0 (λ some. stuck some (of_first normal rest) (λ over. (let wrong = c.loop-walk-test.ensures.1 over in cc)) (i.ahead normal rest spells)))
 
 pub returns-clause-found : goal.returns-clause-found
 returns-clause-found c = λ normal rest spells.
     let walk = c.loop-walk.walk in
     let none = c.loop-walk-test.ensures.0 refl in
     let w = front_was normal rest walk.left.now walk.written.items none.1
-    (subst (λ es. Comes es (Remains (front normal rest)) walk.left.now walk.written.items) none.0 (c.loop-walk.invariant.ahead normal rest spells)) in
+    (subst (λ es. Comes es (Remains (of_first normal rest)) walk.left.now walk.written.items) none.0 (c.loop-walk.invariant.ahead normal rest spells)) in
     (sym w.0, sym w.1)
 
 pub returns-clause-only : goal.returns-clause-only
@@ -37,5 +43,5 @@ returns-clause-only c =
     let walk = c.loop-walk.walk in
     let none = c.loop-walk-test.ensures.0 refl in
     c.loop-walk.invariant.behind walk.written.items walk.left.now
-    (subst (λ es. Comes es (Remains (front walk.written.items walk.left.now)) walk.left.now walk.written.items) (sym none.0)
+    (subst (λ es. Comes es (Remains (of_first walk.written.items walk.left.now)) walk.left.now walk.written.items) (sym none.0)
     (front_there walk.written.items walk.left.now walk.left.now walk.written.items none.1 refl refl))

@@ -1,15 +1,17 @@
 use Rattle.std.proofs.Common.{◌≡◌, ◌++◌, [], append-nil, refl, sym, ap, subst, ◌∙◌}
+use Rattle.std.proofs.lemmas.Result.{err_from_is_err_and}
 use Rattle.asn1_ber_items.specs.Spellings.{Spells, nothing}
-use Rattle.asn1_ber_items.specs.Walks.{AreLast, Comes, Remains, whole}
+use Rattle.asn1_ber_items.specs.Walks.{AreLast, Comes, Remains, of_all}
+use Rattle.asn1_ber_items.proofs.Steps.{only_memory}
 use Rattle.asn1_ber_items.proofs.Walking.{at_end}
 use Rattle.asn1_ber_items.proofs.normal.normal_form.Goals as goal
 
 pub loop-walk-init : goal.loop-walk-init
 loop-walk-init c = record {
   consistent = c.new-walk.ensures.consistent;
-  ahead = λ normal spells. c.new-walk.ensures.ahead (whole normal) (record { others = normal; spell = spells; are = refl });
+  ahead = λ normal spells. c.new-walk.ensures.ahead (of_all normal) (record { others = normal; spell = spells; are = refl });
   behind = λ normal writes.
-      let l = c.new-walk.ensures.behind (whole normal) writes in
+      let l = c.new-walk.ensures.behind (of_all normal) writes in
       subst (λ x. Spells c.args.bytes.now x []) (sym l.are) l.spell;
 }
 
@@ -19,15 +21,15 @@ loop-walk-preserved c =
     let s = c.in_ok-step.ensures i.consistent in
     record {
       consistent = s.consistent;
-      ahead = λ normal spells. s.ahead (whole normal) (λ over. (let wrong = c.loop-walk-test.ensures.1 over in cc)) (i.ahead normal spells);
-      behind = λ normal writes. i.behind normal (s.behind (whole normal) (λ over. (let wrong = c.loop-walk-test.ensures.1 over in cc)) writes);
+      ahead = λ normal spells. s.ahead (of_all normal) (λ over. (let wrong = c.loop-walk-test.ensures.1 over in cc)) (i.ahead normal spells);
+      behind = λ normal writes. i.behind normal (s.behind (of_all normal) (λ over. (let wrong = c.loop-walk-test.ensures.1 over in cc)) writes);
     }
 
 pub returns-clause-found : goal.returns-clause-found
 returns-clause-found c = λ normal spells.
     let walk = c.loop-walk.walk in
     let none = c.loop-walk-test.ensures.0 refl in
-    sym (at_end normal walk.left.now walk.written.items none.1 (subst (λ es. Comes es (Remains (whole normal)) walk.left.now walk.written.items) none.0 (c.loop-walk.invariant.ahead normal spells)))
+    sym (at_end normal walk.left.now walk.written.items none.1 (subst (λ es. Comes es (Remains (of_all normal)) walk.left.now walk.written.items) none.0 (c.loop-walk.invariant.ahead normal spells)))
 
 pub returns-clause-only : goal.returns-clause-only
 returns-clause-only c =
@@ -35,5 +37,12 @@ returns-clause-only c =
     let written = walk.written.items in
     let none = c.loop-walk-test.ensures.0 refl in
     c.loop-walk.invariant.behind written
-    (subst (λ es. Comes es (Remains (whole written)) walk.left.now written) (sym none.0)
+    (subst (λ es. Comes es (Remains (of_all written)) walk.left.now written) (sym none.0)
     (record { others = []; spell = subst (λ l. Spells l [] []) (sym none.1) (nothing []); are = sym (append-nil written) }))
+
+pub returns-in_err-step-clause-found : goal.returns-in_err-step-clause-found
+returns-in_err-step-clause-found c = λ normal spells.
+    let p = err_from_is_err_and c.from_residual.result c.from_residual.ensures.1 in
+    let i = c.loop-walk.invariant in
+    let stuck = c.in_err-step.ensures i.consistent in
+    rw (p.1, p.2) (only_memory c.in_err-step.field-0.0 (λ some. stuck some (of_all normal) (λ over. (let wrong = c.loop-walk-test.ensures.1 over in cc)) (i.ahead normal spells)))

@@ -3,9 +3,10 @@ use Rattle.std.proofs.Common.{◌≡◌, ℕ, ◌+◌, ◌-◌, ◌*◌, ◌≤�
 use Rattle.std.proofs.Math.Seq.{take-append-add, take-append_seam}
 use Rattle.std.proofs.lemmas.List.{take-append-drop}
 use Rattle.std.proofs.lemmas.List.Concat.{flat_map-append}
-use Rattle.std.specs.Prelude.{◌/◌, ◌%◌, ◌==◌, replicate}
+use Rattle.std.proofs.lemmas.Bool.{ne_eqb}
+use Rattle.std.specs.Prelude.{◌/◌, ◌%◌, ◌==◌, nat_eq, not, replicate, slice_index_or, suc, zero}
 use Rattle.asn1_items.specs.Bits.{AreBits, bits_of_octet, bits_of_octets}
-use Rattle.asn1_ber_items.specs.LooseContents.{AreLooseBits, AreSameBits}
+use Rattle.asn1_ber_items.specs.LooseContents.{AreLooseBits, AreSameBits, IsTruthValue, other_octet, zero_octet}
 
 -- the last octet with so many of its last bits set to 0
 abbrev pub IsCleared : ℕ → ℕ → ℕ → Type 0
@@ -174,3 +175,10 @@ no_octets_used unused bits l = (none bits l.others joined, omega (arith, ap leng
     none : (xs ys : List Bool) → xs ++ ys ≡ [] → xs ≡ []
     none [] ys e = refl
     none (x ∷ xs) ys e = cc
+
+-- one octet is a truth value
+pub truth_of : (octets : List ℕ) → 1 ≤ length octets → length octets < 2 → IsTruthValue (not (nat_eq (slice_index_or octets 0 0) 0)) octets
+truth_of [] some few = let none : ⊥ = omega (arith, some) in absurd none
+truth_of (zero ∷ []) some few = zero_octet
+truth_of (suc n ∷ []) some few = subst (λ b. IsTruthValue (not b) (suc n ∷ [])) (sym (ne_eqb (suc n) 0 (λ e. cc))) (other_octet (suc n) (λ e. cc))
+truth_of (o ∷ p ∷ octets) some few = let none : ⊥ = omega (arith, few) in absurd none
