@@ -27,7 +27,7 @@ rest_within _ _ _ (primitive octets contents own back others rest h begin is ele
     omega (arith, cut_shorter octets h contents back begin.at is, rest_within back others rest later)
 rest_within _ _ _ (definite octets contents inside own back others rest h begin is inner element later) =
     omega (arith, cut_shorter octets h contents back begin.at is, rest_within back others rest later)
-rest_within _ _ _ (indefinite octets inside own back others rest h begin none inner element later) =
+rest_within _ _ _ (indefinite octets inside own back others rest h begin no_size inner element later) =
     omega (arith, header_shorter octets h begin.at, rest_within h.rest inside (0 ∷ 0 ∷ back) inner, rest_within back others rest later)
 
 cut_remains : (octets behind : List ℕ) (n : ℕ) → IsCut octets n → IsCut (octets ++ behind) n
@@ -38,7 +38,7 @@ cut_remains octets behind n cut = record {
   long = omega (arith, cut.long, length-append cut.rest behind, length-append octets behind);
 }
 
-one_cut : (octets : List ℕ) (m n : ℕ) → IsCut octets m → IsCut octets n → m ≡ n
+pub one_cut : (octets : List ℕ) (m n : ℕ) → IsCut octets m → IsCut octets n → m ≡ n
 one_cut octets m n a b =
     let same = one_normal_form octets a.normal a.rest b.normal b.rest a.one b.one in
     omega (arith, a.long, b.long, ap length same.1)

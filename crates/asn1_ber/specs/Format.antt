@@ -11,7 +11,7 @@ use Rattle.asn1_der.specs.declared.buffer.DerBuffer.{DerBuffer}
 use Rattle.asn1_der_items.specs.Bytes.{SomeHasNoDer}
 use Rattle.asn1_der_items.specs.Series.{is_one_element}
 use Rattle.asn1_laws.specs.WritingUpToOrder.{RejectsByParts}
-use Rattle.asn1_model.specs.Records.{Head, Record, held, presence_marks_alone, scalar, scope, open_type, presence_mark}
+use Rattle.asn1_model.specs.Records.{Head, Record, group_absent, held, presence_marks_alone, scalar, scope, open_type, presence_mark}
 use Rattle.asn1_rules.specs.Rules.{Format, IsLawful}
 
 -- The records have no DER, or none that is BER.
@@ -59,7 +59,7 @@ pub rejects_by_parts : RejectsByParts (in_one_order written_ber)
 rejects_by_parts = record {
   part = part_rejected;
   inner = inner_rejected;
-  marks = λ rs alone rejected. marks_rejected rs _ alone (der_rejects_by_parts.marks rs alone) rejected;
+  marks = λ rs alone rejected. marks_rejected rs (presence_mark group_absent ∷ []) alone (der_rejects_by_parts.marks rs alone) rejected;
 }
 
 -- The format of BER: octets carry the records whose BER they are, up to the order inside sets. Records are rejected that have no

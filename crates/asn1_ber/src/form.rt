@@ -1,12 +1,13 @@
 //! The form of elements in BER.
-ghost use Rattle.asn1_ber.specs.Bytes.{HasConstructed, HasPrimitive};
+ghost use Rattle.asn1_ber.specs.Bytes.{AreBitsInPieces, HasConstructed, HasPrimitive};
 ghost use Rattle.asn1_ber.specs.Form.{IsStringKind};
+ghost use Rattle.asn1_ber_items.specs.LooseContents.{AreLooseBits, IsTruthValue};
 ghost use Rattle.asn1_der_items.specs.Contents.{HasContents};
 ghost use Rattle.asn1_elements.specs.ElementForms.{octets_of};
 ghost use Rattle.asn1_items.specs.Kinds.{content_kind};
 ghost use Rattle.asn1_items.specs.declared.error.ItemError.TheVariants.{Memory};
-ghost use Rattle.asn1_model.specs.Records.{Content, boolean};
-ghost use Rattle.std.specs.Prelude.{◌≡◌, MatchResult, OnOk};
+ghost use Rattle.asn1_model.specs.Records.{Content, bits, boolean};
+ghost use Rattle.std.specs.Prelude.{◌≡◌, Bool, List, MatchResult, OnOk};
 
 use asn1_ber_items::{bits_of_pieces, octets_of_pieces, read_truth_value, strict_bits};
 use asn1_bounds::Codec;
@@ -66,10 +67,28 @@ fn strict_contents<'a>(
         MatchResult result (λ contents. HasContents x (octets_of contents)) (λ e. e ≡ Memory) }
 {
     match kind {
-        ContentKind::Boolean => Ok(Contents::AsParsed(truth_octets(read_truth_value(octets)?))),
-        ContentKind::String(StringKind::Bits) => Ok(Contents::Made(strict_bits(alloc, octets)?)),
+        ContentKind::Boolean => truth_contents(octets),
+        ContentKind::String(StringKind::Bits) => bit_contents(alloc, octets),
         _ => Ok(Contents::AsParsed(octets)),
     }
+}
+
+/// The contents octets, as DER has them, of the truth value of these.
+fn truth_contents(octets: &[u8]) -> Result<Contents<'_>, ItemError>
+    ensures { (value : Bool) → IsTruthValue value octets.now → MatchResult result
+        (λ contents. HasContents (boolean value) (octets_of contents)) (λ _. ⊥) }
+{
+    let value = read_truth_value(octets)?;
+    Ok(Contents::AsParsed(truth_octets(value)))
+}
+
+/// The contents octets, as DER has them, of the bits of these.
+fn bit_contents(alloc: Global, octets: &[u8]) -> Result<Contents<'_>, ItemError>
+    ensures { (list : List Bool) → AreLooseBits list octets.now → MatchResult result
+        (λ contents. HasContents (bits list) (octets_of contents)) (λ e. e ≡ Memory) }
+{
+    let strict = strict_bits(alloc, octets)?;
+    Ok(Contents::Made(strict))
 }
 
 /// The contents octets of a truth value in DER (X.690, 11.1).
@@ -93,11 +112,21 @@ fn whole_string<'a>(
     ensures only { OnOk result (IsStringKind kind) }
 {
     match kind {
-        ContentKind::String(StringKind::Bits) => {
-            let bits = bits_of_pieces(alloc, pieces)?;
-            Ok(Contents::Made(strict_bits(alloc, &bits)?))
+        ContentKind::String(StringKind::Bits) => whole_bits(alloc, pieces),
+        ContentKind::String(_) => {
+            let whole = octets_of_pieces(alloc, pieces)?;
+            Ok(Contents::Made(whole))
         }
-        ContentKind::String(_) => Ok(Contents::Made(octets_of_pieces(alloc, pieces)?)),
         _ => Err(ItemError::Malformed),
     }
+}
+
+/// The contents octets, as DER has them, of the bits that are constructed of these pieces.
+fn whole_bits<'a>(alloc: Global, pieces: &[u8]) -> Result<Contents<'a>, ItemError>
+    ensures { (list : List Bool) → AreBitsInPieces list pieces.now → MatchResult result
+        (λ contents. HasContents (bits list) (octets_of contents)) (λ e. e ≡ Memory) }
+{
+    let whole = bits_of_pieces(alloc, pieces)?;
+    let strict = strict_bits(alloc, whole.as_slice())?;
+    Ok(Contents::Made(strict))
 }

@@ -10,19 +10,19 @@ use Rattle.asn1_ber.proofs.reading.read_octets.Goals as goal
 pub returns-in-Ok-clause-read : goal.returns-in-Ok-clause-read
 returns-in-Ok-clause-read g c = λ v can of_type valid carried.
     let b = carried.have_bytes in
-    let have = subst (HaveBer (held carried.exactly)) (sym (c.as_slice.ensures.items ∙ c.in-Ok.ensures.found b.normal b.spell)) b.have in
+    let have = subst (HaveBer (held carried.exactly)) (sym (c.as_slice.ensures.value ∙ c.in-Ok.ensures.found b.normal b.spell)) b.have in
     rw (← c.new.ensures.depth_left) (c.read_whole.ensures.read v can of_type valid (c.new.ensures.before carried.exactly (own_records g.T.AsnType.meaning v) have carried.same))
 
 pub returns-in-Ok-clause-refuses : goal.returns-in-Ok-clause-refuses
 returns-in-Ok-clause-refuses g c = λ rs error refused well_formed carried.
     let b = carried.have_bytes in
-    let have = subst (HaveBer (held carried.exactly)) (sym (c.as_slice.ensures.items ∙ c.in-Ok.ensures.found b.normal b.spell)) b.have in
+    let have = subst (HaveBer (held carried.exactly)) (sym (c.as_slice.ensures.value ∙ c.in-Ok.ensures.found b.normal b.spell)) b.have in
     rw (← c.new.ensures.depth_left) (c.read_whole.ensures.refuses rs error refused (c.new.ensures.before carried.exactly rs have carried.same))
 
 pub returns-in-Ok-clause-none_left : goal.returns-in-Ok-clause-none_left
 returns-in-Ok-clause-none_left g c = λ v rest can of_type valid well some carried.
     let b = carried.have_bytes in
-    let have = subst (HaveBer (held carried.exactly)) (sym (c.as_slice.ensures.items ∙ c.in-Ok.ensures.found b.normal b.spell)) b.have in
+    let have = subst (HaveBer (held carried.exactly)) (sym (c.as_slice.ensures.value ∙ c.in-Ok.ensures.found b.normal b.spell)) b.have in
     c.read_whole.ensures.none_left v rest can of_type valid (c.new.ensures.before carried.exactly (own_records g.T.AsnType.meaning v ++ rest) have carried.same)
     (λ d. records_are_not_the_end (is_form ber_is_lawful_form) (λ d. d.state) d rest some)
 
