@@ -10,8 +10,9 @@ use std::alloc::Global;
 /// The elements of which the bytes are, each with a definite length of the fewest octets (X.690, 8.1.3 and 10.1).
 ///
 /// # Errors
-/// [`ItemError::Memory`]; else the bytes are no elements of BER: [`ItemError::Missing`] where they end too early, with the number
-/// of bytes that are missing of the part that is read, and otherwise [`ItemError::Malformed`].
+/// [`ItemError::Memory`]; else the bytes are no elements of BER: [`ItemError::Missing`] where they end too early, outside all
+/// elements of definite lengths, with the number of bytes that are missing of the part that is read, and otherwise
+/// [`ItemError::Malformed`].
 pub fn normal_form(alloc: Global, bytes: &[u8]) -> Result<Vec<u8>, ItemError>
     ensures found { (normal : List ℕ) → Spells bytes.now normal [] →
         MatchResult result (λ own. own.items ≡ normal) (λ e. e ≡ Memory) }
@@ -36,8 +37,9 @@ pub struct FrontElement<'a> {
 /// The element with which the bytes begin, with definite lengths of the fewest octets (X.690, 8.1.3 and 10.1).
 ///
 /// # Errors
-/// [`ItemError::Memory`]; else the bytes begin with no element of BER: [`ItemError::Missing`] where they end too early, with the
-/// number of bytes that are missing of the part that is read, and otherwise [`ItemError::Malformed`].
+/// [`ItemError::Memory`]; else the bytes begin with no element of BER: [`ItemError::Missing`] where they end too early,
+/// outside all elements of definite lengths, with the number of bytes that are missing of the part that is read, and otherwise
+/// [`ItemError::Malformed`].
 pub fn front_element(alloc: Global, bytes: &[u8]) -> Result<FrontElement<'_>, ItemError>
     ensures found { (normal rest : List ℕ) → SpellsOne bytes.now normal rest →
         MatchResult result (λ f. (f.normal.items ≡ normal) × (f.rest.now ≡ rest))

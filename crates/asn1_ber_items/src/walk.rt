@@ -4,7 +4,7 @@ ghost use Rattle.asn1_ber_items.specs.Walks.{Goes, GoesOn, IsClosing, IsConsiste
 ghost use Rattle.asn1_der_items.specs.Elements.{IsElement};
 ghost use Rattle.asn1_items.specs.Numbers.{Appended};
 ghost use Rattle.asn1_items.specs.declared.error.ItemError.TheVariants.{Memory};
-ghost use Rattle.std.specs.Prelude.{◌≡◌, ◌≢◌, ◌∷◌, ◌++◌, ◌+◌, ◌<◌, [], Decides, List, MatchOption, MatchResult, Some, false, length, ℕ};
+ghost use Rattle.std.specs.Prelude.{◌≡◌, ◌≢◌, ◌∷◌, ◌++◌, ◌+◌, ◌<◌, ◌↔◌, [], Decides, List, MatchOption, MatchResult, Some, false, length, ℕ};
 
 use crate::header::{Header, read_header};
 use crate::open_element::{Extent, OpenElement};
@@ -115,7 +115,7 @@ impl<'a> Walk<'a> {
     {
         let header = match read_header(self.left) {
             Ok(header) => header,
-            Err(error) => return Err(error),
+            Err(error) => return Err(self.error_here(error)),
         };
         if is_end_of_contents(header.tag) {
             return Err(ItemError::Malformed);
@@ -129,6 +129,27 @@ impl<'a> Walk<'a> {
         }
     }
 
+    /// The error where no element was read: bytes are missing only if no open element has a definite length, whose bytes are all
+    /// there.
+    fn error_here(&self, error: ItemError) -> ItemError
+        ensures { (result ≡ Memory) ↔ (error ≡ Memory) }
+    {
+        match error {
+            ItemError::Missing(_) if self.is_inside_definite() => ItemError::Malformed,
+            other => other,
+        }
+    }
+
+    /// Whether an open element has a definite length.
+    fn is_inside_definite(&self) -> bool {
+        for element in self.begun.as_slice() {
+            if let Extent::Definite(_) = element.extent {
+                return true;
+            }
+        }
+        false
+    }
+
     /// Begins the element of this header, which has a definite length.
     fn begin_with_length(&mut self, header: Header<'a>, size: usize) -> Result<(), ItemError>
         ensures { IsElementHere header.entry self.old → header.entry.size ≡ Some size →
@@ -137,7 +158,7 @@ impl<'a> Walk<'a> {
             (λ e. e ≢ Memory → IsStuck self.old) }
     {
         let Some((contents, back)) = header.rest.split_at_checked(size) else {
-            return Err(ItemError::Missing(size - header.rest.len()));
+            return Err(self.error_here(ItemError::Missing(size - header.rest.len())));
         };
         if header.constructed {
             self.begin_constructed(header.tag, contents, Extent::Definite(back))
