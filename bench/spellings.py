@@ -20,7 +20,7 @@ CRATE = pathlib.Path(__file__).resolve().parent.parent / "crates" / "test_vector
 BOOLEAN, BIT_STRING, OCTET_STRING, SET = 1, 3, 4, 17
 STRINGS = {OCTET_STRING, 12, 18, 19, 20, 22, 25, 26, 27, 30}
 # Types with an open type in them: what is inside that is read in normal form, and no further.
-OPEN_TYPES = {"Any", "Envelope", "Open", "Notice", "Certificate"}
+OPEN_TYPES = {"Any", "Envelope", "Open", "Notice", "RdnSequence", "Certificate"}
 
 
 def samples():
