@@ -196,7 +196,7 @@ def main():
     checked = left = 0
     with open(LINES) as file:
         lines = [(number, line.rstrip("\n")) for number, line in enumerate(file, 1) if line.strip() and line[0] != "#"]
-    others = [line for _, line in lines if line.startswith("ber ") and " canonical " not in line]
+    others = [line for _, line in lines if line.startswith("ber ") and line.split()[3] != "canonical"]
     lines = [(number, line) for number, line in lines if line not in others]
     left += len(others)
     read = {parts(line)[:2] + (parts(line)[4],) for _, line in lines if " canonical " in line and sides(line)}
