@@ -207,7 +207,7 @@ def main():
             checked += 1
             continue
         found = sides(line)
-        if found is None or " Any " in line or found[0] == found[1]:
+        if found is None or " Any " in line or found[0] == found[1] or found[0] == "ber":
             left += 1
             continue
         form, other, asked, answered = found
