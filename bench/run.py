@@ -186,8 +186,9 @@ def cost(measure, folder, words, times):
     return (measure([*words, str(times)], folder) - measure([*words, "0"], folder)) / times
 
 
-# The codecs that bench/plain_codecs.rs has, and the lists with their lengths; of nodes the length of the chain.
-CODECS = ("packed", "tag", "der")
+# The codecs, and the lists with their lengths; of nodes the length of the chain. BER is compared with plain Rust for DER, which is what
+# it writes.
+CODECS = ("packed", "tag", "der", "ber")
 LISTS = {"person": (10**4, 10**5), "profile": (10**4, 10**5), "badge": (10**4, 10**5), "node": (500, 2000)}
 
 # The lists whose values are counted, and the chain whose nodes are.
@@ -208,7 +209,8 @@ def jobs_of(lists):
 def plain_forms(job):
     """The forms of plain Rust with which a job is compared: one that answers if memory runs out, one that aborts then, and for a Badge,
     read in packed form, one that makes a table of the tags of its CHOICE."""
-    forms = [job[0], f"{job[0]}-aborting"]
+    form = "der" if job[0] == "ber" else job[0]
+    forms = [form, f"{form}-aborting"]
     return [*forms, "packed-with-table"] if job[:3] == ["packed", "read", "badge"] else forms
 
 

@@ -2,6 +2,7 @@
 use crate::lists;
 use crate::request::Request;
 use asn1_bench::BenchRules;
+use asn1_ber::BerRules;
 use asn1_der::DerRules;
 use asn1_tagform::TagRules;
 use std::alloc::Global;
@@ -17,6 +18,9 @@ pub(crate) fn run(rt: &impl Print, alloc: Global, request: Request<'_>) -> io::R
     }
     if is_asked("der", request) {
         lists::run(rt, alloc, &DerRules::new(alloc), request)?;
+    }
+    if is_asked("ber", request) {
+        lists::run(rt, alloc, &BerRules::new(alloc), request)?;
     }
     Ok(())
 }

@@ -10,7 +10,7 @@
 //! | `packed canonical LIST COUNT TIMES` | writes it once, and reads it by `read_canonical` this many times | the same |
 //! | `append TOTAL SIZE WHEN` | appends bytes in pieces of this size, and takes blocks of 1000 | the number of blocks |
 //!
-//! The codec is `packed`, `tag` or `der`, or `each` for all of them. `LIST` is `person`, `profile` or `badge`, or `node` for a
+//! The codec is `packed`, `tag`, `der` or `ber`, or `each` for all of them. `LIST` is `person`, `profile` or `badge`, or `node` for a
 //! chain of `COUNT` nodes, which is written and read as a list is. Blocks are taken after each piece, or when all is appended if
 //! `WHEN` is `late`; with the size 0 nothing is appended. After the four words of `append` another request may follow.
 //!
