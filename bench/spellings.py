@@ -5,8 +5,8 @@
     bench/spellings.py --run COUNT [SEED]
 
 Each value that a line of crates/test_vectors/stdout reads and has in DER is spelled anew, at random, by X.690, 8: lengths in more
-octets than they need, or indefinite; a BOOLEAN that is TRUE by any octet but zero; unused bits of any value; strings in pieces, nested;
-and the elements of sets in another order. The first call prints lines for test_vectors. The second gives lines to the built program
+octets than they need, or indefinite; of elements with universal tags also a BOOLEAN that is TRUE by any octet but zero, unused bits of any
+value, strings in pieces, nested, and the elements of sets in another order. The first call prints lines for test_vectors. The second gives lines to the built program
 (`rt run` in crates/test_vectors builds it), whose answer has to be the DER of the value, and damages each line once more: the answer to
 that is an error or a value, and the program ends. The status is 0 if all is as it has to be.
 """
@@ -174,9 +174,13 @@ def main():
     ran = subprocess.run([CRATE / "out" / "test_vectors"], input="\n".join(asked) + "\n", capture_output=True, text=True)
     answers = ran.stdout.splitlines()
     for (line, wanted), answer in zip(made, answers):
-        if answer != f"{line} -> {wanted}":
+        if answer.rstrip(" ;") != f"{line} -> {wanted}":
             faults += 1
             print(f"{answer}\n  in place of {wanted}")
+    for answer in answers[len(made):]:
+        if "not understood" in answer:
+            faults += 1
+            print(answer)
     if len(answers) != len(asked) or ran.returncode:
         faults += 1
         print(f"{len(answers)} answers to {len(asked)} lines, status {ran.returncode}: {ran.stderr}")

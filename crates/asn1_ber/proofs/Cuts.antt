@@ -1,6 +1,6 @@
 -- Elements are cut off: trailing bytes change nothing, and what was written is one element.
-use Rattle.std.proofs.Common.{◌≡◌, ◌+◌, ◌≤◌, ℕ, Bool, false, List, [], ◌∷◌, ◌++◌, ap, sym, subst, ◌∙◌, arith, append-nil, length, length-append}
-use Rattle.asn1_ber.specs.Bytes.{AreBerOf, HaveBer}
+use Rattle.std.proofs.Common.{◌≡◌, ◌+◌, ◌≤◌, ◌<◌, ℕ, Bool, false, true, List, [], ◌∷◌, ◌++◌, ap, subst, ◌∙◌, arith, append-nil, length, length-append}
+use Rattle.asn1_ber.specs.Bytes.{HaveBer}
 use Rattle.asn1_ber.specs.Cuts.{IsCut, ber_fronts, cut_within}
 use Rattle.asn1_ber.specs.Form.{ber_is_lawful_form}
 use Rattle.asn1_ber.specs.Format.{Carries, ber_format}
@@ -29,6 +29,19 @@ rest_within _ _ _ (definite octets contents inside own back others rest h begin 
     omega (arith, cut_shorter octets h contents back begin.at is, rest_within back others rest later)
 rest_within _ _ _ (indefinite octets inside own back others rest h begin no_size inner element later) =
     omega (arith, header_shorter octets h begin.at, rest_within h.rest inside (0 ∷ 0 ∷ back) inner, rest_within back others rest later)
+
+-- an element has octets
+front_shorter : (octets normal rest : List ℕ) → Spells octets normal rest → is_one_element normal ≡ true → length rest < length octets
+front_shorter _ _ _ (nothing octets) one = let e : false ≡ true = one in cc
+front_shorter _ _ _ (primitive octets contents own back others rest h begin is element later) one =
+    omega (arith, cut_shorter octets h contents back begin.at is, rest_within back others rest later)
+front_shorter _ _ _ (definite octets contents inside own back others rest h begin is inner element later) one =
+    omega (arith, cut_shorter octets h contents back begin.at is, rest_within back others rest later)
+front_shorter _ _ _ (indefinite octets inside own back others rest h begin no_size inner element later) one =
+    omega (arith, header_shorter octets h begin.at, rest_within h.rest inside (0 ∷ 0 ∷ back) inner, rest_within back others rest later)
+
+pub no_empty_cut : (octets : List ℕ) → IsCut octets 0 → ⊥
+no_empty_cut octets cut = omega (arith, cut.long, front_shorter octets cut.normal cut.rest cut.one.spells cut.one.one)
 
 cut_remains : (octets behind : List ℕ) (n : ℕ) → IsCut octets n → IsCut (octets ++ behind) n
 cut_remains octets behind n cut = record {

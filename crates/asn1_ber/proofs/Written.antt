@@ -1,8 +1,8 @@
 -- What is written is DER; that is BER, and its own normal form.
-use Rattle.std.proofs.Common.{◌≡◌, ◌≢◌, ℕ, true, false, List, [], ◌++◌, Ok, Err, sym, subst, arith, inl, inr}
+use Rattle.std.proofs.Common.{◌≡◌, ◌≢◌, ℕ, true, false, List, [], Ok, Err, sym, subst, arith, inl, inr}
 use Rattle.std.specs.Prelude.{IfErr, IfOk, Result, Vec}
 use Rattle.std.specs.declared.alloc.Global.{Global}
-use Rattle.asn1_ber.specs.Bytes.{AreBerOf, ArePlain, HasBer, HasPrimitive, HaveBer, Holds, IsPlain}
+use Rattle.asn1_ber.specs.Bytes.{AreNormalInDer, HasBer, HasPrimitive, HaveBer, Holds, IsNormalInDer}
 use Rattle.asn1_ber.specs.Format.{ber_format, written_ber}
 use Rattle.asn1_ber_items.proofs.NormalForms.{der_constructed, der_primitive, one_alone, spells-in_front}
 use Rattle.asn1_ber_items.specs.Headers.{end_of_contents}
@@ -10,6 +10,7 @@ use Rattle.asn1_ber_items.specs.LooseContents.{IsTruthValue, other_octet, zero_o
 use Rattle.asn1_ber_items.specs.Spellings.{Spells, nothing}
 use Rattle.asn1_buffers.specs.Encoder.{buffer_writer}
 use Rattle.asn1_buffers.specs.Format.{buffer_format}
+use Rattle.asn1_der.specs.Format.{Carries as CarriesDer}
 use Rattle.asn1_der.specs.WrittenElements.{written_der}
 use Rattle.asn1_der_items.specs.Bytes.{HasDer, HaveDer, HoldsInOrder, content_order_of}
 use Rattle.asn1_der_items.specs.Contents.{HasContents}
@@ -82,14 +83,14 @@ spells_with ByEncoding t IsInside tag each bytes p = around t p.contents bytes t
 spells_with Chosen t IsInside tag each bytes p = each bytes p.0
 
 mutual
-  one_plain : (r : Record) (bytes : List ℕ) → IsPlain r → HasDer r bytes → Spells bytes bytes []
+  one_plain : (r : Record) (bytes : List ℕ) → IsNormalInDer r → HasDer r bytes → Spells bytes bytes []
   one_plain (scalar t c n x) bytes plain p = (one_alone bytes bytes (der_primitive t p.contents bytes [] plain p.element)).spells
   one_plain (scope h rs) bytes plain p = spells_with (content_order_of h) (head_tag h) (HaveDer rs) plain.0 (λ inside q. all_plain rs inside plain.1 q) bytes p
   one_plain (open_type n own) bytes plain p = subst (λ l. Spells l l []) (sym p.0) plain
   one_plain (presence_mark m) bytes plain p = subst (λ l. Spells l l []) (sym p) (nothing [])
 
   -- the DER of plain records is its own normal form
-  pub all_plain : (rs : Records) (bytes : List ℕ) → ArePlain rs → HaveDer rs bytes → Spells bytes bytes []
+  pub all_plain : (rs : Records) (bytes : List ℕ) → AreNormalInDer rs → HaveDer rs bytes → Spells bytes bytes []
   all_plain none bytes plain p = subst (λ l. Spells l l []) (sym p) (nothing [])
   all_plain (more r rs) bytes plain p = subst (λ l. Spells l l []) (sym p.are) (spells-in_front p.first p.first p.others p.others [] (one_plain r p.first plain.0 p.is_first) (all_plain rs p.others plain.1 p.are_others))
 
@@ -123,3 +124,11 @@ is_written rs IsOfType depth octets (Err e) written normal refused shallow sound
       rejected = λ r. record { exactly = c.exactly; rejects = inr (λ plain. refused r (all_plain (held c.exactly) octets.items plain c.have_bytes)); same = c.same };
       not_failed = sound;
     }
+
+-- what was written is DER
+pub is_der : (rs : List Record) (IsOfType : Type 0) (depth : ℕ) (octets : Vec ℕ Global) (result : Result (Vec ℕ Global) EncodeError) → IsWritten der_format rs IsOfType depth octets →
+    IfOk result (λ own. (own.items ≡ octets.items) × Spells own.items own.items []) → IfOk result (λ own. CarriesDer own.items rs)
+is_der rs IsOfType depth octets (Ok own) written normal =
+    let c = written.carried in
+    record { exactly = c.exactly; have_bytes = subst (HaveDer (held c.exactly)) (sym normal.0) c.have_bytes; same = c.same }
+is_der rs IsOfType depth octets (Err e) written normal = tt

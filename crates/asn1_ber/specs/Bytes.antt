@@ -73,12 +73,12 @@ pub record AreBerOf (rs : List Record) (octets : List ℕ) : Type 0 where
 -- The records can be elements of BER as DER has them: none has tag universal 0, which end-of-contents octets have (8.1.5), and the
 -- bytes of an open type are elements in normal form.
 abbrev mutual
-  pub IsPlain : Record → Type 0
-  IsPlain (scalar t c n x) = t ≢ end_of_contents
-  IsPlain (scope h rs) = (head_tag h ≢ end_of_contents) × ArePlain rs
-  IsPlain (open_type n own) = Spells own own []
-  IsPlain (presence_mark m) = ⊤
+  pub IsNormalInDer : Record → Type 0
+  IsNormalInDer (scalar t c n x) = t ≢ end_of_contents
+  IsNormalInDer (scope h rs) = (head_tag h ≢ end_of_contents) × AreNormalInDer rs
+  IsNormalInDer (open_type n own) = Spells own own []
+  IsNormalInDer (presence_mark m) = ⊤
 
-  pub ArePlain : Records → Type 0
-  ArePlain none = ⊤
-  ArePlain (more r rs) = IsPlain r × ArePlain rs
+  pub AreNormalInDer : Records → Type 0
+  AreNormalInDer none = ⊤
+  AreNormalInDer (more r rs) = IsNormalInDer r × AreNormalInDer rs

@@ -2,12 +2,13 @@
 use Rattle.std.specs.Prelude.{◌≡◌, ℕ, ⊤, Bool, true, false, List, refl}
 use Rattle.std.proofs.Common.{inl, inr, arith, subst, sym}
 use Rattle.asn1_ber.specs.Bytes.{HasBer, HaveBer, Holds}
-use Rattle.asn1_der_items.proofs.OneElement.{element_alone, element_of, element_of_tag, is_one, one_of, tag_is}
+use Rattle.asn1_der_items.proofs.OneElement.{element_of_tag, is_one, one_of, tag_is}
 use Rattle.asn1_der_items.specs.Bytes.{content_order_of}
 use Rattle.asn1_der_items.specs.RecordElements.{IsElementOfRecord}
 use Rattle.asn1_der_items.specs.Series.{IsElementOf, is_one_element}
 use Rattle.asn1_der_items.specs.declared.content_order.ContentOrder.{ContentOrder}
 use Rattle.asn1_der_items.specs.declared.content_order.ContentOrder.TheVariants.{AsDefined, ByTag, ByEncoding, Chosen}
+use Rattle.asn1_elements.proofs.Inside.{constructed_inside}
 use Rattle.asn1_elements.specs.ElementForms.{HoldsInside, IsElementForm}
 use Rattle.asn1_items.specs.DecodeStates.{ReadForm}
 use Rattle.asn1_items.specs.declared.kinds.ContentKind.{ContentKind}
@@ -62,51 +63,11 @@ element_of_its (presence_mark m) own no_mark p = cc
 
 -- what is inside a record that holds others
 inside_of : (h : Head) (rs : List Record) (own : List ℕ) → HasBer (holding h rs) own → HoldsInside ber_form InAnyOrder h rs own
-inside_of (sequence t table n) rs own p = record {
-  element = element_of t true p.contents;
-  alone = element_alone t true p.contents own p.element;
-  tag = refl;
-  inside = p.contents;
-  is = record { constructed = refl; contents = refl };
-  in_order = tt;
-  have = p.are;
-}
-inside_of (set t table n) rs own p = record {
-  element = element_of t true p.contents;
-  alone = element_alone t true p.contents own p.element;
-  tag = refl;
-  inside = p.contents;
-  is = record { constructed = refl; contents = refl };
-  in_order = tt;
-  have = p.are;
-}
-inside_of (sequence_of t c n) rs own p = record {
-  element = element_of t true p.contents;
-  alone = element_alone t true p.contents own p.element;
-  tag = refl;
-  inside = p.contents;
-  is = record { constructed = refl; contents = refl };
-  in_order = tt;
-  have = p.are;
-}
-inside_of (set_of t c n) rs own p = record {
-  element = element_of t true p.contents;
-  alone = element_alone t true p.contents own p.element;
-  tag = refl;
-  inside = p.contents;
-  is = record { constructed = refl; contents = refl };
-  in_order = tt;
-  have = p.are;
-}
-inside_of (explicit_tag t n) rs own p = record {
-  element = element_of t true p.contents;
-  alone = element_alone t true p.contents own p.element;
-  tag = refl;
-  inside = p.contents;
-  is = record { constructed = refl; contents = refl };
-  in_order = tt;
-  have = p.are;
-}
+inside_of (sequence t table n) rs own p = constructed_inside ber_form InAnyOrder (sequence t table n) rs own p.contents p.element (λ e held. held) tt p.are
+inside_of (set t table n) rs own p = constructed_inside ber_form InAnyOrder (set t table n) rs own p.contents p.element (λ e held. held) tt p.are
+inside_of (sequence_of t c n) rs own p = constructed_inside ber_form InAnyOrder (sequence_of t c n) rs own p.contents p.element (λ e held. held) tt p.are
+inside_of (set_of t c n) rs own p = constructed_inside ber_form InAnyOrder (set_of t c n) rs own p.contents p.element (λ e held. held) tt p.are
+inside_of (explicit_tag t n) rs own p = constructed_inside ber_form InAnyOrder (explicit_tag t n) rs own p.contents p.element (λ e held. held) tt p.are
 inside_of (alternative t c table n) rs own p =
     let o = one_of t own p.1 in
     record { element = o.element; alone = o.alone; tag = o.tag; inside = own; is = refl; in_order = tt; have = p.0 }

@@ -2,7 +2,7 @@
 use Rattle.std.specs.Prelude.{◌≡◌, ◌⊎◌, ℕ, true, List, [], ◌∷◌, ◌++◌, Vec}
 use Rattle.std.specs.declared.alloc.Global.{Global}
 use Rattle.std.proofs.Common.{inl, inr}
-use Rattle.asn1_ber.specs.Bytes.{AreBerOf, ArePlain}
+use Rattle.asn1_ber.specs.Bytes.{AreBerOf, AreNormalInDer}
 use Rattle.asn1_buffers.specs.Buffers.{BufferForm}
 use Rattle.asn1_buffers.specs.Encoder.{CarriesUpToOrder, in_one_order}
 use Rattle.asn1_buffers.specs.Format.{buffer_format, buffer_format_is_lawful}
@@ -11,46 +11,47 @@ use Rattle.asn1_der.specs.declared.buffer.DerBuffer.{DerBuffer}
 use Rattle.asn1_der_items.specs.Bytes.{SomeHasNoDer}
 use Rattle.asn1_der_items.specs.Series.{is_one_element}
 use Rattle.asn1_laws.specs.WritingUpToOrder.{RejectsByParts}
+use Rattle.asn1_model.specs.Orders.{SameRecords}
 use Rattle.asn1_model.specs.Records.{Head, Record, group_absent, held, presence_marks_alone, scalar, scope, open_type, presence_mark}
 use Rattle.asn1_rules.specs.Rules.{Format, IsLawful}
 
--- The records have no DER, or none that is BER.
-abbrev pub HaveNoPlainDer : List Record → Type 0
-HaveNoPlainDer rs = SomeHasNoDer (held rs) ⊎ (¬ ArePlain (held rs))
+-- The records have no DER, or none that is its own normal form as BER.
+abbrev pub HaveNoNormalDer : List Record → Type 0
+HaveNoNormalDer rs = SomeHasNoDer (held rs) ⊎ (¬ AreNormalInDer (held rs))
 
 -- What is written is DER. The octets are read as BER.
 abbrev pub written_ber : BufferForm DerBuffer
 written_ber = record {
   wrote = written_der.wrote;
-  rejects = HaveNoPlainDer;
+  rejects = HaveNoNormalDer;
   have_bytes = AreBerOf;
 }
 
 -- Parts of plain records are plain, and so is what they hold.
-later_plain : (before rs : List Record) → ArePlain (held (before ++ rs)) → ArePlain (held rs)
+later_plain : (before rs : List Record) → AreNormalInDer (held (before ++ rs)) → AreNormalInDer (held rs)
 later_plain [] rs p = p
 later_plain (b ∷ before) rs p = later_plain before rs p.1
 
-first_plain : (rs after : List Record) → ArePlain (held (rs ++ after)) → ArePlain (held rs)
+first_plain : (rs after : List Record) → AreNormalInDer (held (rs ++ after)) → AreNormalInDer (held rs)
 first_plain [] after p = tt
 first_plain (r ∷ rs) after p = (p.0, first_plain rs after p.1)
 
-part_rejected : (before rs after : List Record) → HaveNoPlainDer rs → HaveNoPlainDer (before ++ (rs ++ after))
+part_rejected : (before rs after : List Record) → HaveNoNormalDer rs → HaveNoNormalDer (before ++ (rs ++ after))
 part_rejected before rs after (inl none) = inl (der_rejects_by_parts.part before rs after none)
 part_rejected before rs after (inr not) = inr (λ plain. not (first_plain rs after (later_plain before (rs ++ after) plain)))
 
-inner_rejected : (h : Head) (rs : List Record) → HaveNoPlainDer rs → HaveNoPlainDer (scope h (held rs) ∷ [])
+inner_rejected : (h : Head) (rs : List Record) → HaveNoNormalDer rs → HaveNoNormalDer (scope h (held rs) ∷ [])
 inner_rejected h rs (inl none) = inl (der_rejects_by_parts.inner h rs none)
 inner_rejected h rs (inr not) = inr (λ plain. not plain.0.1)
 
-marks_plain : (rs : List Record) → presence_marks_alone rs ≡ true → ArePlain (held rs)
+marks_plain : (rs : List Record) → presence_marks_alone rs ≡ true → AreNormalInDer (held rs)
 marks_plain [] e = tt
 marks_plain (scalar t c n x ∷ rs) e = cc
 marks_plain (scope h is ∷ rs) e = cc
 marks_plain (open_type n own ∷ rs) e = cc
 marks_plain (presence_mark m ∷ rs) e = (tt, marks_plain rs e)
 
-marks_rejected : (rs others : List Record) → presence_marks_alone rs ≡ true → (SomeHasNoDer (held rs) → SomeHasNoDer (held others)) → HaveNoPlainDer rs → HaveNoPlainDer others
+marks_rejected : (rs others : List Record) → presence_marks_alone rs ≡ true → (SomeHasNoDer (held rs) → SomeHasNoDer (held others)) → HaveNoNormalDer rs → HaveNoNormalDer others
 marks_rejected rs others alone der (inl none) = inl (der none)
 marks_rejected rs others alone der (inr not) = absurd (not (marks_plain rs alone))
 
@@ -63,7 +64,7 @@ rejects_by_parts = record {
 }
 
 -- The format of BER: octets carry the records whose BER they are, up to the order inside sets. Records are rejected that have no
--- DER which is BER, and an open type is one element.
+-- DER, or none that is its own normal form, and an open type is one element.
 abbrev pub ber_format : Format (Vec ℕ Global)
 ber_format = buffer_format written_ber (λ bytes. is_one_element bytes)
 
@@ -74,3 +75,9 @@ ber_is_lawful = buffer_format_is_lawful written_ber (λ bytes. is_one_element by
 -- The octets are BER of these records, up to the order inside sets.
 abbrev pub Carries : List ℕ → List Record → Type 0
 Carries octets rs = CarriesUpToOrder AreBerOf octets rs
+
+-- Records that are the same up to the order inside sets have no DER, or none that is its own normal form.
+pub record AreRejected (rs : List Record) : Type 0 where
+  pub exactly : List Record
+  pub have_none : HaveNoNormalDer exactly
+  pub same : SameRecords exactly rs

@@ -1,18 +1,18 @@
 //! Laws of what no other contract names: what the codec, its reader and its decoder come to, and what derives give.
-ghost use Rattle.asn1_ber.specs.Bytes.{AreBerOf, ArePlain, HaveBer};
-ghost use Rattle.asn1_ber.specs.Format.{Carries, HaveNoPlainDer};
+ghost use Rattle.asn1_ber.specs.Bytes.{AreBerOf, AreNormalInDer, HasBer, HaveBer};
+ghost use Rattle.asn1_ber.specs.Cuts.{IsCut};
+ghost use Rattle.asn1_ber.specs.Form.{IsFormOf};
+ghost use Rattle.asn1_ber.specs.Format.{AreRejected, Carries};
 ghost use Rattle.asn1_ber_items.specs.Spellings.{SpellsOne};
 ghost use Rattle.asn1_bounds.specs.declared.codec.Codec.TheVariants.{Ber};
-ghost use Rattle.asn1_buffers.specs.Encoder.{CarriesUpToOrder};
-ghost use Rattle.asn1_der.specs.Format.{Carries as CarriesDer};
 ghost use Rattle.asn1_der_items.specs.Bytes.{HaveDer};
 ghost use Rattle.asn1_der_items.specs.Series.{is_one_element};
+ghost use Rattle.asn1_items.specs.declared.kinds.ContentKind.{ContentKind};
 ghost use Rattle.asn1_model.specs.Meaning.{IsWellTagged, own_records};
-ghost use Rattle.asn1_model.specs.Orders.{SameRecords};
 ghost use Rattle.asn1_model.specs.Records.{Record, held, highest};
 ghost use Rattle.asn1_rules.specs.Fronts.{BelongsTo, IsSteady};
 ghost use Rattle.asn1_tags.specs.Derives.{ClonesAll};
-ghost use Rattle.std.specs.Prelude.{◌≡◌, ◌↔◌, ◌+◌, List, ℕ, length};
+ghost use Rattle.std.specs.Prelude.{◌≡◌, ◌↔◌, ◌+◌, Bool, List, ℕ, length};
 
 use crate::BerDecoder;
 use crate::form::BerForm;
@@ -24,27 +24,31 @@ use asn1_elements::ElementForm;
 use asn1_rules::{FrontReader, Rules};
 
 /// A law of the codec: octets carry the records whose BER they are, up to the order inside sets; one value of an open type is one
-/// element; and records are rejected where some that are the same up to that order have no DER, or are no elements of BER.
+/// element; and the records are rejected of which some in that order have no DER, or none that is its own normal form, and no others.
 pub fn the_codec_reads_every_spelling(output: &Vec<u8>)
     ensures carries { (rs : List Record) →
         ⟦<BerRules as Rules>⟧.format.carries output.now rs ↔ Carries output.now.items rs }
     ensures accepts { (bytes : List ℕ) →
         ⟦<BerRules as Rules>⟧.format.accepts bytes ≡ is_one_element bytes }
-    ensures rejects { (rs exactly : List Record) → HaveNoPlainDer exactly →
-        SameRecords exactly rs → ⟦<BerRules as Rules>⟧.format.rejects rs }
+    ensures rejects { (rs : List Record) →
+        ⟦<BerRules as Rules>⟧.format.rejects rs ↔ AreRejected rs }
 {}
 
-/// A law of what is written: the DER of records of which none has tag universal 0, and whose open types are in normal form, is BER
-/// of them.
+/// A law of DER: that of records of which none has tag universal 0, and whose open types are in normal form, is BER of them.
 pub fn der_is_ber()
-    ensures { (rs : List Record) (octets : List ℕ) → ArePlain (held rs) → HaveDer (held rs) octets →
+    ensures { (rs : List Record) (octets : List ℕ) → AreNormalInDer (held rs) → HaveDer (held rs) octets →
         AreBerOf rs octets }
 {}
 
-/// A law of the form: bytes are those of records if and only if they are their BER in normal form.
+/// A law of the form: bytes are those of records if and only if they are their BER in normal form (`has`, `have`), and strings alone
+/// may be in a constructed element (`form`).
 pub fn the_form_is_ber()
-    ensures { (rs : List Record) (bytes : List ℕ) →
+    ensures has { (r : Record) (bytes : List ℕ) →
+        ⟦<BerForm as ElementForm>⟧.form.Has r bytes ↔ HasBer r bytes }
+    ensures have { (rs : List Record) (bytes : List ℕ) →
         ⟦<BerForm as ElementForm>⟧.form.Have rs bytes ↔ HaveBer (held rs) bytes }
+    ensures form { (kind : ContentKind) (constructed : Bool) →
+        ⟦<BerForm as ElementForm>⟧.IsFormOf kind constructed ↔ IsFormOf kind constructed }
 {}
 
 /// A law: the name of a decoder of BER.
@@ -64,13 +68,17 @@ pub fn the_reader_belongs_to_the_rules<T: Decode>(reader: &BerReader)
         ⟦<BerRules as Rules>⟧.format T.meaning T.eq }
 {}
 
-/// A law of the reader: it takes the first octets of an input for those of one value if and only if they are one element of BER, in
-/// whatever spelling (`cut`). It opens as many nested scopes as it was made with (`depth`), and a value has the height of its own
-/// records (`height`).
+/// A law of the reader: it takes the first octets of an input for those of one value if and only if they are one element of BER
+/// (`cut`), which ends where its one normal form says (`spelled`), and never none (`not_empty`). It opens as many nested scopes as it
+/// was made with (`depth`), and a value has the height of its own records (`height`).
 pub fn the_reader_cuts_one_element<T: Decode>(reader: &BerReader)
-    ensures cut { (octets normal rest : List ℕ) (n : ℕ) → SpellsOne octets normal rest →
+    ensures cut { (octets : List ℕ) (n : ℕ) →
+        ⟦<BerReader as FrontReader<T>>⟧.fronts.cut reader.now octets n ↔ IsCut octets n }
+    ensures spelled { (octets normal rest : List ℕ) (n : ℕ) → SpellsOne octets normal rest →
         (⟦<BerReader as FrontReader<T>>⟧.fronts.cut reader.now octets n ↔
         (n + length rest ≡ length octets)) }
+    ensures not_empty { (octets : List ℕ) →
+        ¬ ⟦<BerReader as FrontReader<T>>⟧.fronts.cut reader.now octets 0 }
     ensures depth { ⟦<BerReader as FrontReader<T>>⟧.fronts.depth reader.now ≡ reader.now.depth }
     ensures height { (v : T) → ⟦<BerReader as FrontReader<T>>⟧.fronts.height v ≡
         highest (own_records T.meaning v) }

@@ -15,13 +15,16 @@
 //!
 //! - [`BerRules`] keeps the laws of `Rules` of `asn1_rules`, so `round_trip` holds of it. Octets carry records if they are elements
 //!   whose normal form is the BER of these, up to the order inside sets (`carries` of [`laws`]). So each spelling of a valid value of
-//!   a well-tagged type is read as that value, unless memory runs out or the depth is too small (`read`).
-//! - What is written is DER, which is BER (`writes_der`). Records are rejected that have no DER, and those that are no elements of
-//!   BER: with tag universal 0, or with an open type that is not in normal form (`rejects`).
+//!   a well-tagged type without its DEFAULT values is read as that value, unless memory runs out or the depth is too small (`read`).
+//! - What is written is DER (`writes_der`), and BER. Records are rejected that have no DER, and those whose DER is not its own normal
+//!   form: with tag universal 0, or with an open type that is not in normal form (`rejects`).
 //! - [`BerReader`] takes one whole element for one value (`cut`), and is steady. For a well-tagged type it belongs to these rules
 //!   (`belongs`), so `round_trip_in_pieces` holds of it.
 //!
-//! A component that is present though it is its DEFAULT is read; no contract covers it. An open type is read in normal form.
+//! No contract covers octets that are not BER of the type, nor a component that is present though it is its DEFAULT, which is read. Tests
+//! show that each of these is an error: an indefinite length of a primitive element, missing end-of-contents octets, a piece of another
+//! tag, unused bits before the last piece, a constructed content that is no string, and elements of tag numbers of 2^32 or more. An
+//! open type is read in normal form, and strings inside it stay in pieces.
 #![tactic(auto)]
 
 mod errors;

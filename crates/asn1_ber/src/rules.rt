@@ -16,13 +16,17 @@ use std::alloc::Global;
 
 /// The rules of BER (X.690, 8): a value has many encodings, each of which is read. Its distinguished encoding is written.
 ///
+/// A component that is present though it is its DEFAULT is read too, but no clause says so. While a value is written, the name of the
+/// codec is `Der`, and while one is read `Ber`.
+///
 /// They reject the records that have no DER, those with tag universal 0, which end-of-contents octets have (8.1.5), and those with an
 /// open type that is not in normal form: one element, with definite lengths of the fewest octets at each depth. So `write_value`
 /// fails if memory runs out, where the value's records are nested deeper than the depth, or where they are rejected, by
 /// [`EncodeError::Custom`] with a text that says why; and for no other reason.
 ///
 /// Of octets that are not BER of a value of the type, `read_value` answers an error or a value. [`DecodeError::Incomplete`] comes
-/// where octets are missing, with how many of the part that is read, and [`DecodeError::Custom`], with the text `bad item`, where the
+/// where octets are missing, with how many of the part that is read, which may be an element after the value; and
+/// [`DecodeError::Custom`], with the text `bad item`, where the
 /// octets are not what is asked for or some are left. An error of the type's own is answered as it is. No memory is taken by a
 /// length that the octets tell, but by those that are there.
 #[derive(Clone, Copy, Debug)]
@@ -41,13 +45,20 @@ impl BerRules {
 
 impl Rules for BerRules {
     ghost use Rattle.asn1_ber.specs.Format.{ber_format, ber_is_lawful};
-    ghost use Rattle.asn1_rules.specs.Rules.{ReadsCarried, RefusesCarried, RefusesTrailingRecords};
+    ghost use Rattle.asn1_der.specs.Format.{Carries as CarriesDer};
+    ghost use Rattle.asn1_model.specs.Meaning.{own_records};
+    ghost use Rattle.asn1_rules.specs.Rules.{ReadsCarried, RefusesCarried, RefusesTrailingRecords, WritesWhole};
 
     type Output = Vec<u8>;
 
     ghost format = { ber_format };
 
-    fn write_value<T: Encode>(&self, value: &T, depth: usize) -> Result<Vec<u8>, EncodeError> {
+    fn write_value<T: Encode>(&self, value: &T, depth: usize) -> Result<Vec<u8>, EncodeError>
+        ensures written { WritesWhole ber_format (own_records T.meaning value.now)
+            (T.meaning.IsOfType value.now) depth result }
+        ensures writes_der { IfOk result (λ own.
+            CarriesDer own.items (own_records T.meaning value.now)) }
+    {
         let octets = write_whole::<DerBuffer, T>(self.alloc, value, depth)?;
         normal_octets(self.alloc, octets)
     }

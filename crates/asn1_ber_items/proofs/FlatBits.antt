@@ -1,5 +1,5 @@
 -- Pieces of a bit string, header after header: inside a constructed piece the next header follows its own.
-use Rattle.std.proofs.Common.{◌≡◌, ◌≢◌, ◌⊎◌, inl, inr, ℕ, ◌<◌, Bool, true, false, List, [], ◌∷◌, ◌++◌, append-nil, append_assoc, None, Some, length, refl, ap, sym, subst, ◌∙◌, arith}
+use Rattle.std.proofs.Common.{◌≡◌, ◌≢◌, ℕ, ◌<◌, Bool, true, false, List, [], ◌∷◌, ◌++◌, append-nil, append_assoc, None, Some, refl, ap, sym, subst, ◌∙◌, arith}
 use Rattle.std.specs.Prelude.{Err, IfOk, MatchResult, Ok, Result, Vec}
 use Rattle.std.specs.declared.alloc.Global.{Global}
 use Rattle.asn1_items.specs.declared.error.ItemError.{ItemError}
@@ -11,7 +11,7 @@ use Rattle.asn1_ber_items.specs.Pieces.{AreBitPieces, ArePiecesOfBits, BIT_STRIN
 use Rattle.asn1_ber_items.specs.Spellings.{IsDefinite, Spells, definite, indefinite, nothing, primitive}
 use Rattle.asn1_ber_items.proofs.FlatOctets.{IsPiece, contents_before, element_definite, element_piece, is_piece, piece_before, piece_header}
 use Rattle.asn1_ber_items.proofs.Headers.{element_header, header_before}
-use Rattle.asn1_ber_items.proofs.Splits.{AreSame, one_extent}
+use Rattle.asn1_ber_items.proofs.Splits.{one_extent}
 
 -- The bytes are pieces, header after header; these are their octets, and so many bits of the last octet are unused.
 pub data FlatBits : List ℕ → ℕ → List ℕ → Type 0 where

@@ -1,5 +1,5 @@
 -- Pieces of a string of octets, header after header: inside a constructed piece the next header follows its own.
-use Rattle.std.proofs.Common.{◌≡◌, ◌≢◌, ℕ, ◌+◌, ◌<◌, Bool, true, false, List, [], ◌∷◌, ◌++◌, append-nil, append_assoc, None, Some, length, refl, ap, sym, subst, ◌∙◌, arith}
+use Rattle.std.proofs.Common.{◌≡◌, ◌≢◌, ℕ, Bool, true, false, List, [], ◌∷◌, ◌++◌, append-nil, append_assoc, None, Some, length, refl, ap, sym, subst, ◌∙◌}
 use Rattle.std.specs.Prelude.{◌==◌}
 use Rattle.std.proofs.lemmas.Bool.{eqb-true}
 use Rattle.std.proofs.lemmas.List.{nil_from_length}
@@ -9,7 +9,7 @@ use Rattle.asn1_ber_items.specs.Headers.{Header, header_at}
 use Rattle.asn1_ber_items.specs.Pieces.{AreOctetPieces, OCTET_STRING, no_octets, octets_first, octet_pieces_first}
 use Rattle.asn1_ber_items.specs.Spellings.{IsDefinite, Spells, definite, indefinite, nothing, primitive}
 use Rattle.asn1_ber_items.proofs.Headers.{element_header, header_at-append, header_before}
-use Rattle.asn1_ber_items.proofs.Splits.{AreSame, one_extent}
+use Rattle.asn1_ber_items.proofs.Splits.{one_extent}
 
 some_is : {A : Type 0} {x y : A} → Some x ≡ Some y → x ≡ y
 some_is e = cc

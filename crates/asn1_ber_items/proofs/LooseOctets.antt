@@ -4,7 +4,7 @@ use Rattle.std.proofs.Math.Seq.{take-append-add, take-append_seam}
 use Rattle.std.proofs.lemmas.List.{take-append-drop}
 use Rattle.std.proofs.lemmas.List.Concat.{flat_map-append}
 use Rattle.std.proofs.lemmas.Bool.{ne_eqb}
-use Rattle.std.specs.Prelude.{◌/◌, ◌%◌, ◌==◌, nat_eq, not, replicate, slice_index_or, suc, zero}
+use Rattle.std.specs.Prelude.{◌/◌, ◌%◌, nat_eq, not, replicate, slice_index_or, suc, zero}
 use Rattle.asn1_items.specs.Bits.{AreBits, bits_of_octet, bits_of_octets}
 use Rattle.asn1_ber_items.specs.LooseContents.{AreLooseBits, AreSameBits, IsTruthValue, other_octet, zero_octet}
 

@@ -6,7 +6,7 @@ use Rattle.asn1_der_items.proofs.Encodings.{one_element}
 use Rattle.asn1_der_items.proofs.OneElement.{alone as none_after, element_is_one, some_bytes as one_has_bytes}
 use Rattle.asn1_der_items.specs.Elements.{IsElement}
 use Rattle.asn1_der_items.specs.Series.{is_one_element}
-use Rattle.asn1_ber_items.specs.Headers.{Header, end_of_contents, header_at}
+use Rattle.asn1_ber_items.specs.Headers.{Header, end_of_contents}
 use Rattle.asn1_ber_items.specs.Spellings.{BeginWith, IsDefinite, Spells, SpellsOne, definite, indefinite, nothing, primitive}
 use Rattle.asn1_ber_items.specs.Walks.{IsEnd, end_octets, nothing_left}
 use Rattle.asn1_ber_items.proofs.Headers.{element_header, header_at-append, header_before}

@@ -10,7 +10,7 @@ use Rattle.asn1_ber_items.specs.Headers.{Header, end_of_contents}
 use Rattle.asn1_tags.specs.declared.tags.Tag.{Tag}
 use Rattle.asn1_ber_items.specs.Walks.{IsClosing, IsCopy, IsEnd, IsSplit, Splits, end_octets, nothing_left}
 use Rattle.asn1_ber_items.specs.declared.open_element.Extent.TheVariants.{Definite, Indefinite}
-use Rattle.asn1_ber_items.specs.Spellings.{BeginWith, IsDefinite, Spells, SpellsOne, definite, indefinite, nothing, primitive}
+use Rattle.asn1_ber_items.specs.Spellings.{BeginWith, IsDefinite, Spells, definite, indefinite, nothing, primitive}
 
 some_is : {A : Type 0} {x y : A} → Some x ≡ Some y → x ≡ y
 some_is e = cc

@@ -1,7 +1,7 @@
 -- One element in front of others, and cut off.
-use Rattle.std.proofs.Common.{◌≡◌, ℕ, ◌-◌, ◌≤◌, Bool, true, false, List, [], ◌∷◌, ◌++◌, Option, None, Some, length, length-append, take, drop, refl, sym, ap, ◌∙◌, arith}
+use Rattle.std.proofs.Common.{◌≡◌, ℕ, ◌-◌, false, List, ◌++◌, Option, None, Some, length, length-append, take, drop, refl, sym, ap, ◌∙◌, arith}
 use Rattle.std.proofs.Math.Seq.{take-append_seam, drop-append_seam}
-use Rattle.std.specs.Prelude.{◌&&◌, ◌==◌, IsTrue}
+use Rattle.std.specs.Prelude.{IsTrue}
 use Rattle.std.specs.List.{IsSplitAt}
 use Rattle.asn1_der_items.proofs.TrailingBytes.{element_at-append, element_before}
 use Rattle.asn1_der_items.proofs.OneElement.{one}

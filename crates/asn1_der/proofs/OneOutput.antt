@@ -1,22 +1,20 @@
 -- There is one output of records whose sets have distinct tags, whatever the order inside sets.
-use Rattle.std.proofs.Common.{◌≡◌, ◌<◌, ◌^◌, ℕ, Bool, true, List, [], ◌∷◌, ap, arith, subst, sym}
+use Rattle.std.proofs.Common.{◌≡◌, ◌<◌, ◌^◌, ℕ, Bool, true, List, [], ◌∷◌, arith, subst}
 use Rattle.std.proofs.lemmas.List.Elements.{All-head, All-tail}
 use Rattle.std.specs.Int.Digits.{AllBelowBase}
-use Rattle.std.specs.Prelude.{All, Vec}
+use Rattle.std.specs.Prelude.{Vec}
 use Rattle.std.specs.declared.alloc.Global.{Global}
-use Rattle.asn1_der.proofs.Cuts.{der_belongs, der_steady}
-use Rattle.asn1_der.specs.Cuts.{cut_within, der_fronts}
+use Rattle.asn1_der.specs.Cuts.{der_fronts}
 use Rattle.asn1_der.specs.Format.{Carries, der_format}
 use Rattle.asn1_der.specs.OneOutput.{HasDistinctSetsIn, HasNoSet, HaveDistinctSetsInEach, HaveNoSet, HaveOneOutput, IsNoSet}
-use Rattle.asn1_der.specs.declared.reader.DerReader.{DerReader}
 use Rattle.asn1_der_items.proofs.Canonical.{same_ders}
 use Rattle.asn1_der_items.proofs.DistinctSets.{all_distinct}
 use Rattle.asn1_der_items.proofs.NotBoth.{have_some, none_lacks}
-use Rattle.asn1_der_items.specs.DistinctTags.{AreDistinctIn, HasDistinctSets, HaveDistinctSets, HaveDistinctTags, SharesNoTag}
+use Rattle.asn1_der_items.specs.DistinctTags.{AreDistinctIn, HasDistinctSets, HaveDistinctSets}
 use Rattle.asn1_model.proofs.SameUpToOrder.{SameAll-sym, SameAll-trans, SameRecords-refl}
-use Rattle.asn1_model.specs.Meaning.{Meaning, IsWellTagged, own_records}
-use Rattle.asn1_model.specs.Orders.{SameRecord, SameAll, SameRecords, at_end, equal, in_any_order, one_by_one, next}
-use Rattle.asn1_model.specs.Records.{Head, Record, Records, alternative, explicit_tag, held, listed, more, none, open_type, presence_mark, scalar, scope, sequence, sequence_of, set, set_of}
+use Rattle.asn1_model.specs.Meaning.{Meaning, own_records}
+use Rattle.asn1_model.specs.Orders.{SameAll, SameRecords}
+use Rattle.asn1_model.specs.Records.{Head, Record, Records, alternative, explicit_tag, held, more, none, open_type, presence_mark, scalar, scope, sequence, sequence_of, set, set_of}
 use Rattle.asn1_rules.specs.CanonicalFronts.{HasOneSpellingEach}
 use Rattle.asn1_rules.specs.CanonicalReading.{AreOctets, EqualHaveSameRecords, HasOneSpelling, HaveOneSpelling}
 

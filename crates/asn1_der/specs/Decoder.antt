@@ -1,7 +1,7 @@
 -- The form in which a decoder reads DER, and its law.
-use Rattle.std.specs.Prelude.{ℕ, ⊤, false, true, List, refl}
+use Rattle.std.specs.Prelude.{ℕ, ⊤, false, List, refl}
 use Rattle.asn1_laws.specs.Reading.{Remaining}
-use Rattle.asn1_der_items.proofs.OneElement.{element_alone, element_of, element_of_tag, one_of}
+use Rattle.asn1_der_items.proofs.OneElement.{element_of_tag, one_of}
 use Rattle.asn1_der_items.proofs.RecordElements.{is_element_of_record}
 use Rattle.asn1_der_items.specs.Bytes.{HasDer, HaveDer}
 use Rattle.asn1_der_items.specs.Series.{AreElements, AscendByEncoding, AscendByTag, is_one_element}
@@ -9,6 +9,7 @@ use Rattle.asn1_der_items.specs.declared.content_order.ContentOrder.{ContentOrde
 use Rattle.asn1_der_items.specs.declared.content_order.ContentOrder.TheVariants.{ByTag, ByEncoding}
 use Rattle.asn1_der.specs.declared.form.DerForm.{DerForm}
 use Rattle.asn1_elements.specs.Decoder as elements
+use Rattle.asn1_elements.proofs.Inside.{constructed_inside}
 use Rattle.asn1_elements.specs.ElementForms.{HoldsInside, IsElementForm}
 use Rattle.asn1_elements.specs.declared.decoder.ElementDecoder.{ElementDecoder}
 use Rattle.asn1_items.specs.DecodeStates.{ReadForm}
@@ -34,51 +35,11 @@ Remains d remaining = elements.Remains der_form d remaining
 
 -- what is inside a record that holds others
 inside_of : (h : Head) (rs : List Record) (own : List ℕ) → HasDer (holding h rs) own → HoldsInside der_form AreInOrder h rs own
-inside_of (sequence t table n) rs own p = record {
-  element = element_of t true p.contents;
-  alone = element_alone t true p.contents own p.element;
-  tag = refl;
-  inside = p.contents;
-  is = record { constructed = refl; contents = refl };
-  in_order = tt;
-  have = p.are;
-}
-inside_of (set t table n) rs own p = record {
-  element = element_of t true p.contents;
-  alone = element_alone t true p.contents own p.element;
-  tag = refl;
-  inside = p.contents;
-  is = record { constructed = refl; contents = refl };
-  in_order = p.are.1;
-  have = p.are.0;
-}
-inside_of (sequence_of t c n) rs own p = record {
-  element = element_of t true p.contents;
-  alone = element_alone t true p.contents own p.element;
-  tag = refl;
-  inside = p.contents;
-  is = record { constructed = refl; contents = refl };
-  in_order = tt;
-  have = p.are;
-}
-inside_of (set_of t c n) rs own p = record {
-  element = element_of t true p.contents;
-  alone = element_alone t true p.contents own p.element;
-  tag = refl;
-  inside = p.contents;
-  is = record { constructed = refl; contents = refl };
-  in_order = p.are.1;
-  have = p.are.0;
-}
-inside_of (explicit_tag t n) rs own p = record {
-  element = element_of t true p.contents;
-  alone = element_alone t true p.contents own p.element;
-  tag = refl;
-  inside = p.contents;
-  is = record { constructed = refl; contents = refl };
-  in_order = tt;
-  have = p.are;
-}
+inside_of (sequence t table n) rs own p = constructed_inside der_form AreInOrder (sequence t table n) rs own p.contents p.element (λ e held. held) tt p.are
+inside_of (set t table n) rs own p = constructed_inside der_form AreInOrder (set t table n) rs own p.contents p.element (λ e held. held) p.are.1 p.are.0
+inside_of (sequence_of t c n) rs own p = constructed_inside der_form AreInOrder (sequence_of t c n) rs own p.contents p.element (λ e held. held) tt p.are
+inside_of (set_of t c n) rs own p = constructed_inside der_form AreInOrder (set_of t c n) rs own p.contents p.element (λ e held. held) p.are.1 p.are.0
+inside_of (explicit_tag t n) rs own p = constructed_inside der_form AreInOrder (explicit_tag t n) rs own p.contents p.element (λ e held. held) tt p.are
 inside_of (alternative t c table n) rs own p =
     let o = one_of t own p.1 in
     record { element = o.element; alone = o.alone; tag = o.tag; inside = own; is = refl; in_order = tt; have = p.0 }

@@ -1,10 +1,9 @@
 -- The records with one output in DER, whatever the order inside sets, and the types whose values have one spelling.
-use Rattle.std.specs.Prelude.{◌≡◌, ⊤, ℕ, Bool, true, List}
+use Rattle.std.specs.Prelude.{◌≡◌, ⊤, ℕ, List}
 use Rattle.std.specs.Int.Digits.{AllBelowBase}
 use Rattle.asn1_der.specs.Format.{Carries, der_format}
 use Rattle.asn1_der_items.specs.DistinctTags.{HaveDistinctSets}
 use Rattle.asn1_model.specs.Meaning.{Meaning, own_records}
-use Rattle.asn1_model.specs.Orders.{SameRecords}
 use Rattle.asn1_model.specs.Records.{Head, Record, Records, scalar, scope, open_type, presence_mark, none, more, held, sequence, set, sequence_of, set_of, explicit_tag, alternative}
 
 -- what holds records is no SET (X.680, 27); it may be a SET OF

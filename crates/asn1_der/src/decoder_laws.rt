@@ -5,8 +5,9 @@ ghost use Rattle.asn1_der.specs.Decoder.{AreInOrder, Remains};
 ghost use Rattle.asn1_der_items.specs.Bytes.{HasDer, HaveDer};
 ghost use Rattle.asn1_der_items.specs.Series.{is_one_element};
 ghost use Rattle.asn1_der_items.specs.declared.content_order.ContentOrder.{ContentOrder};
+ghost use Rattle.asn1_items.specs.declared.kinds.ContentKind.{ContentKind};
 ghost use Rattle.asn1_model.specs.Records.{Record, held, is_presence_mark};
-ghost use Rattle.std.specs.Prelude.{◌≡◌, ◌↔◌, ◌∷◌, [], List, ℕ, false};
+ghost use Rattle.std.specs.Prelude.{◌≡◌, ◌↔◌, ◌∷◌, [], Bool, List, ℕ, false};
 
 use crate::DerDecoder;
 use crate::form::DerForm;
@@ -14,13 +15,15 @@ use asn1_bounds::Codec;
 use asn1_dec::Decoder;
 use asn1_elements::{ElementDecoder, ElementForm};
 
-/// A law of the form: bytes are those of records if and only if they are their DER (`have`), and what is inside a set has the order
-/// of DER (`order`).
+/// A law of the form: bytes are those of records if and only if they are their DER (`has`, `have`), a content is in a primitive element
+/// (`form`), and what is inside a set has the order of DER (`order`).
 pub fn the_form_is_der()
     ensures has { (r : Record) (bytes : List ℕ) →
         ⟦<DerForm as ElementForm>⟧.form.Has r bytes ↔ HasDer r bytes }
     ensures have { (rs : List Record) (bytes : List ℕ) →
         ⟦<DerForm as ElementForm>⟧.form.Have rs bytes ↔ HaveDer (held rs) bytes }
+    ensures form { (kind : ContentKind) (constructed : Bool) →
+        ⟦<DerForm as ElementForm>⟧.IsFormOf kind constructed ↔ (constructed ≡ false) }
     ensures order { (order : ContentOrder) (bytes : List ℕ) →
         ⟦<DerForm as ElementForm>⟧.AreInOrder order bytes ↔ AreInOrder order bytes }
 {}

@@ -29,7 +29,7 @@
 //!
 //! No contract covers octets that are not the DER of the type. Tests show that each of these is an error: a length that is
 //! indefinite or not the shortest, an integer, a tag or an arc that is not the shortest, a BOOLEAN other than 0 and 255, unused
-//! bits that are not 0, a string in parts, elements of a set in another order, and trailing octets. A component that is present
+//! bits that are not 0, a string in pieces, elements of a set in another order, and trailing octets. A component that is present
 //! though it is its DEFAULT is read, and `read_canonical` refuses it.
 #![tactic(auto)]
 

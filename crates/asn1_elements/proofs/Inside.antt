@@ -1,17 +1,21 @@
 -- The contents of a record that holds others.
-use Rattle.std.proofs.Common.{◌≡◌, ℕ, List, [], Ok, Err, refl, subst, sym, ◌∙◌}
+use Rattle.std.proofs.Common.{◌≡◌, ℕ, true, List, Ok, Err, refl, subst, sym, ◌∙◌}
 use Rattle.std.specs.Prelude.{Option, Some, None, IfOk, IfSome, OnOk, Result}
 use Rattle.asn1_laws.specs.declared.decode_error.DecodeError.{DecodeError}
 use Rattle.asn1_der_items.specs.declared.content_order.ContentOrder.{ContentOrder}
 use Rattle.asn1_der_items.specs.declared.content_order.ContentOrder.TheVariants.{AsDefined, ByTag, ByEncoding, Chosen}
+use Rattle.asn1_der_items.proofs.OneElement.{element_alone, element_of}
+use Rattle.asn1_der_items.specs.Bytes.{content_order_of}
 use Rattle.asn1_elements.specs.Decoder.{BeginWithScope, HoldsOthers, IsFirstOf}
-use Rattle.asn1_elements.specs.ElementForms.{IsInsideElement, IsParsed}
+use Rattle.asn1_elements.specs.ElementForms.{HoldsInside, IsHolding, IsInsideElement, IsParsed}
 use Rattle.asn1_elements.specs.declared.parsed_element.ParsedElement.{ParsedElement}
-use Rattle.asn1_der_items.specs.Elements.{Element}
+use Rattle.asn1_der_items.specs.Elements.{Element, IsElement}
 use Rattle.asn1_items.specs.Slices.{left_inside}
-use Rattle.asn1_items.specs.DecodeStates.{IsOpen}
+use Rattle.asn1_items.specs.DecodeStates.{IsOpen, ReadForm}
 use Rattle.asn1_items.specs.declared.decode_state.Opened.{Opened}
 use Rattle.asn1_items.specs.declared.decode_state.DecodeState.{DecodeState}
+use Rattle.asn1_model.specs.Records.{Head, Record}
+use Rattle.asn1_model.specs.Tags.{head_tag}
 use Rattle.asn1_tags.specs.declared.tags.Tag.{Tag}
 
 -- its tag is the one that is asked for, if one is
@@ -44,3 +48,16 @@ begin_with_scope content_order tag parsed inside bytes (Ok w) first under is =
       has_tag = under;
       holds_others = holds_others content_order e parsed.bytes.now inside (is e parsed.bytes.now (record { tag = refl; constructed = refl; contents = refl; bytes = refl }));
     }
+
+-- what is inside a constructed element
+pub constructed_inside : (F : ReadForm) (AreInOrder : ContentOrder → List ℕ → Type 0) (h : Head) (rs : List Record) (own inside : List ℕ) → IsElement (head_tag h) true inside own →
+    ((e : Element) → IsHolding e inside → IsInsideElement (content_order_of h) e own inside) → AreInOrder (content_order_of h) inside → F.Have rs inside → HoldsInside F AreInOrder h rs own
+constructed_inside F AreInOrder h rs own inside element holds in_order have = record {
+  element = element_of (head_tag h) true inside;
+  alone = element_alone (head_tag h) true inside own element;
+  tag = refl;
+  inside = inside;
+  is = holds (element_of (head_tag h) true inside) (record { constructed = refl; contents = refl });
+  in_order = in_order;
+  have = have;
+}

@@ -1,4 +1,4 @@
-mod Inside
+pub mod Inside
 pub mod ParsedElements
 mod PresenceByTag
 pub mod RemainingElements

@@ -1,5 +1,5 @@
 -- The elements left to a decoder: presence marks have no bytes, and a record is not the end.
-use Rattle.std.proofs.Common.{◌≡◌, ◌∙◌, ◌≤◌, ℕ, false, List, [], ◌∷◌, ◌++◌, length, refl, sym, ap, subst, arith}
+use Rattle.std.proofs.Common.{◌≡◌, ◌∙◌, ◌≤◌, ℕ, false, List, [], ◌∷◌, ◌++◌, length, sym, ap, subst, arith}
 use Rattle.asn1_laws.proofs.RemainingRecords.{same_as_record}
 use Rattle.asn1_laws.specs.Reading.{Outside}
 use Rattle.asn1_der_items.proofs.OneElement.{one}

@@ -3,10 +3,10 @@ use Rattle.std.specs.Prelude.{◌≡◌, ℕ, ⊤, Bool, true, List, Option, Som
 use Rattle.asn1_laws.specs.ReadingUpToOrder.{up_to_order}
 use Rattle.asn1_laws.specs.Reading.{Reader, Remaining}
 use Rattle.asn1_der_items.specs.Bytes.{content_order_of}
-use Rattle.asn1_der_items.specs.Contents.{HasContents, HasOctetsOf}
+use Rattle.asn1_der_items.specs.Contents.{HasContents}
 use Rattle.asn1_der_items.specs.Elements.{Element, element_at}
 use Rattle.asn1_der_items.specs.declared.content_order.ContentOrder.{ContentOrder}
-use Rattle.asn1_der_items.specs.declared.content_order.ContentOrder.TheVariants.{AsDefined, ByTag, ByEncoding, Chosen}
+use Rattle.asn1_der_items.specs.declared.content_order.ContentOrder.TheVariants.{Chosen}
 use Rattle.asn1_elements.specs.ElementForms.{IsParsed}
 use Rattle.asn1_elements.specs.declared.decoder.ElementDecoder.{ElementDecoder}
 use Rattle.asn1_elements.specs.declared.parsed_element.ParsedElement.{ParsedElement}

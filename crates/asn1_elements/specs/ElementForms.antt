@@ -1,5 +1,5 @@
 -- The form in which a codec has records in elements (X.690, 8.1) of definite lengths of the fewest octets.
-use Rattle.std.specs.Prelude.{◌≡◌, ℕ, Bool, true, false, List, [], ◌∷◌}
+use Rattle.std.specs.Prelude.{◌≡◌, ℕ, true, false, List, [], ◌∷◌}
 use Rattle.asn1_der_items.specs.Elements.{Element}
 use Rattle.asn1_der_items.specs.Bytes.{content_order_of}
 use Rattle.asn1_der_items.specs.RecordElements.{IsElementOfRecord}

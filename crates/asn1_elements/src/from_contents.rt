@@ -73,6 +73,7 @@ impl<U, K: CodecString<U>> FromContents for StringOf<U, K> {
         }
     }
 }
+
 /// Reads the octets of a string of this kind. Its units need not be those that strings of the kind can have.
 fn read_string(alloc: Global, kind: StringKind, octets: &[u8]) -> Result<AnyString, ItemError>
     ensures read { (x : model.Content) → IsStringOf kind x → HasContents x octets.now →

@@ -10,13 +10,13 @@
 //! | `CODEC TYPE DEPTH stream OTHER BYTES` | the codec reads values one after another, as long as writing each makes the same bytes | their bytes in the other codec, how many they are, and why no more came |
 //! | `CODEC TYPE DEPTH write OTHER BYTES` | the codec writes the value that the other one reads | the bytes |
 //!
-//! `CODEC` and `OTHER` are `packed`, `tag` or `der`; the first of them may open `DEPTH` nested scopes. `TYPE` is a name of
+//! `CODEC` and `OTHER` are `packed`, `tag`, `der` or `ber`; the first of them may open `DEPTH` nested scopes. `TYPE` is a name of
 //! `crates/test_calls/src/named_types.rt`. `BYTES` are in hexadecimal, with spaces wherever they help. Lines that are empty or begin
 //! with `#` are written as they are.
 //!
 //! The stored run is the test. The answers in `stdout` were made by hand or with another tool: X.690's examples, OpenSSL, and a
-//! model of the three codecs in Python, `bench/vectors.py`, which checks each line that has a value in two forms. The answer to
-//! bytes that are refused is the text of the error.
+//! model of three codecs in Python, `bench/vectors.py`, which checks each line that has a value in two forms. Other spellings of BER are those of
+//! `bench/spellings.py`. The answer to bytes that are refused is the text of the error.
 #![tactic(auto)]
 
 mod answer;

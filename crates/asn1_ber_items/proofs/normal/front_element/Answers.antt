@@ -1,6 +1,5 @@
-use Rattle.std.proofs.Common.{◌≡◌, refl, sym, subst}
+use Rattle.std.proofs.Common.{refl, sym, subst}
 use Rattle.std.proofs.lemmas.Result.{err_from_is_err_and}
-use Rattle.asn1_ber_items.specs.Spellings.{SpellsOne}
 use Rattle.asn1_ber_items.specs.Walks.{Comes, Remains, of_first}
 use Rattle.asn1_ber_items.proofs.Steps.{only_memory}
 use Rattle.asn1_ber_items.proofs.Walking.{front_there, front_was}

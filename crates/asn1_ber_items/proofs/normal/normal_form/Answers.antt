@@ -1,7 +1,7 @@
-use Rattle.std.proofs.Common.{◌≡◌, ◌++◌, [], append-nil, refl, sym, ap, subst, ◌∙◌}
+use Rattle.std.proofs.Common.{[], append-nil, refl, sym, subst}
 use Rattle.std.proofs.lemmas.Result.{err_from_is_err_and}
 use Rattle.asn1_ber_items.specs.Spellings.{Spells, nothing}
-use Rattle.asn1_ber_items.specs.Walks.{AreLast, Comes, Remains, of_all}
+use Rattle.asn1_ber_items.specs.Walks.{Comes, Remains, of_all}
 use Rattle.asn1_ber_items.proofs.Steps.{only_memory}
 use Rattle.asn1_ber_items.proofs.Walking.{at_end}
 use Rattle.asn1_ber_items.proofs.normal.normal_form.Goals as goal

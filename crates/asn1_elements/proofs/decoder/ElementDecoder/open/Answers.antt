@@ -1,4 +1,4 @@
-use Rattle.std.proofs.Common.{subst, sym, arith, refl, ◌∙◌}
+use Rattle.std.proofs.Common.{subst, arith, ◌∙◌}
 use Rattle.asn1_elements.proofs.Inside.{asked_tag, begin_with_scope, opened_in_order}
 use Rattle.asn1_elements.proofs.RemainingElements.{is_form}
 use Rattle.asn1_elements.specs.ElementForms.{IsInsideElement}

@@ -1,4 +1,4 @@
-use Rattle.std.proofs.Common.{◌∙◌, Ok, Err, arith, inl, refl}
+use Rattle.std.proofs.Common.{◌∙◌, Ok, Err, arith, inl}
 use Rattle.asn1_laws.proofs.ReadingUpToOrder.{reads_content}
 use Rattle.asn1_der_items.proofs.OneElement.{one_of}
 use Rattle.asn1_elements.proofs.RemainingElements.{is_form}
