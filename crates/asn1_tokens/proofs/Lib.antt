@@ -1,3 +1,4 @@
 pub mod ItemLemmas
 pub mod SkipSteps
+pub mod SymbolLemmas
 pub mod TokenLemmas

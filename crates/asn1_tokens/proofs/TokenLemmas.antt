@@ -7,7 +7,7 @@ use Rattle.asn1_tokens.specs.declared.kind.TokenKind.TheVariants.{TypeReference,
 use Rattle.asn1_tokens.specs.declared.token.Token.{Token}
 use Rattle.asn1_tokens.specs.Characters.{first, is_newline}
 use Rattle.asn1_tokens.specs.Items.{EndsItem, IsItem, Splits}
-use Rattle.asn1_tokens.specs.Skipped.{Skips, nothing, white_space, line_comment, comment, after_hyphens, after_comment}
+use Rattle.asn1_tokens.specs.Skipped.{Skips, is_unskipped, nothing, white_space, no_break_space, line_comment, comment, after_hyphens, after_comment}
 use Rattle.asn1_tokens.specs.Tokens.{TakesToken, TakesTokens}
 use Rattle.asn1_tokens.specs.Words.{is_reserved, is_symbol}
 use Rattle.asn1_tokens.proofs.ItemLemmas.{cut_item}
@@ -67,6 +67,7 @@ comment_end false depth (c ∷ rest) after found =
 skipped_end : (text rest : List ℕ) → Skips text rest → Ends text rest
 skipped_end text rest (nothing _) = itself text
 skipped_end text rest (white_space _ _ test more) = then_after text (drop 1 text) rest (after_some 1 text) (skipped_end (drop 1 text) rest more)
+skipped_end text rest (no_break_space _ _ test more) = then_after text (drop 2 text) rest (after_some 2 text) (skipped_end (drop 2 text) rest more)
 skipped_end text rest (line_comment _ _ test more) =
     then_after text (drop 2 text) rest (after_some 2 text)
     (then_after (drop 2 text) (after_hyphens (drop 2 text)) rest (hyphens_end (drop 2 text)) (skipped_end (after_hyphens (drop 2 text)) rest more))
@@ -91,9 +92,9 @@ pub item_shortens : (kind : TokenKind) (rest after : List ℕ) → Splits (IsIte
 item_shortens kind rest after split =
     omega (arith, item_some kind split.0 split.2, ap length split.1, length-append split.0 after)
 
-pub token_taken : (size : ℕ) (text rest after : List ℕ) (t : Token) → Skips text rest → Splits (IsItem t.kind) rest after → EndsItem t.kind after → length rest ≤ size →
+pub token_taken : (size : ℕ) (text rest after : List ℕ) (t : Token) → Skips text rest → is_unskipped rest ≡ true → Splits (IsItem t.kind) rest after → EndsItem t.kind rest after → length rest ≤ size →
     t.text.now ≡ take (length rest - length after) rest → t.start ≡ size - length rest → TakesToken size text t after
-token_taken size text rest after t skipped split ends within is_text is_start =
+token_taken size text rest after t skipped unskipped split ends within is_text is_start =
     let item : t.text.now ≡ split.0 = is_text ∙ cut_item rest split.0 after split.1 in
     let parts : rest ≡ t.text.now ++ after = split.1 ∙ ap (λ x. x ++ after) (sym item) in
     let gap = skipped_end text rest skipped in
@@ -102,7 +103,8 @@ token_taken size text rest after t skipped split ends within is_text is_start =
       parts = gap.parts ∙ ap (λ x. gap.gap ++ x) parts;
       skipped = let P : List ℕ → Type 0 = λ x. Skips text x in subst P parts skipped;
       item = let P : List ℕ → Type 0 = λ x. IsItem t.kind x in subst P (sym item) split.2;
-      ends = ends;
+      unskipped = ap is_unskipped (sym parts) ∙ unskipped;
+      ends = let P : List ℕ → Type 0 = λ x. EndsItem t.kind x after in subst P parts ends;
       start = omega (arith, is_start, ap length parts);
     }
 

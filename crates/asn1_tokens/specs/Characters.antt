@@ -6,7 +6,7 @@ use Rattle.std.specs.Char.{is_ascii_alphanumeric, is_ascii_digit}
 abbrev pub is_newline : ℕ → Bool
 is_newline c = nat_le 10 c && nat_le c 13
 
--- SPACE, HORIZONTAL TABULATION, or a newline (X.680, 12.1.6)
+-- SPACE, HORIZONTAL TABULATION, or a newline: the white space of one octet (X.680, 12.1.6)
 abbrev pub is_white_space : ℕ → Bool
 is_white_space c = (c == 32 || c == 9) || is_newline c
 

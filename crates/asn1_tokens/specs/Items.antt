@@ -1,5 +1,5 @@
 -- Lexical items, each as X.680 defines its kind.
-use Rattle.std.specs.Prelude.{◌≡◌, ◌≢◌, ◌<◌, ℕ, Bool, true, false, ◌&&◌, ◌==◌, List, [], ◌∷◌, ◌++◌, length, drop, slice_index, Option, Some, None, if◌then◌else◌, ⊤}
+use Rattle.std.specs.Prelude.{◌≡◌, ◌≢◌, ◌<◌, ◌≤◌, ℕ, Bool, true, false, ◌&&◌, ◌==◌, List, [], ◌∷◌, ◌++◌, length, drop, slice_index, Option, Some, None, if◌then◌else◌, ⊤}
 use Rattle.std.specs.List.{list_all}
 use Rattle.std.specs.Char.{is_ascii_digit, is_ascii_uppercase, is_ascii_lowercase}
 use Rattle.asn1_tokens.specs.declared.kind.TokenKind.{TokenKind}
@@ -66,18 +66,25 @@ IsItem Symbol = IsSymbol
 abbrev pub EndsName : List ℕ → Type 0
 EndsName after = is_in_name (first after) (slice_index after 1) ≡ false
 
--- What follows an item of the kind does not go on with it, so the item could not be longer.
-abbrev pub EndsItem : TokenKind → List ℕ → Type 0
-EndsItem TypeReference = EndsName
-EndsItem Identifier = EndsName
-EndsItem ReservedWord = EndsName
-EndsItem Number = λ after. is_ascii_digit (first after) ≡ false
-EndsItem CharacterString = λ after. first after ≢ quotation_mark
-EndsItem _ = λ after. ⊤
-
 -- The text begins with an item of which this holds, and another text follows.
 abbrev pub Splits : (List ℕ → Type 0) → List ℕ → List ℕ → Type 0
 Splits Holds text after = (item : List ℕ) × (text ≡ item ++ after) × Holds item
+
+-- No item of which this holds, and with which the text begins, leaves less of the text.
+abbrev pub LeavesLeast : (List ℕ → Type 0) → List ℕ → List ℕ → Type 0
+LeavesLeast Holds text after = (rest : List ℕ) → Splits Holds text rest → length after ≤ length rest
+
+-- The item of the kind with which the text begins could not be longer: what follows does not go on with it, and no longer
+-- symbol begins there (12.20 to 12.24, 12.37). The letter behind the second apostrophe ends a bstring and an hstring.
+abbrev pub EndsItem : TokenKind → List ℕ → List ℕ → Type 0
+EndsItem TypeReference = λ text after. EndsName after
+EndsItem Identifier = λ text after. EndsName after
+EndsItem ReservedWord = λ text after. EndsName after
+EndsItem Number = λ text after. is_ascii_digit (first after) ≡ false
+EndsItem BinaryString = λ text after. ⊤
+EndsItem HexString = λ text after. ⊤
+EndsItem CharacterString = λ text after. first after ≢ quotation_mark
+EndsItem Symbol = LeavesLeast IsSymbol
 
 -- The text after the letters, digits and hyphens of a name.
 abbrev pub after_name : List ℕ → List ℕ

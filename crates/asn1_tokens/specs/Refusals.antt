@@ -1,5 +1,5 @@
 -- Why no item begins at an octet, for the text from this octet on.
-use Rattle.std.specs.Prelude.{◌≡◌, ◌+◌, ℕ, Bool, true, false, ◌||◌, ◌==◌, List, ◌∷◌, ◌++◌, length, drop, slice_index, None, ⊤}
+use Rattle.std.specs.Prelude.{◌≡◌, ◌<◌, ◌+◌, ℕ, Bool, true, false, ◌||◌, ◌==◌, List, ◌∷◌, ◌++◌, length, drop, slice_index, None, ⊤}
 use Rattle.std.specs.List.{list_all, list_any}
 use Rattle.std.specs.Char.{is_ascii_digit, is_ascii_alphabetic}
 use Rattle.asn1_tokens.specs.declared.error.Refusal.{Refusal}
@@ -9,7 +9,7 @@ use Rattle.asn1_tokens.specs.declared.error.TokenError.TheVariants.{Refused, Mem
 use Rattle.asn1_tokens.specs.declared.token.Token.{Token}
 use Rattle.asn1_tokens.specs.Characters.{first, apostrophe, quotation_mark, is_binary_character, is_hex_character}
 use Rattle.asn1_tokens.specs.Items.{after_quotation}
-use Rattle.asn1_tokens.specs.Skipped.{Skips, IsUnclosedComment}
+use Rattle.asn1_tokens.specs.Skipped.{Skips, IsUnclosedComment, is_unskipped}
 use Rattle.asn1_tokens.specs.Tokens.{TakesTokens}
 use Rattle.asn1_tokens.specs.Words.{begins_with_symbol}
 
@@ -28,8 +28,12 @@ pub record HasNoDigits (text : List ℕ) : Type 0 where
   pub no_bits : first after ≡ 66 → list_all is_binary_character body ≡ false
   pub no_hex : first after ≡ 72 → list_all is_hex_character body ≡ false
 
+-- A character that is no white space, and with which neither a comment nor an item begins.
+abbrev pub IsUnknownCharacter : List ℕ → Type 0
+IsUnknownCharacter text = (0 < length text) × (is_unskipped text ≡ true) × (begins_item text ≡ false)
+
 abbrev pub IsRefused : Refusal → List ℕ → Type 0
-IsRefused UnknownCharacter text = begins_item text ≡ false
+IsRefused UnknownCharacter text = IsUnknownCharacter text
 IsRefused LeadingZero text = (first text ≡ 48) × (is_ascii_digit (slice_index text 1) ≡ true)
 IsRefused UnclosedComment text = IsUnclosedComment text
 IsRefused UnclosedString text = (first text ≡ quotation_mark) × (after_quotation false (drop 1 text) ≡ None)

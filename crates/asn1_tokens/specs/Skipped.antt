@@ -32,6 +32,10 @@ after_comment false depth (c ∷ rest) =
 abbrev pub begins_with_pair : ℕ → ℕ → List ℕ → Bool
 begins_with_pair a b text = first text == a && slice_index text 1 == b
 
+-- a text that begins with a NO-BREAK SPACE, which is white space too (X.680, 12.1.6), and has two octets in UTF-8
+abbrev pub begins_with_no_break_space : List ℕ → Bool
+begins_with_no_break_space text = begins_with_pair 194 160 text
+
 -- a text that begins with a comment of the second kind
 abbrev pub begins_with_comment : List ℕ → Bool
 begins_with_comment text = begins_with_pair slash asterisk text
@@ -44,6 +48,7 @@ begins_with_hyphens text = begins_with_pair hyphen hyphen text
 pub data Skips : List ℕ → List ℕ → Type 0 where
   nothing : (text : List ℕ) → Skips text text
   white_space : (text rest : List ℕ) → is_white_space (first text) ≡ true → Skips (drop 1 text) rest → Skips text rest
+  no_break_space : (text rest : List ℕ) → begins_with_no_break_space text ≡ true → Skips (drop 2 text) rest → Skips text rest
   line_comment : (text rest : List ℕ) → begins_with_hyphens text ≡ true → Skips (after_hyphens (drop 2 text)) rest → Skips text rest
   comment : (text after rest : List ℕ) → begins_with_comment text ≡ true → after_comment false 1 (drop 2 text) ≡ Some after →
       Skips after rest → Skips text rest
@@ -54,4 +59,5 @@ IsUnclosedComment text = (begins_with_comment text ≡ true) × (after_comment f
 
 -- Neither white space nor a comment begins here.
 abbrev pub is_unskipped : List ℕ → Bool
-is_unskipped text = not (is_white_space (first text) || (begins_with_hyphens text || begins_with_comment text))
+is_unskipped text =
+    not (is_white_space (first text) || (begins_with_no_break_space text || (begins_with_hyphens text || begins_with_comment text)))

@@ -22,7 +22,7 @@ pub(crate) fn is_newline(octet: u8) -> bool
     10 <= octet && octet <= 13
 }
 
-/// Whether the character is white space.
+/// Whether the octet is white space.
 #[inline]
 pub(crate) fn is_white_space(octet: u8) -> bool
     ensures { result ≡ spec.is_white_space octet }

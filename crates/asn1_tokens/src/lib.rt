@@ -14,12 +14,13 @@
 //!
 //! The contracts promise:
 //!
-//! - The tokens and what is between them are the text, octet by octet, and between them are white space and comments alone
-//!   (`text` of `tokens`). `specs/Skipped.antt` defines white space and comments.
-//! - Each token is an item of its kind in the words of X.680, and no name, number or string could be longer.
+//! - The tokens and what is between them are the text, octet by octet. Between them are white space and comments alone, and
+//!   no token begins where these do (`text` of `tokens`). `specs/Skipped.antt` defines white space and comments.
+//! - Each token is an item of its kind in the words of X.680, and could not be longer.
 //! - An error names the first octet at which no item begins, and the cause (`refused`), or memory ran out.
 //!
-//! Characters beyond ASCII are allowed in comments and in character strings. A text is limited by memory alone.
+//! A text is in UTF-8, and is limited by memory alone. Characters beyond ASCII are allowed in comments and in character
+//! strings. NO-BREAK SPACE is white space between items, but not inside a bstring or an hstring.
 #![tactic(auto)]
 
 mod characters;

@@ -40,7 +40,7 @@ fn word_kind(word: &[u8]) -> TokenKind
     requires letter { is_ascii_alphabetic (spec.first word.now) ≡ true }
     requires spelled { is_spelled_as_name word.now ≡ true }
     ensures item { IsItem result word.now }
-    ensures ends { (after : List ℕ) → EndsName after → EndsItem result after }
+    ensures ends { (text after : List ℕ) → EndsName after → EndsItem result text after }
 {
     if first(word).is_ascii_lowercase() {
         TokenKind::Identifier
@@ -55,7 +55,7 @@ fn word_kind(word: &[u8]) -> TokenKind
 pub(crate) fn take_word(text: &[u8]) -> (TokenKind, &[u8])
     requires letter { is_ascii_alphabetic (spec.first text.now) ≡ true }
     ensures item { Splits (IsItem result.0) text.now result.1.now }
-    ensures ends { EndsItem result.0 result.1.now }
+    ensures ends { EndsItem result.0 text.now result.1.now }
 {
     let after = after_name(text);
     let word = &text[..text.len() - after.len()];

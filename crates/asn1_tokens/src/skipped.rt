@@ -66,6 +66,14 @@ fn begins_with_pair(text: &[u8], a: u8, b: u8) -> bool
     }
 }
 
+// Whether the text begins with a NO-BREAK SPACE, in UTF-8.
+fn begins_with_no_break_space(text: &[u8]) -> bool
+    ensures value { result ≡ spec.begins_with_no_break_space text.now }
+    ensures within { result ≡ true → 2 ≤ length text.now }
+{
+    begins_with_pair(text, 0xC2, 0xA0)
+}
+
 // Skips one character of white space, or one comment, if the text begins with it.
 fn skip_one(text: &[u8]) -> Result<Option<&[u8]>, UnclosedComment>
     ensures skipped { MatchResult result
@@ -76,6 +84,8 @@ fn skip_one(text: &[u8]) -> Result<Option<&[u8]>, UnclosedComment>
 {
     if is_white_space(first(text)) {
         Ok(Some(&text[1..]))
+    } else if begins_with_no_break_space(text) {
+        Ok(Some(&text[2..]))
     } else if begins_with_pair(text, b'-', b'-') {
         Ok(Some(after_hyphens(&text[2..])))
     } else if begins_with_pair(text, b'/', b'*') {

@@ -65,7 +65,7 @@ fn digits_kind(body: &[u8], letter: u8) -> Option<TokenKind>
         × (letter ≡ 72 → list_all spec.is_hex_character body.now ≡ false))
         (λ kind. IsItem kind (apostrophe ∷ (body.now ++ apostrophe ∷ letter ∷ []))) }
     ensures letter { IfSome result (λ _. 0 < letter) }
-    ensures ends { IfSome result (λ kind. (after : List ℕ) → EndsItem kind after) }
+    ensures ends { IfSome result (λ kind. (text after : List ℕ) → EndsItem kind text after) }
 {
     if letter == b'B' && are_binary(body) {
         Some(TokenKind::BinaryString)
@@ -90,7 +90,7 @@ pub(crate) fn take_digits(text: &[u8]) -> Result<(TokenKind, &[u8]), Refusal>
     ensures string { MatchResult result
         (λ (kind, after). Splits (IsItem kind) text.now after.now)
         (λ refusal. IsRefused refusal text.now) }
-    ensures ends { IfOk result (λ (kind, after). EndsItem kind after.now) }
+    ensures ends { IfOk result (λ (kind, after). EndsItem kind text.now after.now) }
 {
     let inside = &text[1..];
     let end = apostrophe_index(inside);

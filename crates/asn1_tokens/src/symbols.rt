@@ -1,8 +1,8 @@
 //! Symbols.
-ghost use Rattle.std.specs.Prelude.{◌≡◌, false, map, find, nat_eq, MatchOption};
+ghost use Rattle.std.specs.Prelude.{◌≡◌, false, map, find, nat_eq, IfSome, MatchOption};
 ghost use Rattle.std.specs.List.{starts_with};
 ghost use Rattle.std.specs.Option.{option_map};
-ghost use Rattle.asn1_tokens.specs.Items.{IsSymbol, Splits};
+ghost use Rattle.asn1_tokens.specs.Items.{IsSymbol, LeavesLeast, Splits};
 ghost use Rattle.asn1_tokens.specs.Words as spec;
 
 /// The symbols, each before those with which it begins: assignments, ranges, ellipses and version brackets (X.680, 12.20 to
@@ -31,6 +31,7 @@ pub(crate) fn after_symbol(text: &[u8]) -> Option<&[u8]>
     ensures found { MatchOption result
         (spec.begins_with_symbol text.now ≡ false)
         (λ after. Splits IsSymbol text.now after.now) }
+    ensures longest { IfSome result (λ after. LeavesLeast IsSymbol text.now after.now) }
 {
     match find_symbol(&SYMBOLS, text) {
         Some(symbol) => Some(&text[symbol.len()..]),

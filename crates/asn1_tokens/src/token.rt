@@ -1,5 +1,5 @@
 //! Tokens.
-ghost use Rattle.std.specs.Prelude.{◌≡◌, ◌≤◌, ◌<◌, [], length, IfOk, IfErr, IfSome, MatchOption, MatchResult};
+ghost use Rattle.std.specs.Prelude.{◌≡◌, ◌≤◌, ◌<◌, true, [], length, IfOk, IfErr, IfSome, MatchOption, MatchResult};
 ghost use Rattle.asn1_tokens.specs.Characters as spec;
 ghost use Rattle.asn1_tokens.specs.Items.{EndsItem, IsItem, Splits};
 ghost use Rattle.asn1_tokens.specs.Refusals.{IsRefused, Refuses, RefusesAt};
@@ -29,10 +29,11 @@ pub struct Token<'a> {
 // The kind of the item with which the text begins, and the text after it.
 fn take_item(text: &[u8]) -> Result<(TokenKind, &[u8]), Refusal>
     requires some { 0 < length text.now }
+    requires unskipped { is_unskipped text.now ≡ true }
     ensures item { MatchResult result
         (λ (kind, after). Splits (IsItem kind) text.now after.now)
         (λ refusal. IsRefused refusal text.now) }
-    ensures ends { IfOk result (λ (kind, after). EndsItem kind after.now) }
+    ensures ends { IfOk result (λ (kind, after). EndsItem kind text.now after.now) }
 {
     match first(text) {
         b'A'..=b'Z' | b'a'..=b'z' => Ok(take_word(text)),
@@ -83,7 +84,7 @@ fn next_token(text: &[u8], size: usize) -> Result<Option<(Token<'_>, &[u8])>, (R
 
 /// The tokens of a text.
 pub fn tokens(alloc: Global, text: &[u8]) -> Result<Vec<Token<'_>>, TokenError>
-    // The tokens, with the white space and comments between them, are the text.
+    // The tokens, with all the white space and comments between them, are the text, and none could be longer.
     ensures text { IfOk result (λ tokens. AreTokens text.now tokens.items) }
     // Tokens come before the octet that is refused.
     ensures refused { IfErr result (Refuses text.now) }

@@ -23,4 +23,4 @@ returns-clause-item c =
     )
 
 pub returns-clause-ends : goal.returns-clause-ends
-returns-clause-ends c = c.word_kind.ensures.ends _ (name_ends c.args.text.now c.after_name-after.result.now c.after_name-after.ensures.rest)
+returns-clause-ends c = c.word_kind.ensures.ends _ _ (name_ends c.args.text.now c.after_name-after.result.now c.after_name-after.ensures.rest)
