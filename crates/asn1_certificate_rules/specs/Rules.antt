@@ -53,11 +53,20 @@ BreaksRule part header e GeneralizedTime position =
 BreaksRule part header e UtcTime position = IsPrimitive (universal 23) e × (is_utc_time e.contents ≡ false) × (position ≡ header)
 BreaksRule part header e _ position = ⊥
 
--- Bytes have to keep the rule so that a value is read: each is such a rule but those on the forms of times (11.7 and 11.8).
+-- Bytes have to keep the rule so that a value is read. A component with its DEFAULT value (11.5), zeros at the end of named bits
+-- (11.2.2) and other forms of times (11.7 and 11.8) are read.
 abbrev pub IsOfReading : Rule → Type 0
+IsOfReading TrailingZero = ⊥
+IsOfReading Default = ⊥
 IsOfReading GeneralizedTime = ⊥
 IsOfReading UtcTime = ⊥
 IsOfReading _ = ⊤
+
+-- The rule is not on the forms of times.
+abbrev pub IsOnNoTime : Rule → Type 0
+IsOnNoTime GeneralizedTime = ⊥
+IsOnNoTime UtcTime = ⊥
+IsOnNoTime _ = ⊤
 
 -- the rule is one of these
 abbrev pub IsOf : RuleSet → Rule → Type 0
@@ -73,6 +82,6 @@ abbrev pub BreaksDefaultAlone : RuleSet → Part → ℕ → Element → Type 0
 BreaksDefaultAlone rules part header e =
     (rule : Rule) (position : ℕ) → IsOf rules rule → BreaksRule part header e rule position → rule ≡ Default
 
--- The element breaks no rule by itself but those of reading.
-abbrev pub BreaksReadingAlone : Part → ℕ → Element → Type 0
-BreaksReadingAlone part header e = (rule : Rule) (position : ℕ) → BreaksRule part header e rule position → IsOfReading rule
+-- The element breaks no rule on the forms of times by itself.
+abbrev pub KeepsTimes : Part → ℕ → Element → Type 0
+KeepsTimes part header e = (rule : Rule) (position : ℕ) → BreaksRule part header e rule position → IsOnNoTime rule

@@ -50,6 +50,7 @@ pub enum Rule {
 pub enum RuleSet {
     /// All of them.
     All,
-    /// Those that bytes have to keep so that a value is read: all but those on the forms of times.
+    /// Those that bytes have to keep so that a value is read: all but those on components with their DEFAULT value, on zeros at the end
+    /// of named bits, and on the forms of times.
     OfReading,
 }

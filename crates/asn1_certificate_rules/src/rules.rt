@@ -1,6 +1,6 @@
 //! The rule that an element breaks.
 ghost use Rattle.std.specs.Prelude.{◌≡◌, ◌≢◌, ◌+◌, ◌^◌, ◌<◌, Decides, IfSome, MatchOption, ℕ, false, length, true};
-ghost use Rattle.asn1_certificate_rules.specs.Rules.{BreaksDefaultAlone, BreaksReadingAlone, BreaksRule, ElementKeepsRules, IsDefault, IsFalse, IsOf, IsOfReading};
+ghost use Rattle.asn1_certificate_rules.specs.Rules.{BreaksDefaultAlone, BreaksRule, ElementKeepsRules, IsDefault, IsFalse, IsOf, IsOfReading, KeepsTimes};
 ghost use Rattle.asn1_certificate_rules.specs.declared.rule.RuleSet.TheVariants.{All};
 ghost use Rattle.asn1_der_items.specs.Elements.{element_of};
 
@@ -28,7 +28,7 @@ pub(crate) fn broken_rule(
         (λ d. BreaksRule part header (element_of element.entry) d.rule d.position) }
     ensures asked { IfSome result (λ d. IsOf rules d.rule) }
 {
-    if is_default(part, element) {
+    if rules == RuleSet::All && is_default(part, element) {
         return Some(BrokenRule {
             rule: Rule::Default,
             position: 0,
@@ -103,7 +103,7 @@ fn broken_by_primitive(
     ensures asked { IfSome result (λ d. IsOf rules d.rule) }
 {
     if element.tag == Tag::BIT_STRING {
-        return broken_by_bits(part, header, element);
+        return broken_by_bits(rules, part, header, element);
     }
     if element.tag == Tag::OBJECT_IDENTIFIER {
         let index = padded_arc(element.contents)?;
@@ -120,14 +120,19 @@ fn broken_by_primitive(
 }
 
 /// The rule that a BIT STRING breaks.
-fn broken_by_bits(part: Part, header: usize, element: Element<'_>) -> Option<BrokenRule>
+fn broken_by_bits(
+    rules: RuleSet,
+    part: Part,
+    header: usize,
+    element: Element<'_>,
+) -> Option<BrokenRule>
     requires primitive { element.constructed ≡ false }
     requires bits { element.tag ≡ Tag.BIT_STRING }
     requires fits { header + length element.contents.now < 2 ^ 64 }
     ensures broken { MatchOption result
-        (BreaksDefaultAlone All part header (element_of element.entry))
+        (BreaksDefaultAlone rules part header (element_of element.entry))
         (λ d. BreaksRule part header (element_of element.entry) d.rule d.position) }
-    ensures of_reading { IfSome result (λ d. IsOfReading d.rule) }
+    ensures asked { IfSome result (λ d. IsOf rules d.rule) }
 {
     let position = header + element.contents.len().saturating_sub(1);
     if has_unused_bit(element.contents) {
@@ -136,7 +141,7 @@ fn broken_by_bits(part: Part, header: usize, element: Element<'_>) -> Option<Bro
             position,
         });
     }
-    if part == Part::KeyUsage && ends_with_zero(element.contents) {
+    if rules == RuleSet::All && part == Part::KeyUsage && ends_with_zero(element.contents) {
         return Some(BrokenRule {
             rule: Rule::TrailingZero,
             position,
@@ -174,7 +179,7 @@ fn broken_by_contents(rules: RuleSet, element: Element<'_>) -> Option<Rule>
 fn broken_by_time(element: Element<'_>) -> Option<Rule>
     requires { element.constructed ≡ false }
     ensures { (part : Part) (header : ℕ) →
-        MatchOption result (BreaksReadingAlone part header (element_of element.entry))
+        MatchOption result (KeepsTimes part header (element_of element.entry))
         (λ rule. BreaksRule part header (element_of element.entry) rule header) }
 {
     if element.tag == Tag::UTC_TIME && !is_utc_time(element.contents) {
