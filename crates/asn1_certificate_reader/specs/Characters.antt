@@ -1,9 +1,10 @@
 -- The characters of strings.
 use Rattle.std.proofs.Math.Utf8.{scalar}
 use Rattle.std.specs.Char.Utf16.{utf16_lossy_chars}
-use Rattle.std.specs.Prelude.{ℕ, List, if◌then◌else◌, map}
+use Rattle.std.specs.Prelude.{ℕ, List, if◌then◌else◌, map, unwrap_or}
 use Rattle.std.specs.Str.{chars}
 use Rattle.std.specs.String.{string_bytes}
+use Rattle.asn1_certificate_reader.specs.Units.{universal_characters}
 use Rattle.asn1_x509.specs.declared.directory_string.DirectoryString.{DirectoryString}
 use Rattle.asn1_x509.specs.declared.directory_string.DirectoryString.TheVariants.{Teletex, Printable, Universal, Utf8, Bmp}
 
@@ -12,11 +13,15 @@ use Rattle.asn1_x509.specs.declared.directory_string.DirectoryString.TheVariants
 abbrev pub teletex_character : ℕ → ℕ
 teletex_character unit = if scalar unit then unit else 0xFFFD
 
+-- the characters of a UniversalString, four octets each (X.690, 8.23.7), or else those of its octets as UTF-8
+abbrev pub universal_text_characters : List ℕ → List ℕ
+universal_text_characters octets = unwrap_or (universal_characters octets) (chars octets)
+
 -- The characters of a DirectoryString (RFC 5280, 4.1.2.4). The units of a BMPString are read as UTF-16, with U+FFFD for each half of a
 -- pair that is alone.
 abbrev pub directory_characters : DirectoryString → List ℕ
 directory_characters (Teletex units) = map teletex_character units
 directory_characters (Printable text) = chars text
-directory_characters (Universal text) = chars (string_bytes text.value)
+directory_characters (Universal text) = universal_text_characters (string_bytes text.value)
 directory_characters (Utf8 text) = chars (string_bytes text)
 directory_characters (Bmp units) = utf16_lossy_chars units

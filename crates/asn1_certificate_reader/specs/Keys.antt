@@ -1,6 +1,6 @@
 -- The report of public keys.
 use Rattle.std.specs.Cmp.Lexicographic.{pointwise}
-use Rattle.std.specs.Prelude.{◌≡◌, ◌≢◌, ◌⊎◌, ◌<◌, ℕ, ◌%◌, All, Bool, Contains, List, [], ◌∷◌, MatchOption, None, Option, Some, Vec, length, nat_eq, unsigned_abs}
+use Rattle.std.specs.Prelude.{◌≡◌, ◌≢◌, ◌⊎◌, ◌<◌, ◌<ℤ◌, ℕ, pos, ◌%◌, All, Bool, Contains, List, [], ◌∷◌, MatchOption, None, Option, Some, Vec, length, nat_eq, unsigned_abs}
 use Rattle.std.specs.declared.alloc.Global.{Global}
 use Rattle.asn1_certificate_reader.specs.Inside.{AreReadAs}
 use Rattle.asn1_certificate_reader.specs.Objects.{IsObjectOf}
@@ -30,10 +30,12 @@ abbrev pub IsKeptIn : ℕ → KeySize → Type 0
 IsKeptIn count (Kept shown) = shown ≡ count
 IsKeptIn count _ = ⊥
 
--- the number of bits of the modulus of this key, or of its magnitude if it is negative, and the exponent
-abbrev pub IsModulusOf : RsaPublicKey → KeySize → Type 0
-IsModulusOf key (Modulus bits exponent) = IsBitLength (unsigned_abs key.modulus) bits × (exponent ≡ key.public_exponent)
-IsModulusOf key _ = ⊥
+-- the number of bits of the modulus of this key, and the exponent; or this number of bits of the key, if the modulus is negative
+abbrev pub IsModulusOf : ℕ → RsaPublicKey → KeySize → Type 0
+IsModulusOf count key (Modulus bits exponent) =
+    ¬ (key.modulus <ℤ pos 0) × IsBitLength (unsigned_abs key.modulus) bits × (exponent ≡ key.public_exponent)
+IsModulusOf count key (Kept shown) = (key.modulus <ℤ pos 0) × (shown ≡ count)
+IsModulusOf count key _ = ⊥
 
 -- the name of the curve of these arcs and the size of a key on it, or the object if the curve has no name here
 abbrev pub IsSizeOnCurve : List ℕ → KeySize → Type 0
@@ -54,7 +56,7 @@ IsSizeByAlgorithm arcs count _ = ⊥
 
 -- bits that were read as this key of RSA are shown by it, and other bits by their number
 abbrev pub IsSizeOfRead : List Bool → Option RsaPublicKey → KeySize → Type 0
-IsSizeOfRead bits (Some key) size = IsModulusOf key size
+IsSizeOfRead bits (Some key) size = IsModulusOf (length bits) key size
 IsSizeOfRead bits None size = IsKeptIn (length bits) size
 
 -- parameters that were read as this curve are shown by it, and other keys by their number of bits

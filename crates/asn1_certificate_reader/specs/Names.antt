@@ -65,10 +65,11 @@ module _ (F : Format (Vec ℕ Global)) where
   abbrev pub IsValueOf : List ℕ → AttributeValue → Type 0
   IsValueOf octets = IsShownBy universal_octets same_octets (λ string. universal_characters string.value) (IsDirectoryOrElse octets) octets
 
-  -- an attribute of this kind, with its value (RFC 4514, 2.3)
+  -- An attribute of this kind, with its value (RFC 4514, 2.3). A kind without a name here is written by its arcs, and its value then by
+  -- its octets (2.4).
   pub record IsAttributeOf (attribute : AttributeTypeAndValue) (shown : Attribute) : Type 0 where
     pub kind : IsObjectOf attribute.attribute shown.kind
-    pub value : IsValueOf attribute.value shown.value
+    pub value : MatchOption shown.kind.name (IsOctetsOf attribute.value shown.value) (λ name. IsValueOf attribute.value shown.value)
 
   -- a part of a name, with its attributes in their order (2.2)
   abbrev pub IsPartOf : List AttributeTypeAndValue → NamePart → Type 0

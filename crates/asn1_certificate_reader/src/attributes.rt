@@ -1,7 +1,7 @@
 //! Names and their attributes.
 ghost use Rattle.std.specs.List.{AllZip};
-ghost use Rattle.std.specs.Prelude.{IfOk, reverse};
-ghost use Rattle.asn1_certificate_reader.specs.Names.{IsAttributeOf, IsNameOf, IsPartOf, IsValueOf};
+ghost use Rattle.std.specs.Prelude.{IfOk, MatchOption, reverse};
+ghost use Rattle.asn1_certificate_reader.specs.Names.{IsAttributeOf, IsNameOf, IsOctetsOf, IsPartOf, IsValueOf};
 
 use crate::name_strings::{UniversalOctets, characters_of};
 use crate::objects::object_of;
@@ -90,10 +90,25 @@ fn attribute_of<R: Rules<Output = Vec<u8>>>(
 ) -> Result<Attribute, AllocError>
     ensures { IfOk result (IsAttributeOf R.format attribute.now) }
 {
-    Ok(Attribute {
-        kind: object_of(alloc, &attribute.attribute)?,
-        value: value_of(rules, alloc, attribute.value.as_bytes())?,
-    })
+    let kind = object_of(alloc, &attribute.attribute)?;
+    let value = value_under(rules, alloc, kind.name, attribute.value.as_bytes())?;
+    Ok(Attribute { kind, value })
+}
+
+/// A value of the kind with this name, or its octets if the kind has none (RFC 4514, 2.4).
+fn value_under<R: Rules<Output = Vec<u8>>>(
+    rules: &R,
+    alloc: Global,
+    name: Option<&'static str>,
+    octets: &[u8],
+) -> Result<AttributeValue, AllocError>
+    ensures { IfOk result (λ value. MatchOption name.entry (IsOctetsOf octets.now value)
+        (λ _. IsValueOf R.format octets.now value)) }
+{
+    match name {
+        Some(_) => value_of(rules, alloc, octets),
+        None => Ok(AttributeValue::Octets(Vec::from_slice(alloc, octets)?)),
+    }
 }
 
 /// A value: its characters if it is a string of one of four types, and else its octets.

@@ -2,8 +2,9 @@
 ghost use Rattle.std.specs.Char.Utf16.{utf16_lossy_chars};
 ghost use Rattle.std.specs.Prelude.{◌≡◌, IfOk, map};
 ghost use Rattle.std.specs.Str.{chars};
-ghost use Rattle.asn1_certificate_reader.specs.Characters.{directory_characters, teletex_character};
+ghost use Rattle.asn1_certificate_reader.specs.Characters.{directory_characters, teletex_character, universal_text_characters};
 
+use crate::units::universal_characters;
 use asn1_values::Ia5String;
 use asn1_x509::DirectoryString;
 use std::alloc::{AllocError, Global};
@@ -18,7 +19,9 @@ pub(crate) fn directory_characters(
     match directory {
         DirectoryString::Teletex(teletex) => teletex_characters(alloc, teletex.as_slice()),
         DirectoryString::Printable(printable) => text_characters(alloc, printable.as_str()),
-        DirectoryString::Universal(universal) => text_characters(alloc, universal.value.as_str()),
+        DirectoryString::Universal(universal) => {
+            universal_text_characters(alloc, universal.value.as_str())
+        }
         DirectoryString::Utf8(utf8) => text_characters(alloc, utf8.as_str()),
         DirectoryString::Bmp(bmp) => utf16_characters(alloc, bmp.as_slice()),
     }
@@ -37,6 +40,17 @@ pub(crate) fn text_characters(alloc: Global, text: &str) -> Result<Vec<char>, Al
     ensures { IfOk result (λ characters. characters.items ≡ chars text.now) }
 {
     text.chars().collect(alloc)
+}
+
+/// The characters of a UniversalString, four octets each, or else those of its octets as UTF-8.
+fn universal_text_characters(alloc: Global, text: &str) -> Result<Vec<char>, AllocError>
+    ensures { IfOk result (λ characters.
+        characters.items ≡ universal_text_characters text.now) }
+{
+    match universal_characters(alloc, text.as_bytes())? {
+        Some(characters) => Ok(characters),
+        None => text_characters(alloc, text),
+    }
 }
 
 /// The units of a TeletexString as characters of Latin-1, as most who write one mean them.

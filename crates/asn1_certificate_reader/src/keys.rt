@@ -1,13 +1,15 @@
 //! Public keys and signatures.
 ghost use Rattle.std.specs.Prelude.{◌≡◌, ◌≢◌, ◌<◌, ◌%◌, All, IfOk, IfSome, MatchOption, length};
-ghost use Rattle.asn1_certificate_reader.specs.Algorithms.{IsSignatureOf};
+ghost use Rattle.asn1_certificate_reader.specs.Algorithms.{IsDifferenceOf, IsSignatureOf};
 ghost use Rattle.asn1_certificate_reader.specs.Keys.{AreBitsReadAs, IsCurveIn, IsKeyOf, IsModulusOf, IsSizeByAlgorithm, IsSizeByParameters, IsSizeOf, IsSizeOfRsa, IsSizeOnCurve};
 ghost use Rattle.asn1_items.specs.Bits.{bits_of_octets};
 
 use crate::inside::read_inside;
 use crate::objects::object_of;
 use crate::scalars::copy_of;
-use asn1_certificate_text::{KeySize, ShownKey, Signature, bit_length, curve_of};
+use asn1_certificate_text::{
+    AlgorithmDifference, KeySize, ShownKey, Signature, bit_length, curve_of,
+};
 use asn1_items::Content;
 use asn1_rules::Rules;
 use asn1_types::{Any, AnyStr};
@@ -74,7 +76,7 @@ fn size_of_rsa<R: Rules<Output = Vec<u8>>>(
     ensures { IfOk result (IsSizeOfRsa R.format bits.now) }
 {
     match read_key(rules, alloc, bits)? {
-        Some(key) => modulus_of(alloc, &key),
+        Some(key) => modulus_of(alloc, &key, bits.len()),
         None => Ok(KeySize::Kept(bits.len())),
     }
 }
@@ -94,11 +96,14 @@ fn read_key<R: Rules<Output = Vec<u8>>>(
     }
 }
 
-/// The number of bits of the modulus of a key, and its exponent.
-fn modulus_of(alloc: Global, key: &RsaPublicKey) -> Result<KeySize, AllocError>
-    ensures { IfOk result (IsModulusOf key.now) }
+/// The number of bits of the modulus of a key, and its exponent; or this number of bits of the key, if the modulus is negative.
+fn modulus_of(alloc: Global, key: &RsaPublicKey, count: usize) -> Result<KeySize, AllocError>
+    ensures { IfOk result (IsModulusOf count key.now) }
 {
-    let (_, modulus) = key.modulus.sign_magnitude(alloc)?;
+    let (is_negative, modulus) = key.modulus.sign_magnitude(alloc)?;
+    if is_negative {
+        return Ok(KeySize::Kept(count));
+    }
     let exponent = copy_of(alloc, &key.public_exponent)?;
     Ok(KeySize::Modulus(bit_length(modulus.as_slice()), exponent))
 }
@@ -169,14 +174,23 @@ pub(crate) fn signature_of(
     ensures { IfOk result (IsSignatureOf beside.now inside.now) }
 {
     let algorithm = object_of(alloc, &beside.algorithm)?;
+    let inside = difference_of(alloc, beside, inside)?;
+    Ok(Signature { algorithm, inside })
+}
+
+/// The difference between the algorithm beside the signature and that inside the signed part, if there is one.
+fn difference_of(
+    alloc: Global,
+    beside: &AlgorithmIdentifier,
+    inside: &AlgorithmIdentifier,
+) -> Result<Option<AlgorithmDifference>, AllocError>
+    ensures { IfOk result (IsDifferenceOf beside.now inside.now) }
+{
     if beside == inside {
-        return Ok(Signature {
-            algorithm,
-            inside: None,
-        });
+        return Ok(None);
     }
-    Ok(Signature {
-        algorithm,
-        inside: Some(object_of(alloc, &inside.algorithm)?),
-    })
+    if beside.algorithm.as_slice() == inside.algorithm.as_slice() {
+        return Ok(Some(AlgorithmDifference::Parameters));
+    }
+    Ok(Some(AlgorithmDifference::Algorithm(object_of(alloc, &inside.algorithm)?)))
 }

@@ -17,14 +17,15 @@
 //!   extension for each of its own, in their order, with its kind and whether it is critical (`report_of`: `IsReportOf` of
 //!   `specs/Reports.antt`). An object has the name of a row of the table with its arcs, or no name if no row has them
 //!   (`IsObjectOf` of `specs/Objects.antt`).
-//! - A key has the size of its modulus and its exponent, or its curve, or the one size of its algorithm, or the number of its bits
-//!   (`IsKeyOf` of `specs/Keys.antt`).
+//! - A key has the size of its modulus, if that is not negative, and its exponent, or its curve, or the one size of its algorithm,
+//!   or the number of its bits (`IsKeyOf` of `specs/Keys.antt`).
 //! - The value of an extension is read by the type that RFC 5280 has for its kind, for six types (`IsValueOfKind` of
 //!   `specs/ExtensionValues.antt`, and for further names `specs/GeneralNames.antt`). Values of other kinds, and values that are
 //!   not of their type, are shown as octets.
 //! - A name is shown by its parts, from the last to the first, and each part by its attributes, each with its kind and its value
 //!   (`IsNameOf` of `specs/Names.antt`). A value is read as a UniversalString of four octets for each character, a
-//!   DirectoryString, an IA5String or a NumericString, in this order (`IsValueOf`), and otherwise shown as octets.
+//!   DirectoryString, an IA5String or a NumericString, in this order (`IsValueOf`), and otherwise shown as octets; and so is the
+//!   value of a kind without a name.
 //! - Octets of a value of a type are read as a value that is equal to it (`AreReadAs` of `specs/Inside.antt`).
 //! - `first_name_fault` answers none if and only if a name can have each of the values, and otherwise the first value that no name
 //!   can have (`AnswersName` of `specs/NameFaults.antt`).

@@ -2,11 +2,12 @@
 use Rattle.std.specs.Prelude.{ℕ, ℤ, List, [], ◌++◌, None, Option, Some, codes}
 use Rattle.std.specs.Fmt.{decimal}
 use Rattle.asn1_values.specs.Text.{integer_text}
+use Rattle.asn1_certificate_text.specs.declared.key.AlgorithmDifference.{AlgorithmDifference}
+use Rattle.asn1_certificate_text.specs.declared.key.AlgorithmDifference.TheVariants.{Algorithm, Parameters}
 use Rattle.asn1_certificate_text.specs.declared.key.KeySize.{KeySize}
 use Rattle.asn1_certificate_text.specs.declared.key.KeySize.TheVariants.{Modulus, Curve, Fixed, UnnamedCurve, Kept}
 use Rattle.asn1_certificate_text.specs.declared.key.ShownKey.{ShownKey}
 use Rattle.asn1_certificate_text.specs.declared.key.Signature.{Signature}
-use Rattle.asn1_certificate_text.specs.declared.object.Object.{Object}
 use Rattle.asn1_certificate_text.specs.Objects.{object_text}
 
 -- a key of RSA
@@ -25,9 +26,14 @@ size_text (Kept bits) = codes "kept in " ++ (decimal bits ++ codes " bits")
 abbrev pub key_text : ShownKey → List ℕ
 key_text k = object_text k.algorithm ++ (codes ", " ++ size_text k.size)
 
--- the algorithm inside the signed part, if it is another
-abbrev pub inside_text : Option Object → List ℕ
-inside_text (Some inside) = codes ", but inside " ++ object_text inside
+-- how an algorithm differs
+abbrev pub difference_text : AlgorithmDifference → List ℕ
+difference_text Parameters = codes "with other parameters"
+difference_text (Algorithm other) = object_text other
+
+-- how the algorithm inside the signed part differs, if it does
+abbrev pub inside_text : Option AlgorithmDifference → List ℕ
+inside_text (Some difference) = codes ", but inside " ++ difference_text difference
 inside_text None = []
 
 -- the algorithm of a signature

@@ -1,7 +1,7 @@
 //! Public keys, and the algorithms of signatures.
 ghost use Rattle.std.specs.Prelude.{◌≡◌, ◌++◌, OnOk};
 ghost use Rattle.std.specs.String.{string_bytes};
-ghost use Rattle.asn1_certificate_text.specs.Keys.{inside_text, key_text, modulus_text, signature_text, size_text};
+ghost use Rattle.asn1_certificate_text.specs.Keys.{difference_text, inside_text, key_text, modulus_text, signature_text, size_text};
 
 use crate::append_text::{AppendText, push_after};
 use crate::object::Object;
@@ -72,8 +72,28 @@ fn push_modulus(text: &mut String, bits: u128, exponent: &Integer) -> Result<(),
 pub struct Signature {
     /// The algorithm beside the signature.
     pub algorithm: Object,
-    /// The algorithm in the signed part, if it is another.
-    pub inside: Option<Object>,
+    /// How the algorithm in the signed part differs from it, if it does.
+    pub inside: Option<AlgorithmDifference>,
+}
+
+/// How one algorithm differs from another.
+#[derive(Drop)]
+pub enum AlgorithmDifference {
+    /// It has other parameters.
+    Parameters,
+    /// It is this one.
+    Algorithm(Object),
+}
+
+impl AppendText for AlgorithmDifference {
+    ghost text_of = { difference_text };
+
+    fn append_to(&self, text: &mut String) -> Result<(), AllocError> {
+        match self {
+            AlgorithmDifference::Parameters => text.push_str("with other parameters"),
+            AlgorithmDifference::Algorithm(other) => other.append_to(text),
+        }
+    }
 }
 
 impl AppendText for Signature {
@@ -85,13 +105,13 @@ impl AppendText for Signature {
     }
 }
 
-/// Appends the algorithm in the signed part, if it is another.
-fn push_inside(text: &mut String, inside: &Option<Object>) -> Result<(), AllocError>
+/// Appends how the algorithm in the signed part differs, if it does.
+fn push_inside(text: &mut String, inside: &Option<AlgorithmDifference>) -> Result<(), AllocError>
     ensures { OnOk result
         (string_bytes text.new ≡ string_bytes text.old ++ inside_text inside.now) }
 {
     match inside {
-        Some(inside) => push_after(text, ", but inside ", inside),
+        Some(difference) => push_after(text, ", but inside ", difference),
         None => Ok(()),
     }
 }

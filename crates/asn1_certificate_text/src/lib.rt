@@ -6,7 +6,7 @@
 //! | [`AppendText`] | anything with a text |
 //! | [`Version`], [`OctetNumber`], [`ShownTime`] | the version, the serial number and the validity |
 //! | [`ShownName`], [`NamePart`], [`Attribute`], [`AttributeValue`] | the subject and the issuer |
-//! | [`ShownKey`], [`KeySize`], [`Signature`] | the public key, and the algorithm of the signature |
+//! | [`ShownKey`], [`KeySize`], [`Signature`], [`AlgorithmDifference`] | the public key, and the algorithm of the signature |
 //! | [`ShownExtension`], [`ExtensionValue`], [`ShownGeneralName`], [`Authority`], [`AuthorityKey`] | the extensions |
 //! | [`Object`] | an object identifier with its name |
 //! | [`object_named`], [`NamedObject`], [`curve_of`], [`Curve`] | the objects and curves with names |
@@ -63,7 +63,7 @@ pub use bits::{bit_length, push_usages};
 pub use escapes::{push_escaped, push_visible};
 pub use extension::{Authority, AuthorityKey, ExtensionValue, ShownExtension};
 pub use general_name::ShownGeneralName;
-pub use key::{KeySize, ShownKey, Signature};
+pub use key::{AlgorithmDifference, KeySize, ShownKey, Signature};
 pub use moment::Moment;
 pub use name::{Attribute, AttributeValue, NamePart, ShownName};
 pub use number::{OctetNumber, Version};
