@@ -1,0 +1,14 @@
+pub mod Assertions
+pub mod Attributes
+pub mod Binds
+pub mod Changes
+pub mod Controls
+pub mod Escapes
+pub mod Extended
+pub mod Filters
+pub mod Lengths
+pub mod Messages
+pub mod Operations
+pub mod Results
+pub mod Searches
+pub mod Strings
