@@ -1,0 +1,20 @@
+-- The statuses of failures.
+use Rattle.std.specs.Prelude.{ℕ, ⊤}
+use Rattle.asn1_ldap_show.specs.declared.failure.Failure.{Failure}
+use Rattle.asn1_ldap_show.specs.declared.failure.Failure.TheVariants.{Damaged, CutOff, Reading, Writing, Memory}
+
+-- 1 if a message is damaged or cut off, and else 2
+abbrev pub status_of : Failure → ℕ
+status_of (Damaged at error) = 1
+status_of (CutOff at size) = 1
+status_of Reading = 2
+status_of Writing = 2
+status_of Memory = 2
+
+-- a failure that comes from outside the stream
+abbrev pub IsOutside : Failure → Type 0
+IsOutside (Damaged at error) = ⊥
+IsOutside (CutOff at size) = ⊥
+IsOutside Reading = ⊤
+IsOutside Writing = ⊤
+IsOutside Memory = ⊤

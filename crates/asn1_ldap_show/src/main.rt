@@ -1,0 +1,42 @@
+//! Shows LDAP messages (RFC 4511): reads the messages that a client and a server sent one another from standard input, in whatever
+//! pieces they come, and writes each to standard output as soon as it is whole, as lines for a person (`message_text` of
+//! `asn1_ldap_text`).
+//!
+//! A message that is damaged, or cut off by the end of the input, ends the program: a line on standard error has the byte of the
+//! stream at which it begins, from 0, and what came before it is shown. The messages are read as BER, in any spelling.
+//!
+//! The program takes no arguments. It ends with 0 if the whole input was shown, with 1 after such a message, and with 2 if memory
+//! ran out, or reading or writing failed. The stored run is two conversations of OpenLDAP's client and server (examples/ldap) and the
+//! beginning of a message, so its status is 1.
+#![tactic(auto)]
+
+mod failure;
+mod input;
+mod stream;
+
+use asn1_ber::BerReader;
+use std::io;
+use std::process::ExitCode;
+
+/// The reader of messages.
+type MessageReader = BerReader;
+
+/// How many scopes of a message may nest, so how deep a filter may be.
+const DEPTH: usize = 64;
+
+fn main(rt: HostRuntime) -> ExitCode {
+    let messages_reader = MessageReader::new(rt.alloc(), DEPTH);
+    let shown = input::show(
+        rt.alloc(),
+        messages_reader,
+        &mut rt.reader(),
+        &mut io::writer(&rt),
+    );
+    match shown {
+        Ok(()) => ExitCode::SUCCESS,
+        Err(failure) => {
+            let _ = eprintln!(&rt; "{failure}");
+            ExitCode::from(failure.status())
+        }
+    }
+}
