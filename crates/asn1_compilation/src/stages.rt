@@ -88,6 +88,7 @@ fn compile_sources(
     let Resolution {
         schema,
         mut problems,
+        ..
     } = resolution;
     problems.append(&mut check_tags(alloc, &schema)?)?;
     let mut printed = print_schema(alloc, job.crate_name, job.externs, sources, &schema)?;

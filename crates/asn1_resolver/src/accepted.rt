@@ -1,9 +1,10 @@
 //! Schemas that are accepted.
-ghost use Rattle.std.specs.Prelude.{◌≡◌, IfOk, IsTrue, OnOk};
+ghost use Rattle.std.specs.Prelude.{◌≡◌, IfOk, IsTrue, OnOk, false};
 ghost use Rattle.asn1_resolver.specs.Accepted.{HasDistinctNames, defined_names, name_of_type, name_of_value};
+ghost use Rattle.asn1_resolver.specs.References.{AreResolved};
 ghost use Rattle.asn1_resolver.specs.Accepted as spec;
 
-use asn1_names::{DefinedName, find_doubled};
+use asn1_names::{DefinedName, Names, Place, find_doubled, find_undefined};
 use asn1_resolved::{Problem, Schema, Severity, TypeDefinition, ValueDefinition};
 use std::alloc::{AllocError, Global};
 
@@ -24,34 +25,55 @@ pub(crate) fn accepts(problems: &[Problem]) -> bool
     problems.iter().all(|problem| is_warning(problem.severity))
 }
 
-/// Adds an error if a module has a name twice, unless there is an error already.
+/// Adds an error if a module has a name twice, or a reference is to no definition, unless there is an error already.
 ///
-/// The names were compared before. This is the comparison on which the promise of `resolve` rests.
-pub(crate) fn require_distinct_names(
+/// The names were compared before. This is the comparison on which the promises of `resolve` rest.
+pub(crate) fn require_names(
     alloc: Global,
     problems: &mut Vec<Problem>,
     schema: &Schema<'_>,
+    names: &Names<'_>,
 ) -> Result<(), AllocError>
-    ensures { OnOk result (IsTrue (spec.accepts problems.new.items) → HasDistinctNames schema.now) }
+    ensures distinct { OnOk result (
+        IsTrue (spec.accepts problems.new.items) → HasDistinctNames schema.now) }
+    ensures resolved { OnOk result (
+        IsTrue (spec.accepts problems.new.items) → AreResolved names.now) }
 {
     if !accepts(problems.as_slice()) {
         return Ok(());
     }
-    let names = list_names(alloc, schema)?;
-    let doubled = find_doubled(alloc, names.as_slice())?;
-    match doubled.as_slice() {
-        [] => Ok(()),
-        [first, ..] => {
-            let mut text = Vec::new(alloc);
-            text.extend_from_slice(b"the name is defined twice")?;
-            problems.push(Problem {
-                place: first.again.place,
-                severity: Severity::Error,
-                text,
-            })?;
-            Ok(())
-        }
+    let defined = list_names(alloc, schema)?;
+    let doubled = find_doubled(alloc, defined.as_slice())?;
+    if let [first, ..] = doubled.as_slice() {
+        return refuse(
+            alloc,
+            problems,
+            first.again.place,
+            b"the name is defined twice",
+        );
     }
+    let undefined = find_undefined(alloc, &names.defined, &names.imported, &names.used)?;
+    if let [first, ..] = undefined.as_slice() {
+        return refuse(alloc, problems, first.place, b"the name is not defined");
+    }
+    Ok(())
+}
+
+// Adds an error.
+fn refuse(
+    alloc: Global,
+    problems: &mut Vec<Problem>,
+    place: Place,
+    text: &[u8],
+) -> Result<(), AllocError>
+    ensures { OnOk result (spec.accepts problems.new.items ≡ false) }
+{
+    problems.push(Problem {
+        place,
+        severity: Severity::Error,
+        text: Vec::from_slice(alloc, text)?,
+    })?;
+    Ok(())
 }
 
 // The names of the definitions, those of types first.

@@ -95,10 +95,21 @@ pub(crate) struct ComponentList<'a> {
 impl<'a> ComponentList<'a> {
     /// Adds a component.
     pub(crate) fn add(&mut self, scope: Scope<'a>, component: &'a Component) -> Result<(), Fault> {
-        let tag = if self.is_automatic {
-            u32::try_from(self.listed.len()).ok()
-        } else {
-            None
+        self.add_included(scope, component, None)
+    }
+
+    /// Adds a component of a type behind COMPONENTS OF. If tags are put on that type, its components begin at an index, and keep
+    /// their tags, unless tags are put on this list.
+    pub(crate) fn add_included(
+        &mut self,
+        scope: Scope<'a>,
+        component: &'a Component,
+        first: Option<usize>,
+    ) -> Result<(), Fault> {
+        let first = if self.is_automatic { Some(0) } else { first };
+        let tag = match first {
+            Some(first) => u32::try_from(self.listed.len().saturating_sub(first)).ok(),
+            None => None,
         };
         self.listed.push(Listed {
             scope,
@@ -294,8 +305,8 @@ impl<'a> Resolver<'_, 'a> {
         self.require_names(named.as_slice())
     }
 
-    // Whether tags are put on: no component of the root has one (X.680, 25.7 and 29.3).
-    fn is_automatic(
+    /// Whether tags are put on: no component that is written in the root has one (X.680, 25.7 and 29.3).
+    pub(crate) fn is_automatic(
         &mut self,
         scope: Scope<'a>,
         items: &'a [ComponentItem],

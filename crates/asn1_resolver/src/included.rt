@@ -8,8 +8,19 @@ use asn1_notation::{ComponentItem, Type, TypeKind};
 // How many COMPONENTS OF may lead to one another.
 const MAX_INCLUSIONS: usize = 16;
 
+// Where COMPONENTS OF is written.
+#[derive(Clone, Copy)]
+struct Inclusion<'a> {
+    // The module.
+    scope: Scope<'a>,
+    // The offset.
+    start: usize,
+    // What the components are of.
+    construct: Construct,
+}
+
 impl<'a> Resolver<'_, 'a> {
-    /// Adds the components of a type: those of its root (X.680, 25.5 and 27.2).
+    /// Adds the components of a type: those of its root (X.680, 25.5 and 27.2), with the tags that were put on them (25.8).
     pub(crate) fn include(
         &mut self,
         list: &mut ComponentList<'a>,
@@ -19,38 +30,46 @@ impl<'a> Resolver<'_, 'a> {
         construct: Construct,
     ) -> Result<(), Fault> {
         let included = Governed { scope, definition };
-        self.include_from(list, included, scope, start, construct, MAX_INCLUSIONS)
+        let inclusion = Inclusion {
+            scope,
+            start,
+            construct,
+        };
+        self.include_from(list, included, inclusion, None, MAX_INCLUSIONS)
     }
 
-    // Adds the components of a type that is so many inclusions above the last.
+    // Adds the components of a type that is so many inclusions above the last. It may be part of one on which tags are put, whose
+    // components begin at an index of the list.
     fn include_from(
         &mut self,
         list: &mut ComponentList<'a>,
         included: Governed<'a>,
-        scope: Scope<'a>,
-        start: usize,
-        construct: Construct,
+        inclusion: Inclusion<'a>,
+        outer: Option<usize>,
         depth: usize,
     ) -> Result<(), Fault> {
         let Some(depth) = depth.checked_sub(1) else {
             return Err(self.refuse(
-                scope.place_at(start),
+                inclusion.scope.place_at(inclusion.start),
                 &[b"the type of COMPONENTS OF includes itself, or is nested too deep"],
             ));
         };
         let base = self.base(included)?;
-        let Some(items) = items_of(base, construct) else {
-            return Err(self.refuse_included(scope, start, construct));
+        let Some(items) = items_of(base, inclusion.construct) else {
+            return Err(self.refuse_included(inclusion));
         };
+        let first = self.first_tagged(list, base.scope, items, outer)?;
         for item in items {
             match item {
-                ComponentItem::Component(component) => list.add(base.scope, component)?,
+                ComponentItem::Component(component) => {
+                    list.add_included(base.scope, component, first)?;
+                }
                 ComponentItem::ComponentsOf(_, inner) => {
                     let inner = Governed {
                         scope: base.scope,
                         definition: inner,
                     };
-                    self.include_from(list, inner, scope, start, construct, depth)?;
+                    self.include_from(list, inner, inclusion, first, depth)?;
                 }
                 ComponentItem::Marker(_) => return Ok(()),
                 ComponentItem::Group(_, _, _) => {}
@@ -59,13 +78,34 @@ impl<'a> Resolver<'_, 'a> {
         Ok(())
     }
 
+    // The index at which the components begin on which tags are put: those of an outer type, or else of this one.
+    fn first_tagged(
+        &mut self,
+        list: &ComponentList<'a>,
+        scope: Scope<'a>,
+        items: &'a [ComponentItem],
+        outer: Option<usize>,
+    ) -> Result<Option<usize>, Fault> {
+        match outer {
+            Some(first) => Ok(Some(first)),
+            None => {
+                let is_automatic = self.is_automatic(scope, items)?;
+                Ok(if is_automatic {
+                    Some(list.listed.len())
+                } else {
+                    None
+                })
+            }
+        }
+    }
+
     // Refuses a type that has no components of this kind.
-    fn refuse_included(&mut self, scope: Scope<'a>, start: usize, construct: Construct) -> Fault {
-        let text: &[u8] = match construct {
+    fn refuse_included(&mut self, inclusion: Inclusion<'a>) -> Fault {
+        let text: &[u8] = match inclusion.construct {
             Construct::Set => b"COMPONENTS OF in a SET needs the type of a SET",
             _ => b"COMPONENTS OF in a SEQUENCE needs the type of a SEQUENCE",
         };
-        self.refuse(scope.place_at(start), &[text])
+        self.refuse(inclusion.scope.place_at(inclusion.start), &[text])
     }
 }
 

@@ -3,16 +3,20 @@
 //! | Item | What it is |
 //! |---|---|
 //! | [`resolve`] | the schema of all modules of a run (`asn1_resolved`), with the problems |
-//! | [`Resolution`] | the two, and whether the schema is accepted |
+//! | [`Resolution`] | the two, the names of the modules, and whether the schema is accepted |
 //!
 //! [`resolve`] follows references, expands COMPONENTS OF, adds automatic tags, numbers the items of each ENUMERATED, reads values
 //! by their types, and takes the constraints that a type can carry. A [`Problem`](asn1_resolved::Problem) is an error or a
 //! warning with its place, at most one error at a place. A schema with an error is incomplete: a type or value that was not
 //! resolved is left out, or is NULL.
 //!
-//! The contracts promise, in the words of `specs/Accepted`:
+//! The contracts promise, in the words of `specs/Accepted` and `specs/References`:
 //!
 //! - No module of an accepted schema has a name twice (`distinct` of [`resolve`]; `HasDistinctNames`).
+//! - Every reference of accepted modules is to a definition of its own module, of one from which its module imports the name, or
+//!   of the one that it names (`resolved`; `AreResolved`). The names are all that the modules define and import (`defined`,
+//!   `imported`); which references are listed, `collect_names` of `asn1_modules` says.
+//! - The definition that a reference stands for in the schema is such a one (`find` in `references`; `IsMeant`).
 //! - A schema is accepted if and only if no problem is an error ([`Resolution::is_accepted`]).
 //!
 //! Every call returns for all modules, and fails only if memory runs out. No contract covers the rest of the schema, or the

@@ -1,24 +1,17 @@
 //! References to definitions.
+ghost use Rattle.std.specs.Prelude.{◌≡◌, ◌<◌, IfNone, IfSome, length};
+ghost use Rattle.std.specs.List.{All, HoldsAt, list_any, position};
+ghost use Rattle.asn1_resolver.specs.References.{IsMeant};
+ghost use Rattle.asn1_resolver.specs.References as spec;
+
 use crate::definitions::Defined;
 use crate::fault::Fault;
 use crate::governed::{Governed, Scope, Written};
 use crate::resolver::Resolver;
 use asn1_modules::append_problem;
-use asn1_names::{NameProblem, UsedName};
-use asn1_notation::{Import, Reference, TypeKind};
-use asn1_resolved::Severity;
+use asn1_names::{ImportedName, NameProblem, UsedName};
+use asn1_notation::{Reference, TypeKind};
 use std::alloc::AllocError;
-
-// Where a name is defined.
-#[derive(Clone, Copy)]
-enum Found {
-    // In the module, or in one from which it is imported.
-    Known(usize),
-    // In another module.
-    Elsewhere(usize),
-    // Nowhere.
-    Undefined,
-}
 
 impl<'a> Resolver<'_, 'a> {
     /// The index of the type of this name.
@@ -27,13 +20,14 @@ impl<'a> Resolver<'_, 'a> {
         scope: Scope<'a>,
         reference: &Reference,
     ) -> Result<usize, Fault> {
-        match find(self.definitions.types.as_slice(), scope, reference) {
-            Found::Known(index) => Ok(index),
-            Found::Elsewhere(index) => {
-                self.warn_of_import(scope, reference)?;
-                Ok(index)
-            }
-            Found::Undefined => Err(self.refuse_undefined(scope, reference)),
+        let used = used_name(scope, reference);
+        match find(
+            self.definitions.types.as_slice(),
+            self.names.imported.as_slice(),
+            &used,
+        ) {
+            Some(index) => Ok(index),
+            None => Err(self.refuse_undefined(scope, reference)),
         }
     }
 
@@ -56,14 +50,19 @@ impl<'a> Resolver<'_, 'a> {
         scope: Scope<'a>,
         reference: &Reference,
     ) -> Result<(Governed<'a>, Written<'a>), Fault> {
-        match find(self.definitions.values.as_slice(), scope, reference) {
-            Found::Known(index) => self.value_at(scope, reference, index),
-            Found::Elsewhere(index) => {
-                self.warn_of_import(scope, reference)?;
-                self.value_at(scope, reference, index)
-            }
-            Found::Undefined => Err(self.refuse_undefined(scope, reference)),
+        match self.index_of_value(scope, reference) {
+            Some(index) => self.value_at(scope, reference, index),
+            None => Err(self.refuse_undefined(scope, reference)),
         }
+    }
+
+    // The index of the value of this name.
+    fn index_of_value(&self, scope: Scope<'a>, reference: &Reference) -> Option<usize> {
+        find(
+            self.definitions.values.as_slice(),
+            self.names.imported.as_slice(),
+            &used_name(scope, reference),
+        )
     }
 
     // The value of this index.
@@ -92,11 +91,8 @@ impl<'a> Resolver<'_, 'a> {
         scope: Scope<'a>,
         reference: &Reference,
     ) -> Result<(Governed<'a>, Written<'a>), Fault> {
-        match (
-            &base.definition.kind,
-            find(self.definitions.values.as_slice(), scope, reference),
-        ) {
-            (TypeKind::Enumerated(_), Found::Undefined) => Err(self.refuse(
+        match (&base.definition.kind, self.index_of_value(scope, reference)) {
+            (TypeKind::Enumerated(_), None) => Err(self.refuse(
                 scope.place(reference.name),
                 &[
                     b"the ENUMERATED has no item '",
@@ -106,14 +102,6 @@ impl<'a> Resolver<'_, 'a> {
             )),
             _ => self.find_value(scope, reference),
         }
-    }
-
-    // Warns that a name is used without IMPORTS.
-    fn warn_of_import(&mut self, scope: Scope<'a>, reference: &Reference) -> Result<(), Fault> {
-        let text = self.undefined_text(scope, reference)?;
-        let place = scope.place(reference.name);
-        self.report(place, Severity::Warning, &[text.as_slice()])?;
-        Ok(())
     }
 
     // Refuses a name that is not defined.
@@ -130,72 +118,91 @@ impl<'a> Resolver<'_, 'a> {
         scope: Scope<'a>,
         reference: &Reference,
     ) -> Result<Vec<u8>, AllocError> {
-        let used = NameProblem::Undefined(UsedName {
-            module: scope.name,
-            qualifier: match reference.module {
-                Some(module) => Some(scope.octets(module)),
-                None => None,
-            },
-            name: scope.octets(reference.name),
-            place: scope.place(reference.name),
-        });
+        let used = NameProblem::Undefined(used_name(scope, reference));
         let mut text = Vec::new(self.alloc);
         append_problem(self.alloc, &mut text, self.names, &used)?;
         Ok(text)
     }
 }
 
-// Where the name of a reference is defined.
-fn find(list: &[Defined<'_>], scope: Scope<'_>, reference: &Reference) -> Found {
-    let name = scope.octets(reference.name);
-    match reference.module {
-        Some(module) => known(index_in(list, scope.octets(module), name)),
-        None => match index_in(list, scope.name, name) {
-            Some(index) => Found::Known(index),
-            None => find_outside(list, scope, name),
+// The name of a reference, with its module.
+fn used_name<'a>(scope: Scope<'a>, reference: &Reference) -> UsedName<'a> {
+    UsedName {
+        module: scope.name,
+        qualifier: match reference.module {
+            Some(module) => Some(scope.octets(module)),
+            None => None,
+        },
+        name: scope.octets(reference.name),
+        place: scope.place(reference.name),
+    }
+}
+
+// The index of the definition that a reference is to (X.680, 13.16 and 14.1): one of the module that it names; or else of its
+// own module, or of one from which its own module imports the name.
+fn find(list: &[Defined<'_>], imported: &[ImportedName<'_>], used: &UsedName<'_>) -> Option<usize>
+    // The reference can be to the definition at the index.
+    ensures within { IfSome result (λ index. index < length list.now) }
+    ensures meant { IfSome result (HoldsAt (IsMeant imported.now used.now) list.now) }
+    // Without an index there is no such definition.
+    ensures undefined { IfNone result (
+        All (λ defined. ¬ IsMeant imported.now used.now defined) list.now) }
+{
+    match used.qualifier {
+        Some(module) => index_in(list, module, used.name),
+        None => match index_in(list, used.module, used.name) {
+            Some(index) => Some(index),
+            None => index_of_import(list, imported, used),
         },
     }
 }
 
-// Where a name is defined that the module does not define.
-fn find_outside(list: &[Defined<'_>], scope: Scope<'_>, name: &[u8]) -> Found {
-    let imported = match find_import(scope, name) {
-        Some(module) => index_in(list, module, name),
-        None => None,
-    };
-    match imported {
-        Some(index) => Found::Known(index),
-        None => match list.iter().position(|defined| defined.name == name) {
-            Some(index) => Found::Elsewhere(index),
-            None => Found::Undefined,
-        },
-    }
+// The index of the first definition of a name in a module.
+fn index_in(list: &[Defined<'_>], module: &[u8], name: &[u8]) -> Option<usize>
+    ensures { result ≡ position (spec.has_name «module».now name.now) list.now }
+{
+    list.iter()
+        .position(|defined| has_name(defined, module, name))
 }
 
-// A definition at this index.
-fn known(index: Option<usize>) -> Found {
-    match index {
-        Some(index) => Found::Known(index),
-        None => Found::Undefined,
-    }
+// The index of the first definition of the name of a reference in a module from which its own module imports the name.
+fn index_of_import(
+    list: &[Defined<'_>],
+    imported: &[ImportedName<'_>],
+    used: &UsedName<'_>,
+) -> Option<usize>
+    ensures { result ≡ position (spec.is_provided imported.now used.now) list.now }
+{
+    list.iter()
+        .position(|defined| is_provided(imported, used, defined))
 }
 
-// The index of the definition of a name in a module.
-fn index_in(list: &[Defined<'_>], module: &[u8], name: &[u8]) -> Option<usize> {
-    list.iter().position(|defined| defined.scope.name == module && defined.name == name)
+// Whether the definition has this name, and is in this module.
+fn has_name(defined: &Defined<'_>, module: &[u8], name: &[u8]) -> bool
+    ensures { result ≡ spec.has_name «module».now name.now defined.now }
+{
+    defined.scope.name == module && defined.name == name
 }
 
-// The module from which a name is imported.
-fn find_import<'a>(scope: Scope<'a>, name: &[u8]) -> Option<&'a [u8]> {
-    for import in &scope.module.imports {
-        if is_imported(scope, import, name) {
-            return Some(scope.octets(import.module));
-        }
-    }
-    None
+// Whether the definition has the name of a reference, and is in a module from which that of the reference imports it.
+fn is_provided(imported: &[ImportedName<'_>], used: &UsedName<'_>, defined: &Defined<'_>) -> bool
+    ensures { result ≡ spec.is_provided imported.now used.now defined.now }
+{
+    defined.name == used.name && is_imported(imported, used, defined.scope.name)
 }
 
-// Whether these imports have a name.
-fn is_imported(scope: Scope<'_>, import: &Import, name: &[u8]) -> bool {
-    import.names.iter().any(|span| scope.octets(*span) == name)
+// Whether the module of a reference imports its name from this module.
+fn is_imported(imported: &[ImportedName<'_>], used: &UsedName<'_>, module: &[u8]) -> bool
+    ensures { result ≡ list_any (spec.is_import_of used.now «module».now) imported.now }
+{
+    imported
+        .iter()
+        .any(|import| is_import_of(import, used, module))
+}
+
+// Whether this is an import of the name of a reference, by its module, from this module.
+fn is_import_of(import: &ImportedName<'_>, used: &UsedName<'_>, module: &[u8]) -> bool
+    ensures { result ≡ spec.is_import_of used.now «module».now import.now }
+{
+    import.module == used.module && import.name == used.name && import.from == module
 }

@@ -1,9 +1,11 @@
 //! All modules of a run.
-ghost use Rattle.std.specs.Prelude.{◌≡◌, IfOk, IsTrue};
+ghost use Rattle.std.specs.Prelude.{◌≡◌, IfOk, IsTrue, map};
+ghost use Rattle.asn1_modules.specs.Places.{defined_places, imported_places};
 ghost use Rattle.asn1_resolver.specs.Accepted.{HasDistinctNames};
 ghost use Rattle.asn1_resolver.specs.Accepted as spec;
+ghost use Rattle.asn1_resolver.specs.References.{AreResolved};
 
-use crate::accepted::{accepts, require_distinct_names};
+use crate::accepted::{accepts, require_names};
 use crate::definitions::{Defined, Definitions, list_definitions};
 use crate::fault::Fault;
 use crate::governed::Written;
@@ -23,6 +25,8 @@ pub struct Resolution<'a> {
     pub schema: Schema<'a>,
     /// The problems, in the order of their places.
     pub problems: Vec<Problem>,
+    /// The names that are defined, imported and used.
+    pub names: Names<'a>,
 }
 
 impl Resolution<'_> {
@@ -41,6 +45,15 @@ pub fn resolve<'a>(alloc: Global, sources: &[Source<'a>]) -> Result<Resolution<'
     // No module of an accepted schema has a name twice.
     ensures distinct { IfOk result (λ resolution.
         IsTrue (spec.accepts resolution.problems.items) → HasDistinctNames resolution.schema) }
+    // Every reference of accepted modules is to a definition: of its own module, of one from which
+    // its module imports the name, or of the one that it names.
+    ensures resolved { IfOk result (λ resolution.
+        IsTrue (spec.accepts resolution.problems.items) → AreResolved resolution.names) }
+    // The names are those of all definitions, and all behind IMPORTS.
+    ensures defined { IfOk result (λ resolution.
+        map (λ name. name.place) resolution.names.defined.items ≡ defined_places sources.now) }
+    ensures imported { IfOk result (λ resolution.
+        map (λ name. name.place) resolution.names.imported.items ≡ imported_places sources.now) }
 {
     let definitions = list_definitions(alloc, sources)?;
     let names = collect_names(alloc, sources)?;
@@ -53,8 +66,12 @@ pub fn resolve<'a>(alloc: Global, sources: &[Source<'a>]) -> Result<Resolution<'
     let schema = resolve_schema(&mut resolver, &definitions)?;
     resolver.report_names()?;
     let mut problems = resolver.into_problems();
-    require_distinct_names(alloc, &mut problems, &schema)?;
-    Ok(Resolution { schema, problems })
+    require_names(alloc, &mut problems, &schema, &names)?;
+    Ok(Resolution {
+        schema,
+        problems,
+        names,
+    })
 }
 
 // The types and the values.
@@ -158,27 +175,15 @@ impl<'a> Resolver<'_, 'a> {
     }
 }
 
-// Whether modules with this problem can be used: a name of another module needs no IMPORTS, and a module that is not among
-// the files is needed only where a name is used.
+// Whether modules with this problem can be used: a module that is not among the files is needed only where a name is used.
 fn severity_of(names: &Names<'_>, problem: &NameProblem<'_>) -> Severity {
-    let is_usable = match problem {
-        NameProblem::Doubled(_) => false,
-        NameProblem::UnknownImport(import) => !has_module(names, import.from),
-        NameProblem::Undefined(used) => used.qualifier.is_none() && has_name(names, used.name),
-    };
-    if is_usable {
-        Severity::Warning
-    } else {
-        Severity::Error
+    match problem {
+        NameProblem::UnknownImport(import) if !has_module(names, import.from) => Severity::Warning,
+        _ => Severity::Error,
     }
 }
 
 // Whether a definition is in a module of this name.
 fn has_module(names: &Names<'_>, module: &[u8]) -> bool {
     names.defined.iter().any(|defined| defined.module == module)
-}
-
-// Whether a definition has this name.
-fn has_name(names: &Names<'_>, name: &[u8]) -> bool {
-    names.defined.iter().any(|defined| defined.name == name)
 }
