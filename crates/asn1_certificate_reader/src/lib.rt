@@ -1,37 +1,32 @@
 //! The report of a certificate, read by any codec that has its octets, and the values that its open types cannot hold.
 //!
-//! | Item | What it is |
-//! |---|---|
-//! | [`report_of`] | the report of a certificate |
-//! | [`read_inside`], [`MAX_DEPTH`] | the value that octets are read as, and how deep certificates may be nested |
-//! | [`first_name_fault`], [`NameFault`], [`ValueFault`] | the first value in a name that no name can have, and why |
-//! | [`bad_parameters`], [`ParameterType`] | parameters of an algorithm that are no value of the type of their tag |
+//! | Item | What it is | In `specs/` |
+//! |---|---|---|
+//! | [`report_of`] | the report of a certificate | `Reports`, `Objects`, `Keys`, `Names`, `ExtensionValues`, `GeneralNames` |
+//! | [`read_inside`], [`MAX_DEPTH`] | the value that octets are read as, and how deep certificates may be nested | `Inside` |
+//! | [`first_name_fault`], [`NameFault`], [`ValueFault`] | the first value in a name that no name can have, and why | `NameFaults` |
+//! | [`bad_parameters`], [`ParameterType`] | parameters of an algorithm that are no value of the type of their tag | `Parameters` |
 //!
-//! The contents of open types and octets are read by the same codec: the values of attributes, keys and their parameters, and the
-//! values of extensions. If such a value is not of the type that is expected there, the report has its octets, or the number of bits
-//! of a key. [`first_name_fault`] and [`bad_parameters`] look at octets in DER.
+//! The same codec reads the contents of open types and octets. [`first_name_fault`] and [`bad_parameters`] look at octets in
+//! DER.
 //!
-//! The contracts promise:
+//! The promises:
 //!
-//! - A report has the version, the serial number, the two names, the times, the key and the algorithms of its certificate, and an
-//!   extension for each of its own, in their order, with its kind and whether it is critical (`report_of`: `IsReportOf` of
-//!   `specs/Reports.antt`). An object has the name of a row of the table with its arcs, or no name if no row has them
-//!   (`IsObjectOf` of `specs/Objects.antt`).
+//! - A report has the version, the serial number, the names, the times, the key, the algorithms and the extensions of its
+//!   certificate, in order (`report_of`: `IsReportOf`); an object the name of a row of the table with its arcs, if one has them
+//!   (`IsObjectOf`).
 //! - A key has the size of its modulus, if that is not negative, and its exponent, or its curve, or the one size of its algorithm,
-//!   or the number of its bits (`IsKeyOf` of `specs/Keys.antt`).
-//! - The value of an extension is read by the type that RFC 5280 has for its kind, for six types (`IsValueOfKind` of
-//!   `specs/ExtensionValues.antt`, and for further names `specs/GeneralNames.antt`). Values of other kinds, and values that are
-//!   not of their type, are shown as octets.
-//! - A name is shown by its parts, from the last to the first, and each part by its attributes, each with its kind and its value
-//!   (`IsNameOf` of `specs/Names.antt`). A value is read as a UniversalString of four octets for each character, a
-//!   DirectoryString, an IA5String or a NumericString, in this order (`IsValueOf`), and otherwise shown as octets; and so is the
-//!   value of a kind without a name.
-//! - Octets of a value of a type are read as a value that is equal to it (`AreReadAs` of `specs/Inside.antt`).
-//! - `first_name_fault` answers none if and only if a name can have each of the values, and otherwise the first value that no name
-//!   can have (`AnswersName` of `specs/NameFaults.antt`).
-//! - Parameters that `bad_parameters` refuses begin with an element, and are not what its tag asks for: they are of no valid
-//!   value of the type of the tag, nested in 64 scopes at most; they are no units of four octets under the tag of a UniversalString;
-//!   or they are not in the form that DER gives the tag (`HasBadParameters` of `specs/Parameters.antt`).
+//!   or the number of its bits (`IsKeyOf`).
+//! - A name is shown by its parts, from the last to the first (`IsNameOf`). A value is read as a UniversalString of four octets
+//!   for each character, a DirectoryString, an IA5String or a NumericString, in this order (`IsValueOf`), else shown as octets,
+//!   and so is the value of a kind without a name.
+//! - The value of an extension is read by the type that RFC 5280 has for its kind, for six types (`IsValueOfKind`), else shown
+//!   as octets.
+//! - Octets of a valid value of a type are read as a value that is equal to it (`AreReadAs`).
+//! - `first_name_fault` answers none if and only if a name can have each of the values, else the first that it cannot
+//!   (`AnswersName`).
+//! - Parameters that `bad_parameters` answers begin with an element of DER, and are not what its tag asks for
+//!   (`HasBadParameters`).
 #![tactic(auto)]
 
 mod attributes;

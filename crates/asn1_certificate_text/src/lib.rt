@@ -1,40 +1,28 @@
 //! A certificate as text: the report that a person reads, and the text in which a certificate is kept.
 //!
-//! | Item | What it is |
-//! |---|---|
-//! | [`Report`], [`report_text`] | the parts of a certificate that are shown, and their lines |
-//! | [`AppendText`] | anything with a text |
-//! | [`Version`], [`OctetNumber`], [`ShownTime`] | the version, the serial number and the validity |
-//! | [`ShownName`], [`NamePart`], [`Attribute`], [`AttributeValue`] | the subject and the issuer |
-//! | [`ShownKey`], [`KeySize`], [`Signature`], [`AlgorithmDifference`] | the public key, and the algorithm of the signature |
-//! | [`ShownExtension`], [`ExtensionValue`], [`ShownGeneralName`], [`Authority`], [`AuthorityKey`] | the extensions |
-//! | [`Object`] | an object identifier with its name |
-//! | [`object_named`], [`NamedObject`], [`curve_of`], [`Curve`] | the objects and curves with names |
-//! | [`Moment`] | a moment, read from the two kinds of time in a certificate (RFC 5280, 4.1.2.5) |
-//! | [`push_escaped`], [`push_visible`] | the value of an attribute of a name (RFC 4514), and other texts |
-//! | [`push_octets`], [`push_digits`] | octets in hexadecimal, with colons and without |
-//! | [`push_address`] | an IP address |
-//! | [`bit_length`], [`push_usages`] | the size of a number, and the usages of a key |
-//! | [`is_pem`], [`certificates_in`], [`PemCertificate`], [`PemError`] | certificates between two lines, in base64 (RFC 7468) |
+//! | Item | What it is | In `specs/` |
+//! |---|---|---|
+//! | [`Report`], [`report_text`], [`AppendText`] | the parts of a certificate that are shown, and their lines | `Reports`, `Lines` |
+//! | [`Version`], [`OctetNumber`], [`ShownTime`] | the version, the serial number and the validity | `Numbers`, `Times` |
+//! | [`ShownName`], [`NamePart`], [`Attribute`], [`AttributeValue`] | the subject and the issuer | `Names` |
+//! | [`ShownKey`], [`KeySize`], [`Signature`], [`AlgorithmDifference`] | the public key, and the algorithm of the signature | `Keys` |
+//! | [`ShownExtension`], [`ExtensionValue`], [`ShownGeneralName`], [`Authority`], [`AuthorityKey`] | the extensions | `Extensions`, `GeneralNames` |
+//! | [`Object`], [`object_named`], [`NamedObject`], [`curve_of`], [`Curve`] | object identifiers and curves, with their names | `Objects`, `Registry` |
+//! | [`Moment`] | a moment, read from the two kinds of time (RFC 5280, 4.1.2.5) | `Moments`, `MomentTexts` |
+//! | [`push_escaped`], [`push_visible`] | the value of an attribute of a name (RFC 4514), and other texts | `Escapes` |
+//! | [`push_octets`], [`push_digits`], [`push_address`] | octets in hexadecimal, with colons and without; an IP address | `Octets`, `Addresses` |
+//! | [`bit_length`], [`push_usages`] | the size of a number, and the usages of a key | `Bits` |
+//! | [`is_pem`], [`certificates_in`], [`PemCertificate`], [`PemError`] | certificates between two lines, in base64 (RFC 7468) | `Pem`, `PemLines`, `PemRefusals` |
 //!
-//! The contracts promise:
+//! The main promises (docs/PROMISES.md has more):
 //!
-//! - The text of a report is one definition, `report_text` of `specs/Reports.antt`, over the definitions of its parts (`text_of` of
-//!   [`AppendText`]).
-//! - Each function that appends has a definition of the characters that it appends: `escaped_text` of `specs/Escapes.antt`,
-//!   `octets_text` of `specs/Octets.antt`, `usages_text` of `specs/Bits.antt`. Control characters are escaped, and so are characters
-//!   that change the direction of others or end a line.
-//! - A time is read as a moment if and only if it is written as RFC 5280 asks, and the moment is in the calendar
-//!   (`read` and `only` of [`Moment`], with the words of `specs/MomentTexts.antt`).
-//! - An object is found by its arcs if and only if a row of the table has these (`found`, `missing`), and has the name of
-//!   such a row (`listed`, over `object_names` and `curve_sizes` of `specs/Registry.antt`). The rows themselves are data: no clause
-//!   compares them with the standards.
-//! - The certificates of a text are found in their order, each between a line before one and the next line after one, and its octets
-//!   are those that the base64 between encodes, white space left out (`AreCertificatesFrom` of `specs/Pem.antt`). The text
-//!   determines them (`texts_tell_their_certificates` of [`laws`]).
-//! - An error names a byte of the text: the end of the line before a certificate, if no line follows that ends one; the symbol that
-//!   base64 refuses; or the end of base64 that is not whole (`IsAboutBase64` of `specs/PemRefusals.antt`).
-//! - Equality of moments and errors compares their contents (`derives_keep_what_a_value_is` of [`laws`]).
+//! - What is appended has a definition: `report_text`, and `text_of` of each part. Control characters are escaped, and so are
+//!   characters that change the direction of others or end a line.
+//! - A time is a moment if and only if it has RFC 5280's form and is in the calendar (`read`, `only` of [`Moment`]).
+//! - An object is found if and only if a row of the table has its arcs (`found`, `missing`), with the name of such a row
+//!   (`listed`). No clause compares the rows with the standards.
+//! - The certificates of a text are found in their order (`AreCertificatesFrom`), and the text determines them
+//!   (`texts_tell_their_certificates` of [`laws`]). An error names a byte of the text (`IsAboutBase64`).
 //!
 //! The functions that append fail only if memory runs out, and may then have appended a part.
 #![tactic(auto)]

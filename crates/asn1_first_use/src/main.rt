@@ -1,4 +1,4 @@
-//! The first use of the README: writes a value as bytes, and reads it back from a stream of them that comes in two pieces.
+//! A first program: writes a value as bytes, and reads it back from a stream of them that comes in two pieces.
 //!
 //! `rt try` in this folder runs the program; `rt run` proves it and all crates below it first. It takes no arguments and no
 //! input, and prints two lines: the 37 bytes of a `Person` of `asn1_samples` in the packed codec (`asn1_bench`), and `true`,

@@ -1,50 +1,33 @@
 //! The meaning of ASN.1 types to every codec: the tables that a schema has of a type, and the records of its values.
 //!
-//! A codec never sees a type. It sees records: a content under a tag, a scope with others inside, the bytes of an open
-//! type, and presence marks that say whether a component is there. So a type is written once, by saying which records its values
-//! are, and every codec that writes and reads records has it. `docs/MODEL.md` explains this with a worked value.
+//! A codec sees no type but records: a content under a tag, a scope with others inside, the bytes of an open type, and presence
+//! marks. `docs/MODEL.md` explains this with a worked value.
 //!
-//! | Item | What it is |
-//! |---|---|
-//! | [`AsnType`] | a type: its table, and by `meaning` what its values are, with the law of types |
-//! | [`StringType`] | what a kind of string is: its tag, its name, and what its units are to a codec |
-//! | [`TypeTable`], [`TreeForm`] | what a schema says of a type; how its tree of tags follows from the tag that it is written under |
-//! | [`tag`] | markers of the tags that X.680 assigns |
-//! | [`can_begin_with`] | whether a value can begin with a tag, by the tree of its type |
+//! | Item | What it is | In `specs/` |
+//! |---|---|---|
+//! | [`AsnType`] | a type: its table, and by `meaning` what its values are, with the law of types | `Meaning`, `Kinds`, `Composites` |
+//! | [`StringType`] | what a kind of string is: its tag, its name, and what its units are to a codec | |
+//! | [`TypeTable`], [`TreeForm`] | what a schema says of a type; how its tree of tags follows from its tag | `TypeTables` |
+//! | [`tag`] | markers of the tags that X.680 assigns | |
+//! | [`can_begin_with`] | whether a value can begin with a tag, by the tree of its type | `Tags` |
+//! | [`laws`] | the meaning of each type of this crate, written out | `BeginningTags`, `Premises` |
 //!
-//! The types of the lower layers and of the language are types of ASN.1 here: `()`, `bool`, the built-in integers,
-//! `Integer`, `ConstrainedInteger`, every kind of string, `&str`, `ObjectIdentifier`, `Option`, references, `Box`, `Cow`,
-//! `Vec`, arrays, `&[T]` and `PhantomData`.
+//! Types of ASN.1 are here `()`, `bool`, the built-in integers, `Integer`, `ConstrainedInteger`, every kind of string, `&str`,
+//! `ObjectIdentifier`, `Option`, references, `Box`, `Cow`, `Vec`, arrays, `&[T]` and `PhantomData`.
 //!
-//! The contracts promise, in these words:
+//! The main promises (docs/PROMISES.md has more):
 //!
-//! - Each function of `AsnType` answers what `meaning` says: `tag`, `tag_tree_under`, `identifier`, `constraints`,
-//!   `is_choice`, `is_present` and `tag_tree`. So the tables of a type and its records cannot disagree.
+//! - Each function of `AsnType` answers what `meaning` says, so the tables of a type and its records cannot disagree.
+//! - A value of a well-tagged type is one record, no mark, which begins with one of the type's tags (`one_record` of
+//!   `Meaning`).
+//! - The records of a valid value are well formed (`records_of_a_valid_value_are_well_formed`).
 //! - Records that are the same up to the order inside sets begin with the same tags and are nested as deep
 //!   (`order_inside_sets_is_not_seen`).
-//! - The law of types is a part of each meaning (`one_record` of `specs/Meaning.antt`): a value of a type whose values are
-//!   single records (`IsSingleRecord`), and whose tags are distinct (`HasDistinctTags`), is one record, which begins with one
-//!   of the type's tags.
-//! - The law of valid values is a part of each meaning too (`well_formed`): their records hold open types that the codec
-//!   takes, and each chosen tag is the first of what is inside (`records_of_a_valid_value_are_well_formed`).
-//! - A meaning tells apart its type's invariant, which every value meets that a program can make (`IsOfType`), and what is
-//!   asked of whoever writes a value (`IsValid`).
-//! - `specs/Records.antt` has the records, marks and heights; `specs/RecordTables.antt` the table of a type that records carry
-//!   beside a value; `specs/Tags.antt` the first tags of a list of records and the tags of a tree; `specs/Orders.antt` what
-//!   it is to be the same up to order; `specs/WellFormed.antt` what it is to be well formed; `specs/ConstraintSets.antt` a
-//!   set of constraints apart from where it lies in memory; `specs/TypeTables.antt` the tree of tags that a table
-//!   means.
-//! - `specs/Composites.antt` has the records of what is put together of parts, a word for each: `sequence_records`,
-//!   `option_records`, `group_records` and so on. `specs/Meaning.antt` says what a meaning is, and `specs/Kinds.antt`
-//!   has that of each kind of type: `scalar_type`, `list_type`, `option_type` and so on. `specs/OneRecord.antt` has what
-//!   the law of types rests on.
 //!
-//! `AsnType::constraints` takes memory where the type has a permitted alphabet, and is refused nowhere else
-//! (`without_alphabet`). No other call takes any.
-//!
-//! The module [`laws`] says what aliases come to, and the words by which types state their meaning: the records of a value
-//! of each type of this crate, the tags with which it begins (`specs/BeginningTags.antt`), which values are valid and meet the
-//! type's invariant, the units of each kind of string, the numbers of each built-in integer.
+//! `specs/Records.antt` has the records and their heights, `RecordTables` the tables that they carry, `TaggedTypes` types
+//! inside others, `Orders` sameness up to order, `WellFormed` what a valid value's records are, `ConstraintSets` sets of
+//! constraints. `AsnType::constraints` takes memory if the type has a permitted alphabet (`without_alphabet`); no other call
+//! takes any.
 #![tactic(auto, using(asn1_tags::proofs::Leaves::tree_shapes))]
 
 mod asn_type;

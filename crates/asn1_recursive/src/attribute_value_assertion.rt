@@ -82,7 +82,7 @@ impl ConstructedType for AttributeValueAssertion {
     ghost agrees = { constructed_agrees };
 }
 
-/// An `AttributeValueAssertion` can be inside other types.
+/// An `AttributeValueAssertion` is well tagged.
 pub fn attribute_value_assertion_is_well_tagged()
     ensures { IsWellTagged ⟦<AttributeValueAssertion as AsnType>⟧.meaning }
 {}

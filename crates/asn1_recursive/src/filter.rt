@@ -167,7 +167,7 @@ impl ChoiceType for Filter {
     ghost agrees = { itself_agrees filter_agrees };
 }
 
-/// A `Filter` can be inside other types: the tags of its alternatives are distinct.
+/// A `Filter` is well tagged: the tags of its alternatives are distinct.
 pub fn filter_is_well_tagged()
     ensures { IsWellTagged ⟦<Filter as AsnType>⟧.meaning }
 {}

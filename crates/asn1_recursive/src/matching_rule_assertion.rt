@@ -135,7 +135,7 @@ impl ConstructedType for MatchingRuleAssertion {
     ghost agrees = { constructed_agrees };
 }
 
-/// A `MatchingRuleAssertion` can be inside other types: what follows a component that may be absent begins with another tag.
+/// A `MatchingRuleAssertion` is well tagged: what follows a component that may be absent begins with another tag.
 pub fn matching_rule_assertion_is_well_tagged()
     ensures { IsWellTagged ⟦<MatchingRuleAssertion as AsnType>⟧.meaning }
 {}

@@ -73,7 +73,7 @@ impl ChoiceType for Nested {
     ghost agrees = { itself_agrees nested_agrees };
 }
 
-/// A `Nested` can be inside other types: the tags of its alternatives are distinct.
+/// A `Nested` is well tagged: the tags of its alternatives are distinct.
 pub fn nested_is_well_tagged()
     ensures { IsWellTagged ⟦<Nested as AsnType>⟧.meaning }
 {}

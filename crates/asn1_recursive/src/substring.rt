@@ -98,7 +98,7 @@ impl ChoiceType for Substring {
     ghost agrees = { choice_agrees };
 }
 
-/// A `Substring` can be inside other types: the tags of its alternatives are distinct.
+/// A `Substring` is well tagged: the tags of its alternatives are distinct.
 pub fn substring_is_well_tagged()
     ensures { IsWellTagged ⟦<Substring as AsnType>⟧.meaning }
 {}

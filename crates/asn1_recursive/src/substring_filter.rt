@@ -86,7 +86,7 @@ impl ConstructedType for SubstringFilter {
     ghost agrees = { constructed_agrees };
 }
 
-/// A `SubstringFilter` can be inside other types.
+/// A `SubstringFilter` is well tagged.
 pub fn substring_filter_is_well_tagged()
     ensures { IsWellTagged ⟦<SubstringFilter as AsnType>⟧.meaning }
 {}

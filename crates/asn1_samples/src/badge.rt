@@ -77,7 +77,7 @@ impl ConstructedType for Badge {
     ghost agrees = { constructed_agrees };
 }
 
-/// A `Badge` can be inside other types: no two of its components share a tag, with those of a `Shape`.
+/// A `Badge` is well tagged: no two of its components share a tag, with those of a `Shape`.
 pub fn badge_is_well_tagged()
     ensures { IsWellTagged ⟦<Badge as AsnType>⟧.meaning }
 {}

@@ -58,7 +58,7 @@ impl Enumerated for Color {
     ghost agrees = { enumeration_agrees };
 }
 
-/// A `Color` can be inside other types.
+/// A `Color` is well tagged.
 pub fn color_is_well_tagged()
     ensures { IsWellTagged ⟦<Color as AsnType>⟧.meaning }
 {}

@@ -76,7 +76,7 @@ impl ChoiceType for Corner {
     ghost agrees = { choice_agrees };
 }
 
-/// A `Corner` can be inside other types: no tag is twice among its alternatives.
+/// A `Corner` is well tagged: no tag is twice among its alternatives.
 pub fn corner_is_well_tagged()
     ensures { IsWellTagged ⟦<Corner as AsnType>⟧.meaning }
 {}

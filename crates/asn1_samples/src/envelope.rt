@@ -55,7 +55,7 @@ impl ConstructedType for Envelope {
     ghost agrees = { constructed_agrees };
 }
 
-/// An `Envelope` can be inside other types: an open type can be a component that is always there.
+/// An `Envelope` is well tagged: an open type can be a component that is always there.
 pub fn envelope_is_well_tagged()
     ensures { IsWellTagged ⟦<Envelope as AsnType>⟧.meaning }
 {}

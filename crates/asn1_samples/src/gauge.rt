@@ -104,7 +104,7 @@ impl ConstructedType for Gauge {
     ghost agrees = { constructed_agrees };
 }
 
-/// A `Gauge` can be inside other types: no two of its components share a tag.
+/// A `Gauge` is well tagged: no two of its components share a tag.
 pub fn gauge_is_well_tagged()
     ensures { IsWellTagged ⟦<Gauge as AsnType>⟧.meaning }
 {}

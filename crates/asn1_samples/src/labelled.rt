@@ -108,7 +108,7 @@ impl ConstructedType for Labelled {
     ghost agrees = { constructed_agrees };
 }
 
-/// A `Labelled` can be inside other types.
+/// A `Labelled` is well tagged.
 pub fn labelled_is_well_tagged()
     ensures { IsWellTagged ⟦<Labelled as AsnType>⟧.meaning }
 {}

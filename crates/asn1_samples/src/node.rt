@@ -59,7 +59,7 @@ impl ConstructedType for Node {
     ghost agrees = { node_agrees };
 }
 
-/// A `Node` can be inside other types: the tags of its components are distinct.
+/// A `Node` is well tagged: the tags of its components are distinct.
 pub fn node_is_well_tagged()
     ensures { IsWellTagged ⟦<Node as AsnType>⟧.meaning }
 {}

@@ -88,7 +88,7 @@ impl ConstructedType for Notice {
     ghost agrees = { constructed_agrees };
 }
 
-/// A `Notice` can be inside other types: what follows `urgent` begins with another tag.
+/// A `Notice` is well tagged: what follows `urgent` begins with another tag.
 pub fn notice_is_well_tagged()
     ensures { IsWellTagged ⟦<Notice as AsnType>⟧.meaning }
 {}

@@ -83,7 +83,7 @@ impl<T: AsnType, U: AsnType> ConstructedType for Pair<T, U> {
     ghost agrees = { constructed_agrees };
 }
 
-/// A `Pair` can be inside other types where its first can be a component, and its second can be one under `[0]`.
+/// A `Pair` is well tagged if its first type is, and its second under `[0]`.
 pub fn pair_is_well_tagged<T: AsnType, U: AsnType>()
     ensures { IsWellTagged T.meaning → IsWellTaggedUnder U.meaning (context 0) →
         IsWellTagged ⟦<Pair<T, U> as AsnType>⟧.meaning }

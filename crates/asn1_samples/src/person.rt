@@ -79,7 +79,7 @@ impl ConstructedType for Person {
     ghost agrees = { constructed_agrees };
 }
 
-/// A `Person` can be inside other types: the types of its components can be there.
+/// A `Person` is well tagged.
 pub fn person_is_well_tagged()
     ensures { IsWellTagged ⟦<Person as AsnType>⟧.meaning }
 {}

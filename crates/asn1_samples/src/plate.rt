@@ -28,7 +28,7 @@ impl AsnType for Plate {
     }
 }
 
-/// A `Plate` can be inside other types.
+/// A `Plate` is well tagged.
 pub fn plate_is_well_tagged()
     ensures { IsWellTagged ⟦<Plate as AsnType>⟧.meaning }
 {}

@@ -112,7 +112,7 @@ impl ConstructedType for Profile {
     ghost agrees = { constructed_agrees };
 }
 
-/// A `Profile` can be inside other types: its tags are distinct, with those of the group.
+/// A `Profile` is well tagged: its tags are distinct, with those of the group.
 pub fn profile_is_well_tagged()
     ensures { IsWellTagged ⟦<Profile as AsnType>⟧.meaning }
 {}

@@ -74,7 +74,7 @@ impl ConstructedType for Settings {
     ghost agrees = { constructed_agrees };
 }
 
-/// A `Settings` can be inside other types.
+/// A `Settings` is well tagged.
 pub fn settings_is_well_tagged()
     ensures { IsWellTagged ⟦<Settings as AsnType>⟧.meaning }
 {}

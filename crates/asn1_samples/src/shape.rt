@@ -84,7 +84,7 @@ impl ChoiceType for Shape {
     ghost agrees = { choice_agrees };
 }
 
-/// A `Shape` can be inside other types: no tag is twice among its alternatives, with those of a `Corner`.
+/// A `Shape` is well tagged: no tag is twice among its alternatives, with those of a `Corner`.
 pub fn shape_is_well_tagged()
     ensures { IsWellTagged ⟦<Shape as AsnType>⟧.meaning }
 {}

@@ -101,7 +101,7 @@ impl ConstructedType for Ticket {
     ghost agrees = { constructed_agrees };
 }
 
-/// A `Ticket` can be inside other types: no two of its components share a tag.
+/// A `Ticket` is well tagged: no two of its components share a tag.
 pub fn ticket_is_well_tagged()
     ensures { IsWellTagged ⟦<Ticket as AsnType>⟧.meaning }
 {}

@@ -98,7 +98,7 @@ impl ConstructedType for Visit {
     ghost agrees = { constructed_agrees };
 }
 
-/// A `Visit` can be inside other types: the tag of what comes after the group is none of the group's.
+/// A `Visit` is well tagged: the tag of what comes after the group is none of the group's.
 pub fn visit_is_well_tagged()
     ensures { IsWellTagged ⟦<Visit as AsnType>⟧.meaning }
 {}

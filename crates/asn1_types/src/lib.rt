@@ -1,57 +1,34 @@
 //! The types of ASN.1 that are made of others: sets of values, open types, tagged types and INSTANCE OF.
 //!
-//! A type means the same here as in the crate `asn1_model`, whose names this one re-exports: its tables say what a schema
-//! knows of it, and its values are records, which every codec writes and reads.
+//! The crate also exports names of `asn1_tags`, `asn1_bounds`, `asn1_model`, `asn1_fields` and `asn1_components`: `Tag`,
+//! `AsnType`, `Field`, `FieldTable`, `ConstructedType`, `Choice`, `Enumerated` and the like.
 //!
-//! | Type | What it is | Contracts see |
-//! |---|---|---|
-//! | [`SetOf`] | a SET OF: elements in no order, each as often as it occurs | the list of its elements |
-//! | [`SequenceOf`] | a SEQUENCE OF: a vector | the list of its elements |
-//! | [`Array`] | a SEQUENCE OF this many elements: an array, in a struct of its own | its field |
-//! | [`Any`] | a value of an open type, as the bytes that a codec makes of it | the list of its bytes |
-//! | [`Implicit`] | a value under another tag, which replaces its own | its fields |
-//! | [`Explicit`] | a value under another tag, which comes before its own | its fields |
-//! | [`InstanceOf`] | the name of a type, and a value of that type | its fields |
-//! | [`CodecString`], [`Utf8`] | a kind of string, as a codec writes and reads it; the marker of UTF8String | |
-//! | [`AnyStr`], [`AnyString`] | a string of whatever kind, as a codec is given it, and as it has read it | its variants |
-//! | [`StringKind`], [`OctetKind`] | a kind of string, by which a codec tells it from others | its variants |
-//! | [`AsnType`], [`TypeTable`], [`TreeForm`], [`StringType`], [`tag`] | what a type means, and the law of types: of `asn1_model` | |
-//! | [`Tag`], [`Class`], [`TagTree`], [`Identifier`] | tags, trees of tags and names: of `asn1_tags` | |
-//! | [`Field`], [`Fields`] | field tables: of `asn1_fields` | |
-//! | [`FieldTable`], [`ConstructedType`], [`Constructed`] | SEQUENCE and SET types: of `asn1_components` | |
-//! | [`Choice`], [`ChoiceType`] | CHOICE types: of `asn1_components` | |
-//! | [`Enumerated`], [`EnumeratedItems`], [`EnumerationItem`] | ENUMERATED types: of `asn1_components` | |
+//! | Item | What it is |
+//! |---|---|
+//! | [`SetOf`] | a SET OF: elements in no order, each as often as it occurs |
+//! | [`SequenceOf`], [`Array`] | a SEQUENCE OF: a vector; of a fixed length: an array, in a struct of its own |
+//! | [`Any`] | a value of an open type, as the bytes that a codec makes of it |
+//! | [`Implicit`], [`Explicit`] | a value under another tag, which replaces its own, or comes before it |
+//! | [`InstanceOf`] | the name of a type, and a value of that type |
+//! | [`CodecString`], [`Utf8`] | a kind of string, as a codec writes and reads it; the marker of UTF8String |
+//! | [`AnyStr`], [`AnyString`] | a string of whatever kind, as a codec is given it, and as it has read it |
+//! | [`StringKind`], [`OctetKind`] | a kind of string, by which a codec tells it from others |
 //!
-//! The contracts promise, in these words:
+//! The main promises (docs/PROMISES.md has more):
 //!
-//! - Two sets are equal if and only if some rearrangement of the second is element by element equal to the first, by the
-//!   elements' own equality: `equal_sets_have_the_same_elements` and `SetOf::eq_slice` say so in `SameElements` of
-//!   `specs/Multisets.antt`. `==` is `same_counts`, which counts; that the two agree, and that this is an equality, is
-//!   proved in `specs/MultisetLaws.antt` (`same_counts-SameElements`, `same_counts-partial`, `same_counts-equiv`). Equal
-//!   sets feed a hasher alike.
-//! - A type may hold itself in a `SetOf`: `specs/formers` says how a set holds its elements.
-//! - `SetOf::insert` puts the element last (`inserted`), or gives it back (`given_back`) and changes nothing
-//!   (`unchanged`). `SetOf::remove` answers whether there was an equal one (`found`), takes the first such and moves the
-//!   last into its place (`taken`). `iter`, `to_vec` and `into_vec` have the elements in one order.
-//! - `SetOf::from_slice`, `from_array` and `try_clone` hold clones of the elements in their order (`clones`), which are
-//!   the elements themselves where a clone is (`same`).
-//! - `Any`, `Implicit` and `Explicit` return the value they were made from. Equality, order, hash and clones of these and of `InstanceOf`
-//!   are those of what they hold (`laws::values_are_compared_by_what_they_hold`).
-//! - An `Array` means what the array means; it is compared, ordered, hashed and cloned as that, and gives its elements back
-//!   (`laws::arrays_are_their_elements`, `laws::arrays_are_ordered_as_slices`). It is made of a list of as many elements
-//!   (`laws::arrays_are_made_of_lists`).
-//! - The fields of an `InstanceOf` are the name of the type and then the value, and both are always there
-//!   (`laws::instance_of_has_two_fields`).
-//! - A kind of string says what its strings are to a codec (`CodecString`): `as_any` makes the string of given units, and
-//!   `from_any` makes one of these units again (`found`), and of no other string (`only`). `specs/AnyStrings.antt` has the
-//!   content of a string of whatever kind.
-//! - What each type means is a word of `specs/Kinds.antt`: `set_of_type`, `any_type`, `implicit_type`, `explicit_type`
-//!   and `instance_of_components`.
-//! - The words for a type of your own are in `specs/Words.antt`, from all crates below.
+//! - Two sets are equal if and only if some rearrangement of the second is element by element equal to the first
+//!   (`equal_sets_have_the_same_elements`, `SetOf::eq_slice`, by `SameElements` of `specs/Multisets.antt`).
+//! - `SetOf::insert` puts the element last (`inserted`), or gives it back (`given_back`) and changes nothing (`unchanged`);
+//!   `SetOf::remove` takes the first equal one (`found`, `taken`). `from_slice`, `from_array` and `try_clone` hold clones
+//!   (`clones`).
+//! - An `Array` means what its array means (`laws::arrays_are_their_elements`).
+//! - `CodecString::from_any` makes a string of the units of one of its kind (`found`), and of no other (`only`).
+//! - `Any`, `Implicit`, `Explicit` and `InstanceOf` are compared, ordered, hashed and cloned by what they hold
+//!   (`laws::values_are_compared_by_what_they_hold`).
 //!
-//! `SetOf::with_capacity`, `insert`, `try_insert`, `to_vec`, `from_slice`, `from_array` and `try_clone`, and `Any::try_clone` may
-//! allocate, and fail only if memory runs out; so may `AsnType::constraints` of a type with a permitted alphabet. No other call
-//! takes any.
+//! Each type means a word of `specs/Kinds.antt`, as `set_of_type`. `specs/Words.antt` has the words for a type of your own,
+//! from all crates below; `specs/AnyStrings.antt` the content of a string of whatever kind; `specs/formers` how a set holds
+//! elements of its own type. A call that allocates fails only if memory runs out.
 #![tactic(auto, using(asn1_tags::proofs::Leaves::tree_shapes))]
 
 mod any;

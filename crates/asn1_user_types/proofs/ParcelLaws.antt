@@ -1,4 +1,4 @@
--- A `Parcel` can be inside other types.
+-- A `Parcel` is well tagged.
 use Rattle.std.proofs.Common.{rules}
 use Rattle.asn1_schema.specs.model.Meaning.{IsWellTagged}
 use Rattle.asn1_user_types.specs.ParcelAlternatives.{parcel_meaning}

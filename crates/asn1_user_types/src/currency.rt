@@ -56,7 +56,7 @@ impl Enumerated for Currency {
     ghost agrees = { enumeration_agrees };
 }
 
-/// A `Currency` can be inside other types.
+/// A `Currency` is well tagged.
 pub fn currency_is_well_tagged()
     ensures { IsWellTagged ⟦<Currency as AsnType>⟧.meaning }
 {}

@@ -88,7 +88,7 @@ impl ConstructedType for Order {
     ghost agrees = { constructed_agrees };
 }
 
-/// An `Order` can be inside other types: no two of its components share a tag.
+/// An `Order` is well tagged: no two of its components share a tag.
 pub fn order_is_well_tagged()
     ensures { IsWellTagged ⟦<Order as AsnType>⟧.meaning }
 {}

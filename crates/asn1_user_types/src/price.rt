@@ -77,7 +77,7 @@ impl ConstructedType for Price {
     ghost agrees = { constructed_agrees };
 }
 
-/// A `Price` can be inside other types.
+/// A `Price` is well tagged.
 pub fn price_is_well_tagged()
     ensures { IsWellTagged ⟦<Price as AsnType>⟧.meaning }
 {}

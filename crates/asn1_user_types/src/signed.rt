@@ -81,7 +81,7 @@ impl<T: AsnType> ConstructedType for Signed<T> {
     ghost agrees = { constructed_agrees };
 }
 
-/// A `Signed` can be inside other types if its content can.
+/// A `Signed` is well tagged if its content is.
 pub fn signed_is_well_tagged<T: AsnType>()
     ensures { IsWellTagged T.meaning → IsWellTagged ⟦<Signed<T> as AsnType>⟧.meaning }
 {}

@@ -99,7 +99,7 @@ impl ConstructedType for ChildInformation {
     ghost agrees = { constructed_agrees };
 }
 
-/// A `ChildInformation` can be inside other types: no two of its components share a tag.
+/// A `ChildInformation` is well tagged: no two of its components share a tag.
 pub fn child_information_is_well_tagged()
     ensures { IsWellTagged ⟦<ChildInformation as AsnType>⟧.meaning }
 {}

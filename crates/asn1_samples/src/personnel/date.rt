@@ -32,7 +32,7 @@ impl AsnType for Date {
     }
 }
 
-/// A `Date` can be inside other types.
+/// A `Date` is well tagged.
 pub fn date_is_well_tagged()
     ensures { IsWellTagged ⟦<Date as AsnType>⟧.meaning }
 {}

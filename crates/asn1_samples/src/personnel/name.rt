@@ -98,7 +98,7 @@ impl ConstructedType for Name {
     ghost agrees = { constructed_agrees };
 }
 
-/// A `Name` can be inside other types.
+/// A `Name` is well tagged.
 pub fn name_is_well_tagged()
     ensures { IsWellTagged ⟦<Name as AsnType>⟧.meaning }
 {}

@@ -191,7 +191,7 @@ impl ConstructedType for PersonnelRecord {
     ghost agrees = { constructed_agrees };
 }
 
-/// A `PersonnelRecord` can be inside other types: no two of its components share a tag.
+/// A `PersonnelRecord` is well tagged: no two of its components share a tag.
 pub fn personnel_record_is_well_tagged()
     ensures { IsWellTagged ⟦<PersonnelRecord as AsnType>⟧.meaning }
 {}
