@@ -1,4 +1,4 @@
-//! Compiles modules of ASN.1 to a crate of Rust types, which the check proves with nothing written by hand.
+//! Compiles modules of ASN.1 to a crate of Rust types, for the check to prove.
 //!
 //! `asn1_compilation` does the work: its contract says that there are files if and only if no message is an error. The program
 //! reads the arguments and the files, and writes the messages and the files. docs/COMPILER.md says what of X.680 is taken.

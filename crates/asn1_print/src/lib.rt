@@ -1,4 +1,4 @@
-//! A resolved schema as the files of a crate of Rust types, in the form that the check proves with nothing written by hand.
+//! A resolved schema as the files of a crate of Rust types, in the form of docs/TYPES.md.
 //!
 //! [`print_crate`] makes a file for each SEQUENCE, SET, CHOICE and ENUMERATED, with its definition in ASN.1 as its comment. Types
 //! without a name get one from where they are used; a type that is another under a name is an alias. Values, named numbers and
@@ -10,8 +10,8 @@
 //! | [`Request`], [`Extern`] | a schema with its texts, and the types that exist already |
 //! | [`Printed`], [`PrintedFile`] | the files, and what cannot be printed |
 //!
-//! What cannot be printed is an error with its place, and what is not carried, as the size of a string, is a warning. The check
-//! proves what is printed, so no contract covers the text. The call fails only if memory runs out, and ends for each schema.
+//! What cannot be printed is an error with its place, and what is not carried, as the size of a string, is a warning. No contract
+//! covers the text: the check of the printed crate proves it. The call fails only if memory runs out, and ends for each schema.
 #![tactic(auto)]
 
 mod bodies;

@@ -1,8 +1,8 @@
 //! The text of Rust types for SEQUENCE and SET types of ASN.1, and the parts that types of each kind share.
 //!
 //! A file is given as data: a type with the names of its parts, the types of these as code has them, and their tagging
-//! ([`TypeFile`]). The calls append the code to a `Draft` of `asn1_rust_code`, in the form that the check proves with nothing
-//! written by hand. `asn1_rust_types` makes whole files.
+//! ([`TypeFile`]). The calls append the code to a `Draft` of `asn1_rust_code`, in the form of docs/TYPES.md. `asn1_rust_types`
+//! makes whole files.
 //!
 //! | Item | What it is |
 //! |---|---|
@@ -17,7 +17,7 @@
 //! | [`identifier_code`], [`owned`] | the call that names a type, and texts |
 //! | [`alias_file`], [`marker_file`], [`constant_file`] | files that are no type |
 //!
-//! The text is proved when it is checked, so no contract covers it. Calls fail only if memory runs out.
+//! No contract covers the text: the check of the printed crate proves it. Calls fail only if memory runs out.
 #![tactic(auto)]
 
 mod aliases;

@@ -1,4 +1,4 @@
-//! The text of Rust types for types of ASN.1, in the form that the check proves with nothing written by hand.
+//! The text of Rust types for types of ASN.1, in the form of docs/TYPES.md.
 //!
 //! | Item | What it is |
 //! |---|---|
@@ -6,8 +6,8 @@
 //! | [`root_file`], [`ModuleNames`] | the root file of a crate |
 //! | [`proof_files`], [`ProofFile`] | the proofs that the check does not find by itself |
 //!
-//! The text is in the layout of `rt fmt`. It is proved when it is checked, so no contract covers it. Calls fail only if memory
-//! runs out.
+//! The text is in the layout of `rt fmt`. No contract covers it: the check of the printed crate proves it. Calls fail only if
+//! memory runs out.
 #![tactic(auto)]
 
 mod choice;
