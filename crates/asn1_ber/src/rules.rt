@@ -102,4 +102,6 @@ fn normal_octets(alloc: Global, octets: Vec<u8>) -> Result<Vec<u8>, EncodeError>
 }
 
 /// What was written is no element of BER in normal form.
-const NOT_NORMAL: EncodeError = EncodeError::Custom("a tag is universal 0, or an open type not normal");
+const NOT_NORMAL: EncodeError = EncodeError::Custom(
+    "a tag is universal 0, or an open type not normal",
+);
