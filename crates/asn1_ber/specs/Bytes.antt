@@ -1,4 +1,6 @@
 -- The BER of records (X.690, 8), in normal form: an element for each, with definite lengths of the fewest octets, and what is inside.
+-- No record tells a component that is its DEFAULT (8.9.3) or bits with names (8.6.2.4), so a DEFAULT that is written, and more or
+-- fewer zeros at the end of such bits, are other records.
 use Rattle.std.specs.Prelude.{◌≡◌, ◌≢◌, ◌⊎◌, ℕ, ⊤, true, false, Bool, IsTrue, List, []}
 use Rattle.asn1_ber_items.specs.Headers.{end_of_contents}
 use Rattle.asn1_ber_items.specs.LooseContents.{AreLooseBits, IsTruthValue}

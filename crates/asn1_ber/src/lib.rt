@@ -14,8 +14,8 @@
 //! The main promises (docs/PROMISES.md has more):
 //!
 //! - [`BerRules`] keeps the laws of `Rules` of `asn1_rules`, so `round_trip` holds of it. Octets carry records if they are elements
-//!   whose normal form is the BER of these, up to the order inside sets (`carries` of [`laws`]). So each spelling of a valid value of
-//!   a well-tagged type without its DEFAULT values is read as that value, unless memory runs out or the depth is too small (`read`).
+//!   whose normal form is the BER of these, up to the order inside sets (`carries` of [`laws`]). So each spelling of the elements of
+//!   a valid value of a well-tagged type is read as that value (docs/DIFFERENCES.md: DEFAULT, named bits, open types), unless memory runs out or the depth is too small (`read`).
 //! - What is written is DER (`writes_der`), and BER. Records are rejected that have no DER, and those whose DER is not its own normal
 //!   form: with tag universal 0, or with an open type that is not in normal form (`rejects`).
 //! - [`BerReader`] takes one whole element for one value (`cut`), and is steady. For a well-tagged type it belongs to these rules

@@ -16,7 +16,8 @@
 //!
 //! - The answer has the elements of the bytes, each with its tag and its form, primitive or constructed, and with the same contents
 //!   octets if it is primitive (`only`, by `Spells`).
-//! - Bytes that are elements of BER have one normal form, and it is the answer, unless memory runs out (`found`).
+//! - Bytes that are elements of BER, with tag numbers below 2^32, have one normal form, and it is the answer, unless memory runs out
+//!   (`found`).
 //! - The first element of some bytes has one normal form and one end ([`laws::normal_forms_are_unique`]), whatever follows it
 //!   ([`laws::trailing_bytes_stay`]). An element of DER is its own normal form ([`laws::der_is_normal`]).
 //! - The octets of a string in pieces are those of its primitive pieces, one after another (`AreOctetPieces`). Of a bit string each piece

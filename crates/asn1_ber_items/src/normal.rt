@@ -10,7 +10,7 @@ use std::alloc::Global;
 /// The elements of which the bytes are, each with a definite length of the fewest octets (X.690, 8.1.3 and 10.1).
 ///
 /// # Errors
-/// [`ItemError::Memory`]; else the bytes are no elements of BER: [`ItemError::Missing`] where they end too early, outside all
+/// [`ItemError::Memory`]; else the bytes are no elements of BER with tag numbers below 2^32: [`ItemError::Missing`] where they end too early, outside all
 /// elements of definite lengths, with the number of bytes that are missing of the part that is read, and otherwise
 /// [`ItemError::Malformed`].
 pub fn normal_form(alloc: Global, bytes: &[u8]) -> Result<Vec<u8>, ItemError>
@@ -37,7 +37,7 @@ pub struct FrontElement<'a> {
 /// The element with which the bytes begin, with definite lengths of the fewest octets (X.690, 8.1.3 and 10.1).
 ///
 /// # Errors
-/// [`ItemError::Memory`]; else the bytes begin with no element of BER: [`ItemError::Missing`] where they end too early,
+/// [`ItemError::Memory`]; else the bytes begin with no element of BER with such tag numbers: [`ItemError::Missing`] where they end too early,
 /// outside all elements of definite lengths, with the number of bytes that are missing of the part that is read, and otherwise
 /// [`ItemError::Malformed`].
 pub fn front_element(alloc: Global, bytes: &[u8]) -> Result<FrontElement<'_>, ItemError>

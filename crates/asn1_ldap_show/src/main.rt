@@ -2,7 +2,7 @@
 //! pieces they come, and writes each to standard output as soon as it is whole, as lines for a person (`message_text` of
 //! `asn1_ldap_text`).
 //!
-//! A message that is damaged, or cut off by the end of the input, ends the program: a line on standard error has the byte of the
+//! A message that is damaged, nested in more than 64 scopes, or cut off by the end of the input, ends the program: a line on standard error has the byte of the
 //! stream at which it begins, from 0, and what came before it is shown. The messages are read as BER, in any spelling.
 //!
 //! The program takes no arguments. It ends with 0 if the whole input was shown, with 1 after such a message, and with 2 if memory
