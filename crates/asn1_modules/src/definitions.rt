@@ -8,35 +8,34 @@ use asn1_names::{DefinedName, ImportedName, Place};
 use asn1_notation::{Import, Module};
 use std::alloc::{AllocError, Global};
 
-/// The names of the definitions of the modules of some texts.
-pub(crate) fn list_defined<'a>(
-    alloc: Global,
-    sources: &[Source<'a>],
-) -> Result<Vec<DefinedName<'a>>, AllocError>
-    ensures { IfOk result (λ names.
-        map (λ defined. defined.place) names.items ≡ defined_places sources.now) }
-{
-    let mut names = Vec::new(alloc);
-    for (index, source) in sources.iter().enumerate() {
-        add_defined_of_source(&mut names, *source, index)?;
-    }
-    Ok(names)
+/// The names that modules define and import.
+#[derive(Drop)]
+pub(crate) struct ListedNames<'a> {
+    /// The names of the definitions.
+    pub(crate) defined: Vec<DefinedName<'a>>,
+    /// The names behind IMPORTS.
+    pub(crate) imported: Vec<ImportedName<'a>>,
 }
 
-// Adds the names of the definitions of the modules of a text.
-fn add_defined_of_source<'a>(
-    names: &mut Vec<DefinedName<'a>>,
-    source: Source<'a>,
-    index: usize,
-) -> Result<(), AllocError>
-    ensures { OnOk result (map (λ defined. defined.place) names.new.items ≡
-        map (λ defined. defined.place) names.old.items
-        ++ flat_map (defined_in index) source.entry.modules.now) }
+/// The names that the modules of some texts define and import.
+pub(crate) fn list_names<'a>(
+    alloc: Global,
+    sources: &[Source<'a>],
+) -> Result<ListedNames<'a>, AllocError>
+    ensures defined { IfOk result (λ names.
+        map (λ defined. defined.place) names.defined.items ≡ defined_places sources.now) }
+    ensures imported { IfOk result (λ names.
+        map (λ imported. imported.place) names.imported.items ≡ imported_places sources.now) }
 {
-    for module in source.modules {
-        add_defined(names, source, index, module)?;
+    let mut defined = Vec::new(alloc);
+    let mut imported = Vec::new(alloc);
+    for (index, source) in sources.iter().enumerate() {
+        for module in source.modules {
+            add_defined(&mut defined, *source, index, module)?;
+            add_imported(&mut imported, *source, index, module)?;
+        }
     }
-    Ok(())
+    Ok(ListedNames { defined, imported })
 }
 
 // Adds the names of the definitions of a module.
@@ -58,37 +57,6 @@ fn add_defined<'a>(
                 span: assignment.name,
             },
         })?;
-    }
-    Ok(())
-}
-
-/// The names that the modules of some texts import.
-pub(crate) fn list_imported<'a>(
-    alloc: Global,
-    sources: &[Source<'a>],
-) -> Result<Vec<ImportedName<'a>>, AllocError>
-    ensures { IfOk result (λ names.
-        map (λ imported. imported.place) names.items ≡ imported_places sources.now) }
-{
-    let mut names = Vec::new(alloc);
-    for (index, source) in sources.iter().enumerate() {
-        add_imported_of_source(&mut names, *source, index)?;
-    }
-    Ok(names)
-}
-
-// Adds the names that the modules of a text import.
-fn add_imported_of_source<'a>(
-    names: &mut Vec<ImportedName<'a>>,
-    source: Source<'a>,
-    index: usize,
-) -> Result<(), AllocError>
-    ensures { OnOk result (map (λ imported. imported.place) names.new.items ≡
-        map (λ imported. imported.place) names.old.items
-        ++ flat_map (imported_in index) source.entry.modules.now) }
-{
-    for module in source.modules {
-        add_imported(names, source, index, module)?;
     }
     Ok(())
 }

@@ -4,7 +4,7 @@ ghost use Rattle.asn1_modules.specs.Places.{defined_places, imported_places};
 
 use crate::arcs::collect_arcs;
 use crate::collector::Collector;
-use crate::definitions::{list_defined, list_imported};
+use crate::definitions::{ListedNames, list_names};
 use crate::source::Source;
 use crate::types::collect_type;
 use crate::values::collect_value;
@@ -21,8 +21,7 @@ pub fn collect_names<'a>(alloc: Global, sources: &[Source<'a>]) -> Result<Names<
     ensures imported { IfOk result (λ names.
         map (λ imported. imported.place) names.imported.items ≡ imported_places sources.now) }
 {
-    let defined = list_defined(alloc, sources)?;
-    let imported = list_imported(alloc, sources)?;
+    let ListedNames { defined, imported } = list_names(alloc, sources)?;
     let used = collect_used(alloc, sources)?;
     Ok(Names {
         defined,
