@@ -33,6 +33,7 @@ TABLE = {
     "greetings": ("greetings", [], []),
     "ldap": ("asn1_ldap", [f"--extern={name}=asn1_recursive::{name}" for name in FILTERS], ["asn1_recursive"]),
     "snmp": ("snmp", [], []),
+    "tickets": ("tickets", [], []),
 }
 
 faults = 0
@@ -133,12 +134,21 @@ RIGHT = "M DEFINITIONS ::= BEGIN\nA ::= SEQUENCE { a NULL }\nEND\n"
 
 def try_arguments():
     """Runs the program on wrong arguments and modules, and on each way to write."""
-    for arguments in [], ["9"], ["x", "--extern", "A=b"], ["x", "--unknown"]:
+    for arguments in [], ["9"], ["type"], ["std"], ["x", "--extern", "A=b"], ["x", "--extern", "A=type::B"], ["x", "--unknown"]:
         written, told, status = run(arguments, RIGHT)
         expect(f"{arguments}", (written, told != "", status), ("", True, 2))
     written, told, status = run(["x"], WRONG)
     expect("a module with errors", (written, [line[:7] for line in told.splitlines()], status), ("", ["-:2:7: ", "-:3:26:"], 1))
     expect("no module", run(["x"], ""), ("", "-:1:1: there is no module\n", 1))
+    twice = RIGHT + RIGHT.replace("M", "N", 1)
+    expect("a type of two modules that exists", run(["x", "--extern", "A=y::A"], twice),
+           ("", "error: several modules define the type 'A'; name one as MODULE.A\n", 1))
+    expect("one of them that exists", run(["x", "--check", "--extern", "N.A=y::A"], twice), ("", "", 0))
+    many = "M DEFINITIONS AUTOMATIC TAGS ::= BEGIN\nA ::= SEQUENCE { ..., " + ", ".join(f"a{i} NULL" for i in range(145)) + " }\nEND\n"
+    expect("145 additions", run(["x"], many), ("", "-:2:23: a type of more than 144 components is not supported\n", 1))
+    unnamed = "M DEFINITIONS ::= BEGIN\nA ::= SEQUENCE OF SEQUENCE { a NULL }\nB ::= [1] CHOICE { a NULL }\nEND\n"
+    expect("types without a name", sorted(files_of(run(["x"], unnamed)[0])),
+           ["src/a_element.rt", "src/aliases.rt", "src/b_content.rt", "src/lib.rt", "src/tags.rt"])
     expect("--check", run(["x", "--check"], RIGHT), ("", "", 0))
     written, told, status = run(["x", "--help"])
     expect("--help", ("--extern" in written, told, status), (True, "", 0))

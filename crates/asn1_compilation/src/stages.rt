@@ -3,7 +3,7 @@ ghost use Rattle.std.specs.Prelude.{◌≡◌, IfOk, is_some};
 ghost use Rattle.asn1_compilation.specs.Messages as spec;
 
 use crate::compiled::Compiled;
-use crate::externs::unknown_externs;
+use crate::externs::extern_errors;
 use crate::job::{Input, Job};
 use crate::message::messages_of;
 use crate::problems::syntax_problems;
@@ -94,7 +94,7 @@ fn compile_sources(
     let mut printed = print_schema(alloc, job.crate_name, job.externs, sources, &schema)?;
     problems.append(&mut printed.problems)?;
     let mut messages = messages_of(alloc, job.inputs, problems.as_slice())?;
-    messages.append(&mut unknown_externs(alloc, job.externs, &schema)?)?;
+    messages.append(&mut extern_errors(alloc, job.externs, &schema)?)?;
     Ok(Compiled::new(messages, printed.files))
 }
 

@@ -32,7 +32,9 @@ fn command<'a>(alloc: Global) -> Result<Command<'a>, AllocError> {
         .long("extern")
         .action(ArgAction::Append)
         .value_name("NAME=PATH")
-        .help("A type that exists already, as Filter=asn1_recursive::Filter");
+        .help(
+            "A type that exists already, as Filter=asn1_recursive::Filter; if several modules define it, as Module.Filter=..",
+        );
     let check = Arg::new(alloc, "check")
         .long("check")
         .action(ArgAction::SetTrue)

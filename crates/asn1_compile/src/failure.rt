@@ -23,11 +23,13 @@ impl Failure<'_> {
         let _ = match self {
             Failure::CrateName(name) => {
                 eprintln!(rt;
-                    "error: '{name}' is not the name of a crate: lowercase letters, digits and '_', with a letter first"
+                    "error: '{name}' cannot be the name of this crate: lowercase letters, digits and '_', with a letter first, and no word of Rust or crate that types name"
                 )
             }
             Failure::Extern(argument) => {
-                eprintln!(rt; "error: '{argument}' is not of the form NAME=crate::Type")
+                eprintln!(rt;
+                    "error: '{argument}' is not of the form NAME=crate::Type or MODULE.NAME=crate::Type"
+                )
             }
             Failure::Input(name, error) => eprintln!(rt; "error: {name}: {error}"),
             Failure::Output(error) => eprintln!(rt; "error: {error}"),

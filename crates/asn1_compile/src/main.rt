@@ -8,7 +8,7 @@
 //! | `CRATE` | the name of the crate |
 //! | `FILE`.. | reads these files as one set of modules, or standard input for `-` or if there is none |
 //! | `--out DIR` | writes the files into this folder; otherwise they go to standard output, each behind a line `=== PATH` |
-//! | `--extern NAME=PATH` | a type that exists already, as `Filter=asn1_recursive::Filter` |
+//! | `--extern NAME=PATH` | a type that exists already, as `Filter=asn1_recursive::Filter`, or with its module, `Module.Filter=..` |
 //! | `--check` | writes no file |
 //! | `--help` | writes the usage |
 //!

@@ -22,6 +22,7 @@ pub(crate) fn push_file(
         _ => false,
     };
     let file = TypeFile {
+        crate_name: plan.text(plan.request.crate_name)?,
         page: definition_lines(alloc, owner.summary, owner.notation)?,
         module: plan.text(module)?,
         name: plan.text(name)?,

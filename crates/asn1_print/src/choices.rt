@@ -24,7 +24,6 @@ pub(crate) fn choice_with(
         )?;
     }
     Ok(ChoiceType {
-        crate_name: plan.text(plan.request.crate_name)?,
         alternatives: lowered,
         extension_index: if alternatives.is_extensible {
             Some(alternatives.root.len())

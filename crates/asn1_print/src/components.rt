@@ -5,7 +5,7 @@ use crate::plan::Plan;
 use crate::tags::{Beginning, first_tags, least_rank, universal};
 use crate::types::PartTexts;
 use asn1_names::Place;
-use asn1_resolved::{Component, Components, Type, Usage};
+use asn1_resolved::{Addition, Component, Components, Type, Usage};
 use asn1_rust_code::{Import, TagNumber, Tagging, TypeName};
 use asn1_rust_components::{Constructed, Tree};
 use asn1_rust_names::{TakenNames, snake_case};
@@ -41,11 +41,8 @@ pub(crate) fn constructed_with(
     tag: Option<TagNumber>,
     is_set: bool,
 ) -> Result<Constructed, AllocError> {
-    if let (true, Some(first)) = (lowered.len() > MOST, components.root.as_slice().first()) {
-        plan.error(
-            first.place,
-            "a type of more than 144 components is not supported",
-        )?;
+    if let Some(place) = first_place(components) {
+        require_few(plan, lowered.len(), place)?;
     }
     let table = if is_set {
         table_of(plan, components)?
@@ -63,6 +60,28 @@ pub(crate) fn constructed_with(
         table,
         trees: Vec::new(plan.alloc),
     })
+}
+
+/// Refuses a type of more components than one can have.
+pub(crate) fn require_few(
+    plan: &mut Plan<'_, '_>,
+    count: usize,
+    place: Place,
+) -> Result<(), AllocError> {
+    if count > MOST {
+        plan.error(place, "a type of more than 144 components is not supported")?;
+    }
+    Ok(())
+}
+
+// The place of the first component: of the root, or else of the additions.
+fn first_place(components: &Components<'_>) -> Option<Place> {
+    match (components.root.as_slice(), components.additions.as_slice()) {
+        ([first, ..], _) => Some(first.place),
+        ([], [Addition::Component(first), ..]) => Some(first.place),
+        ([], [Addition::Group(group), ..]) => Some(group.as_slice().first()?.place),
+        ([], []) => None,
+    }
 }
 
 // The indices of the components of a SET, in the order of their tags.

@@ -29,7 +29,6 @@ pub(crate) fn enumeration_of(
         items.push(item_of(plan, item, &mut variants)?)?;
     }
     Ok(asn1_rust_components::Enumeration {
-        crate_name: plan.text(plan.request.crate_name)?,
         items,
         extension_index: if enumeration.is_extensible {
             Some(enumeration.root.len())

@@ -2,7 +2,7 @@
 use crate::bodies::push_file;
 use crate::choices::{alternative_with, choice_with};
 use crate::components::{
-    component_with, constructed_with, group_component, group_text, group_with, tree_of,
+    component_with, constructed_with, group_component, group_text, group_with, require_few, tree_of,
 };
 use crate::enumerations::enumeration_of;
 use crate::notation::{component_text, text_of};
@@ -240,6 +240,9 @@ fn group_of(
             component.place,
         )?)?;
         components.push(lowered)?;
+    }
+    if let Some(first) = group.first() {
+        require_few(plan, components.len(), first.place)?;
     }
     let summary = format!(in alloc; "A group of additions to `{owner_name}`.")?;
     let notation = group_text(plan, group)?;

@@ -1,7 +1,7 @@
 //! The names of the definitions of a schema, and the files as far as they were made.
 use crate::request::{PrintedFile, Request};
 use asn1_names::Place;
-use asn1_resolved::{Problem, Severity, Type, TypeKind};
+use asn1_resolved::{Problem, Severity, Type, TypeDefinition, TypeKind};
 use asn1_rust_code::{Import, TagNumber, TypeName, class_word, order_of};
 use asn1_rust_components::{Alias, Constant, Marker};
 use asn1_rust_names::{TakenNames, camel_case, snake_case};
@@ -21,6 +21,7 @@ const RESERVED: &[&str] = &[
     "Constraints",
     "ConstrainedInteger",
     "ConstructedType",
+    "D",
     "Debug",
     "Decode",
     "DecodeByIndex",
@@ -32,6 +33,7 @@ const RESERVED: &[&str] = &[
     "Decoded",
     "Decoder",
     "Drop",
+    "E",
     "Encode",
     "EncodeChoice",
     "EncodeError",
@@ -175,8 +177,11 @@ pub(crate) fn plan_of<'r, 'a>(
     for module in MODULES {
         let _module = plan.taken_modules.take(module)?;
     }
+    for external in request.externs {
+        let _name = plan.taken_names.take(external.rust_name)?;
+    }
     for definition in &request.schema.types {
-        let planned = plan.planned(definition.name, has_file(&definition.definition))?;
+        let planned = plan.planned(definition)?;
         plan.types.push(planned)?;
     }
     Ok(plan)
@@ -184,12 +189,11 @@ pub(crate) fn plan_of<'r, 'a>(
 
 impl Plan<'_, '_> {
     // The names of a definition.
-    fn planned(&mut self, name: &[u8], has_file: bool) -> Result<PlannedType, AllocError> {
-        let external = self
-            .request
-            .externs
-            .iter()
-            .position(|external| external.name == name);
+    fn planned(&mut self, definition: &TypeDefinition<'_>) -> Result<PlannedType, AllocError> {
+        let external = self.request.externs.iter().position(|external| external.is_for(
+            definition.module,
+            definition.name,
+        ));
         if let Some(index) = external {
             if let Some(found) = self.request.externs.get(index) {
                 return Ok(PlannedType {
@@ -199,9 +203,9 @@ impl Plan<'_, '_> {
                 });
             }
         }
-        let camel = camel_case(self.alloc, name)?;
+        let camel = camel_case(self.alloc, definition.name)?;
         let name = self.new_name(camel.as_str())?;
-        let module = if has_file {
+        let module = if has_file(&definition.definition) {
             self.new_module(name.as_str())?
         } else {
             self.text("aliases")?
@@ -303,6 +307,7 @@ impl Plan<'_, '_> {
         Ok(TypeName {
             text: self.text(text)?,
             imports: Vec::new(self.alloc),
+            is_explicit: false,
         })
     }
 
@@ -327,6 +332,7 @@ impl Plan<'_, '_> {
         Ok(TypeName {
             text: self.text(name)?,
             imports,
+            is_explicit: false,
         })
     }
 
@@ -343,9 +349,38 @@ impl Plan<'_, '_> {
                 Some(_) => {
                     self.imported_type(true, planned.module.as_str(), planned.name.as_str())
                 }
-                None => self.local_type(planned.module.as_str(), planned.name.as_str()),
+                None => {
+                    let mut name = self.local_type(planned.module.as_str(), planned.name.as_str())?;
+                    name.is_explicit = self.is_explicit(index);
+                    Ok(name)
+                }
             },
             None => self.plain_type("()"),
+        }
+    }
+
+    // Whether the type with an index is behind an explicit tag, by its definition or that of a type that it refers to.
+    fn is_explicit(&self, start: usize) -> bool {
+        let schema = self.request.schema;
+        let mut index = start;
+        for _ in 0..schema.types.len() {
+            match schema.types.get(index) {
+                Some(definition) if !self.is_external(index) => match &definition.definition.kind {
+                    TypeKind::Reference(next) => index = *next,
+                    TypeKind::Tagged(tag, _) => return tag.is_explicit,
+                    _ => return false,
+                },
+                _ => return false,
+            }
+        }
+        false
+    }
+
+    /// Whether the type with an index exists already.
+    pub(crate) fn is_external(&self, index: usize) -> bool {
+        match self.types.get(index) {
+            Some(planned) => planned.external.is_some(),
+            None => true,
         }
     }
 

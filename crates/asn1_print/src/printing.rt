@@ -59,7 +59,7 @@ fn add_definition(
     let shown = asn1_name.as_str();
     let shown_module = asn1_module.as_str();
     let summary = format!(in alloc; "`{shown}` of the module `{shown_module}`.")?;
-    let content = if has_file(&definition.definition) {
+    let content = if has_file(&definition.definition) || !holds_file(&definition.definition) {
         ""
     } else {
         "Content"
@@ -110,6 +110,17 @@ fn add_alias(
     };
     plan.aliases.push(alias)?;
     Ok(())
+}
+
+// Whether a type without a name is right below the tags of a type, so that a file is made for it.
+#[cycle(holds_file)]
+fn holds_file(definition: &Type<'_>) -> bool {
+    match &definition.kind {
+        TypeKind::Tagged(_, inner) => holds_file(inner),
+        TypeKind::Sequence(_) | TypeKind::Set(_) => true,
+        TypeKind::Choice(_) | TypeKind::Enumerated(_) => true,
+        _ => false,
+    }
 }
 
 // The names of an INTEGER or a BIT STRING, below its tags too, and the type of their constants.
@@ -244,7 +255,7 @@ fn push_externs(
     lines.push(String::from_str(alloc, "Their types of other crates:")?)?;
     lines.push(String::new(alloc))?;
     for external in externs {
-        let name = text_of(alloc, external.name)?;
+        let name = extern_name(alloc, external)?;
         let name = name.as_str();
         let Extern {
             path,
@@ -254,4 +265,18 @@ fn push_externs(
         lines.push(format!(in alloc; "- `{name}` is `{path}::{rust_name}`")?)?;
     }
     Ok(())
+}
+
+// The name in ASN.1 of a type that exists already, with its module if that is named.
+fn extern_name(alloc: Global, external: &Extern<'_>) -> Result<String, AllocError> {
+    let name = text_of(alloc, external.name)?;
+    match external.module {
+        Some(module) => {
+            let module = text_of(alloc, module)?;
+            let module = module.as_str();
+            let name = name.as_str();
+            format!(in alloc; "{module}.{name}")
+        }
+        None => Ok(name),
+    }
 }

@@ -8,19 +8,11 @@ use std::alloc::AllocError;
 pub(crate) fn report_cycles(plan: &mut Plan<'_, '_>) -> Result<(), AllocError> {
     let count = plan.request.schema.types.len();
     for index in 0..count {
-        if !is_external(plan, index) && holds_itself(plan, index)? {
+        if !plan.is_external(index) && holds_itself(plan, index)? {
             report_cycle(plan, index)?;
         }
     }
     Ok(())
-}
-
-// Whether the type with an index exists already.
-fn is_external(plan: &Plan<'_, '_>, index: usize) -> bool {
-    match plan.types.get(index) {
-        Some(planned) => planned.external.is_some(),
-        None => true,
-    }
 }
 
 // Reports that the type with an index holds itself.
@@ -58,7 +50,7 @@ fn holds_itself(plan: &Plan<'_, '_>, index: usize) -> Result<bool, AllocError> {
             if *reference == index {
                 return Ok(true);
             }
-            if !is_external(plan, *reference) && mark(&mut reached, *reference) {
+            if !plan.is_external(*reference) && mark(&mut reached, *reference) {
                 waiting.push(*reference)?;
             }
         }

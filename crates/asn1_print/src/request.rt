@@ -18,12 +18,25 @@ pub struct Request<'r, 'a> {
 /// A type that exists already.
 #[derive(Clone, Copy)]
 pub struct Extern<'a> {
+    /// The module that defines it; of any, if none is named.
+    pub module: Option<&'a [u8]>,
     /// The name in ASN.1.
     pub name: &'a [u8],
     /// The crate or the module in it, as `asn1_recursive`.
     pub path: &'a str,
     /// The name in Rust.
     pub rust_name: &'a str,
+}
+
+impl Extern<'_> {
+    /// Whether it is for the type of this name in this module.
+    pub fn is_for(&self, module: &[u8], name: &[u8]) -> bool {
+        let is_of_module = match self.module {
+            Some(known) => known == module,
+            None => true,
+        };
+        is_of_module && self.name == name
+    }
 }
 
 /// A file of a crate.

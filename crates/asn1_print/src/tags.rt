@@ -1,5 +1,5 @@
 //! The tags with which types begin.
-use asn1_notation::{StringKind, TagClass};
+use asn1_notation::TagClass;
 use asn1_resolved::{Alternative, Schema, Type, TypeKind};
 use asn1_rust_code::TagNumber;
 use std::alloc::{AllocError, Global};
@@ -68,7 +68,10 @@ fn own_tags(kind: &TypeKind<'_>) -> Beginning {
             class: tag.class,
             number: tag.number,
         }),
-        kind => Beginning::Leaf(universal(own_number(kind))),
+        kind => match kind.universal_number() {
+            Some(number) => Beginning::Leaf(universal(number)),
+            None => Beginning::Any,
+        },
     }
 }
 
@@ -77,42 +80,6 @@ fn is_choice(definition: &Type<'_>) -> bool {
     match &definition.kind {
         TypeKind::Choice(_) => true,
         _ => false,
-    }
-}
-
-// The number of the universal tag of a type that has one.
-fn own_number(kind: &TypeKind<'_>) -> u32 {
-    match kind {
-        TypeKind::Boolean => 1,
-        TypeKind::Integer(_) => 2,
-        TypeKind::BitString(_) => 3,
-        TypeKind::OctetString => 4,
-        TypeKind::Null => 5,
-        TypeKind::ObjectIdentifier => 6,
-        TypeKind::Enumerated(_) => 10,
-        TypeKind::Set(_) => 17,
-        TypeKind::SetOf(_) => 17,
-        TypeKind::String(kind) => string_number(*kind),
-        _ => 16,
-    }
-}
-
-fn string_number(kind: StringKind) -> u32 {
-    match kind {
-        StringKind::ObjectDescriptor => 7,
-        StringKind::Utf8 => 12,
-        StringKind::Numeric => 18,
-        StringKind::Printable => 19,
-        StringKind::Teletex => 20,
-        StringKind::Videotex => 21,
-        StringKind::Ia5 => 22,
-        StringKind::UtcTime => 23,
-        StringKind::GeneralizedTime => 24,
-        StringKind::Graphic => 25,
-        StringKind::Visible => 26,
-        StringKind::General => 27,
-        StringKind::Universal => 28,
-        StringKind::Bmp => 30,
     }
 }
 

@@ -76,11 +76,12 @@ pub(crate) fn wrapped(
     former: &str,
     argument: TypeName,
 ) -> Result<TypeName, AllocError> {
-    let TypeName { text, imports } = argument;
+    let TypeName { text, imports, .. } = argument;
     let text = text.as_str();
     Ok(TypeName {
         text: format!(in plan.alloc; "{former}<{text}>")?,
         imports,
+        is_explicit: false,
     })
 }
 
@@ -98,8 +99,8 @@ pub(crate) fn under_tag(
     };
     let wrapper = plan.library_type(former)?;
     let argument = inner.text.as_str();
-    let tag = marker.text.as_str();
-    let text = format!(in plan.alloc; "{former}<{tag}, {argument}>")?;
+    let marker_name = marker.text.as_str();
+    let text = format!(in plan.alloc; "{former}<{marker_name}, {argument}>")?;
     let mut imports = wrapper.imports;
     for import in &marker.imports {
         imports.push(import.copy(plan.alloc)?)?;
@@ -107,7 +108,11 @@ pub(crate) fn under_tag(
     for import in &inner.imports {
         imports.push(import.copy(plan.alloc)?)?;
     }
-    Ok(TypeName { text, imports })
+    Ok(TypeName {
+        text,
+        imports,
+        is_explicit: tag.is_explicit,
+    })
 }
 
 /// A SET OF elements of a type.

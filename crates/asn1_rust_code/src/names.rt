@@ -9,6 +9,8 @@ pub struct TypeName {
     pub text: String,
     /// The names that a file imports to write it.
     pub imports: Vec<Import>,
+    /// Whether it is `Explicit`, a type behind a tag of its own, which has no name.
+    pub is_explicit: bool,
 }
 
 impl TypeName {

@@ -149,8 +149,12 @@ pub fn owned(draft: &Draft, text: &str) -> Result<String, AllocError> {
     String::from_str(draft.alloc(), text)
 }
 
-/// The call that gives the name of a type.
-pub fn identifier_code(draft: &Draft, definition: &TypeName) -> Result<String, AllocError> {
+/// The code of the name of a type: a call, or the empty name of a type that has none.
+pub fn identifier_code(draft: &mut Draft, definition: &TypeName) -> Result<String, AllocError> {
+    if definition.is_explicit {
+        draft.use_names(&["Identifier"])?;
+        return owned(draft, "Identifier::EMPTY");
+    }
     let text = definition.in_path(draft.alloc())?;
     format!(in draft.alloc(); "{text}::identifier()")
 }

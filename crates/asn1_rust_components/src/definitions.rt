@@ -4,6 +4,8 @@ use asn1_rust_code::{Import, TagNumber, Tagging, TypeName};
 /// A file of a type.
 #[derive(Drop)]
 pub struct TypeFile {
+    /// The crate, as clauses name it.
+    pub crate_name: String,
     /// The lines of the page at its head.
     pub page: Vec<String>,
     /// The module that it is.
@@ -107,8 +109,6 @@ pub enum Tree {
 /// A CHOICE.
 #[derive(Drop)]
 pub struct ChoiceType {
-    /// The crate, as clauses name it.
-    pub crate_name: String,
     /// The alternatives.
     pub alternatives: Vec<Alternative>,
     /// The number of alternatives in front of the extension marker, if there is one.
@@ -135,8 +135,6 @@ pub struct Alternative {
 /// An ENUMERATED.
 #[derive(Drop)]
 pub struct Enumeration {
-    /// The crate, as clauses name it.
-    pub crate_name: String,
     /// The items.
     pub items: Vec<Item>,
     /// The number of items in front of the extension marker, if there is one.

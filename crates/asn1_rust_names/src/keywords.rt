@@ -11,6 +11,6 @@ const KEYWORDS: &[&str] = &[
 ];
 
 /// Whether a name is a word of the language.
-pub(crate) fn is_keyword(name: &str) -> bool {
+pub fn is_keyword(name: &str) -> bool {
     KEYWORDS.iter().any(|word| *word == name)
 }

@@ -9,6 +9,7 @@
 //! | [`snake_case`] | fields and modules | `ldap_message`, `message_id`, `type_` |
 //! | [`upper_case`] | constants | `LDAP_MESSAGE`, `MESSAGE_ID`, `TYPE` |
 //! | [`TakenNames`] | the names of a scope, told apart by a number | |
+//! | [`is_keyword`] | whether a name is a word of the language | |
 //!
 //! Two names of ASN.1 can give one name of Rust, as `a-b` and `aB` do. [`TakenNames::take`] puts a number behind the second.
 //! Names are compared without regard to case, since modules and types of one name, as `a_b` and `A_B`, are refused too.
@@ -24,4 +25,5 @@ mod tests;
 mod words;
 
 pub use cases::{camel_case, snake_case, upper_case};
+pub use keywords::is_keyword;
 pub use taken::TakenNames;

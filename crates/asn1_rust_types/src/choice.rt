@@ -8,7 +8,7 @@ use asn1_rust_components::{
 };
 use std::alloc::AllocError;
 
-/// The greatest number of alternatives that are read with a question mark.
+/// The greatest number of alternatives that are read with a question mark, if none is behind an explicit tag.
 const FEW: usize = 8;
 
 /// A CHOICE with its file.
@@ -86,8 +86,7 @@ pub enum {name} {{
     }
     draft.line(0, "}")?;
     draft.blank()?;
-    let crate_name = subject.body.crate_name.as_str();
-    use_variants(draft, crate_name, subject.file, variants.as_slice())
+    use_variants(draft, subject.file, variants.as_slice())
 }
 
 // Appends `DecodeChoiceByIndex`.
@@ -100,7 +99,8 @@ fn append_reader(draft: &mut Draft, subject: ChoiceSubject<'_>) -> Result<(), Al
         "Decoder",
         "alternative",
     ])?;
-    let is_short = subject.body.alternatives.len() <= FEW;
+    let is_short = subject.body.alternatives.len() <= FEW
+        && !subject.body.alternatives.iter().any(is_behind_tag);
     if !is_short {
         append_macro(draft, name)?;
     }
@@ -129,6 +129,11 @@ fn append_reader(draft: &mut Draft, subject: ChoiceSubject<'_>) -> Result<(), Al
     append_made(draft, subject.body.alternatives.as_slice())?;
     draft.line(0, "}")?;
     draft.blank()
+}
+
+// Whether an alternative is behind an explicit tag.
+fn is_behind_tag(alternative: &Alternative) -> bool {
+    matches!(alternative.tagging, Tagging::Explicit(_))
 }
 
 // Appends the list of alternatives with their variants.

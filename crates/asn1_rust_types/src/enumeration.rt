@@ -64,8 +64,7 @@ pub enum {name} {{
     }
     draft.line(0, "}")?;
     draft.blank()?;
-    let crate_name = subject.body.crate_name.as_str();
-    use_variants(draft, crate_name, subject.file, variants.as_slice())
+    use_variants(draft, subject.file, variants.as_slice())
 }
 
 // Appends the constants with the items.
@@ -148,7 +147,7 @@ fn append_row(draft: &mut Draft, name: &str, item: &Item) -> Result<(), AllocErr
 // Appends `EnumeratedItems`.
 fn append_items(draft: &mut Draft, subject: EnumerationSubject<'_>) -> Result<(), AllocError> {
     let name = subject.file.name.as_str();
-    let crate_name = subject.body.crate_name.as_str();
+    let crate_name = subject.file.crate_name.as_str();
     let module = subject.file.module.as_str();
     draft.use_names(&["EnumeratedItems"])?;
     draft.use_words(&["items_of"])?;

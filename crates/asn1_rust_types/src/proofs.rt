@@ -1,6 +1,8 @@
 //! The proofs that the check does not find by itself.
 use asn1_rust_code::Tagging;
-use asn1_rust_components::{Alternative, ChoiceType, Tree, TypeBody, TypeFile};
+use asn1_rust_components::{
+    Alternative, ChoiceType, Component, Constructed, Tree, TypeBody, TypeFile, Usage,
+};
 use std::alloc::{AllocError, Global};
 
 /// The greatest number of alternatives whose writer and trees the check proves by itself.
@@ -15,24 +17,51 @@ pub struct ProofFile {
     pub text: String,
 }
 
-/// The proofs of a type: those of the trees of a CHOICE with another in it, and of the trees and the writer of a CHOICE of many
-/// alternatives.
+/// The proofs of a type: those of the trees of a CHOICE with another in it; of the trees and the writer of a CHOICE of many
+/// alternatives; and of a writer of parts whose types are behind explicit tags.
 pub fn proof_files(alloc: Global, file: &TypeFile) -> Result<Vec<ProofFile>, AllocError> {
     let mut proofs = Vec::new(alloc);
-    if let TypeBody::Choice(choice) = &file.body {
-        let is_long = choice.alternatives.len() > FEW;
-        let has_choice = choice.alternatives.iter().any(begins_with_choice);
-        if has_choice {
-            proofs.push(tree_proof(alloc, file, choice, TREES)?)?;
+    match &file.body {
+        TypeBody::Choice(choice) => {
+            push_tree_proofs(alloc, &mut proofs, file, choice)?;
+            let arms = arms_of_choice(alloc, choice)?;
+            push_writer_proof(alloc, &mut proofs, file, CHOICE, arms.as_slice())?;
         }
-        if has_choice || is_long && choice.alternatives.iter().any(is_untagged) {
-            proofs.push(tree_proof(alloc, file, choice, TABLE)?)?;
-        }
-        if is_long {
-            proofs.push(writer_proof(alloc, file, choice)?)?;
-        }
+        TypeBody::Sequence(body) => push_component_proof(alloc, &mut proofs, file, body)?,
+        TypeBody::Set(body) => push_component_proof(alloc, &mut proofs, file, body)?,
+        TypeBody::Group(body) => push_component_proof(alloc, &mut proofs, file, body)?,
+        TypeBody::Enumerated(_) => {}
     }
     Ok(proofs)
+}
+
+// Appends the proof of the writer of components.
+fn push_component_proof(
+    alloc: Global,
+    proofs: &mut Vec<ProofFile>,
+    file: &TypeFile,
+    body: &Constructed,
+) -> Result<(), AllocError> {
+    let arms = arms_of_components(alloc, body.components.as_slice())?;
+    push_writer_proof(alloc, proofs, file, COMPONENTS, arms.as_slice())
+}
+
+// Appends the proofs of the trees of a CHOICE.
+fn push_tree_proofs(
+    alloc: Global,
+    proofs: &mut Vec<ProofFile>,
+    file: &TypeFile,
+    choice: &ChoiceType,
+) -> Result<(), AllocError> {
+    let is_long = choice.alternatives.len() > FEW;
+    let has_choice = choice.alternatives.iter().any(begins_with_choice);
+    if has_choice {
+        proofs.push(tree_proof(alloc, file, TREES)?)?;
+    }
+    if has_choice || is_long && choice.alternatives.iter().any(is_untagged) {
+        proofs.push(tree_proof(alloc, file, TABLE)?)?;
+    }
+    Ok(())
 }
 
 // Whether an alternative begins with the tags of a CHOICE.
@@ -72,12 +101,7 @@ const TABLE: TreeAnswer = TreeAnswer {
 };
 
 // The proof of a function about the trees of a CHOICE.
-fn tree_proof(
-    alloc: Global,
-    file: &TypeFile,
-    choice: &ChoiceType,
-    wanted: TreeAnswer,
-) -> Result<ProofFile, AllocError> {
+fn tree_proof(alloc: Global, file: &TypeFile, wanted: TreeAnswer) -> Result<ProofFile, AllocError> {
     let TreeAnswer {
         trait_name,
         function,
@@ -86,7 +110,7 @@ fn tree_proof(
     } = wanted;
     let module = file.module.as_str();
     let name = file.name.as_str();
-    let crate_name = choice.crate_name.as_str();
+    let crate_name = file.crate_name.as_str();
     Ok(ProofFile {
         path: format!(in alloc; "proofs/{module}/{name}{trait_name}/{function}/Answers.antt")?,
         text: format!(in alloc;
@@ -102,56 +126,159 @@ pub {goal} : goal.{goal}
     })
 }
 
-// The proof of the writer of a CHOICE.
-fn writer_proof(
-    alloc: Global,
-    file: &TypeFile,
-    choice: &ChoiceType,
-) -> Result<ProofFile, AllocError> {
-    let module = file.module.as_str();
-    let name = file.name.as_str();
-    let crate_name = choice.crate_name.as_str();
-    let mut text = format!(in alloc;
-        "use Rattle.{crate_name}.proofs.{module}.{name}EncodeChoice.encode_alternative.Goals as goal\n"
-    )?;
-    let mut has_untagged = false;
-    let mut has_implicit = false;
-    for alternative in &choice.alternatives {
-        let variant = alternative.variant.as_str();
-        let (call, is_first) = match alternative.tagging {
-            Tagging::Untagged => ("encode", !has_untagged),
-            Tagging::Implicit(_) => ("encode_with_tag", !has_implicit),
-            Tagging::Explicit(_) => ("", false),
-        };
-        has_untagged = has_untagged || call == "encode";
-        has_implicit = has_implicit || call == "encode_with_tag";
-        if call.is_empty() {
-            continue;
-        }
-        let goal = if is_first {
-            String::from_str(alloc, call)?
-        } else {
-            format!(in alloc; "{call}-in-{variant}")?
-        };
-        let goal = goal.as_str();
-        let answer = answer_of(alloc, variant, goal)?;
-        text.push_str(answer.as_str())?;
-    }
-    Ok(ProofFile {
-        path: format!(in alloc;
-            "proofs/{module}/{name}EncodeChoice/encode_alternative/Answers.antt"
-        )?,
-        text,
-    })
+// An arm of a function that writes parts of a type.
+#[derive(Drop)]
+struct Arm {
+    // The index or the variant of the part.
+    place: String,
+    // The call, and its clause.
+    call: &'static str,
+    clause: &'static str,
+    // Whether it writes an addition, by reference to an option.
+    is_addition: bool,
+    // Whether the check does not prove it by itself.
+    is_answered: bool,
 }
 
-// The answer for an alternative: its call writes it.
-fn answer_of(alloc: Global, variant: &str, goal: &str) -> Result<String, AllocError> {
-    let first = format!(in alloc; "\npub returns-in-{variant} : goal.returns-in-{variant}\n")?;
-    let second = format!(in alloc;
-        "returns-in-{variant} g c = rw c.in-{variant}.is c.{goal}.ensures\n"
+// The arms that write alternatives.
+fn arms_of_choice(alloc: Global, choice: &ChoiceType) -> Result<Vec<Arm>, AllocError> {
+    let is_long = choice.alternatives.len() > FEW;
+    let mut arms = Vec::new(alloc);
+    for alternative in &choice.alternatives {
+        let (call, clause, is_plain) = match alternative.tagging {
+            Tagging::Untagged => ("encode", "ensures", true),
+            Tagging::Implicit(_) => ("encode_with_tag", "ensures", true),
+            Tagging::Explicit(_) => ("encode_explicit_prefix", "ensures.writes", false),
+        };
+        arms.push(Arm {
+            place: String::from_str(alloc, alternative.variant.as_str())?,
+            call,
+            clause,
+            is_addition: false,
+            is_answered: is_long && is_plain || alternative.definition.is_explicit,
+        })?;
+    }
+    Ok(arms)
+}
+
+// The arms that write components.
+fn arms_of_components(alloc: Global, components: &[Component]) -> Result<Vec<Arm>, AllocError> {
+    let mut arms = Vec::new(alloc);
+    for (index, component) in components.iter().enumerate() {
+        let (call, clause) = call_of(component);
+        arms.push(Arm {
+            place: format!(in alloc; "{index}")?,
+            call,
+            clause,
+            is_addition: component.is_addition,
+            is_answered: component.definition.is_explicit,
+        })?;
+    }
+    Ok(arms)
+}
+
+// The call that writes a component, and its clause.
+fn call_of(component: &Component) -> (&'static str, &'static str) {
+    match &component.usage {
+        Usage::Required => call_by_tag(component, ("encode_explicit_prefix", "ensures.writes")),
+        Usage::Optional => call_by_tag(component, ("encode_explicit_optional", "ensures")),
+        _ => ("encode_default", "ensures"),
+    }
+}
+
+// The call that writes a component without a default, given that behind a tag of the root.
+fn call_by_tag(
+    component: &Component,
+    explicit: (&'static str, &'static str),
+) -> (&'static str, &'static str) {
+    match (component.tagging, component.is_addition) {
+        (Tagging::Untagged, false) => ("encode", "ensures"),
+        (Tagging::Implicit(_), false) => ("encode_with_tag", "ensures"),
+        (Tagging::Explicit(_), false) => explicit,
+        (Tagging::Explicit(_), true) => {
+            ("encode_extension_addition_with_explicit_prefix", "ensures")
+        }
+        (_, true) => ("encode_extension_addition_with_tag", "ensures"),
+    }
+}
+
+// A function that writes parts of a type.
+#[derive(Clone, Copy)]
+struct Writer {
+    trait_name: &'static str,
+    function: &'static str,
+}
+
+const CHOICE: Writer = Writer {
+    trait_name: "EncodeChoice",
+    function: "encode_alternative",
+};
+
+const COMPONENTS: Writer = Writer {
+    trait_name: "EncodeFields",
+    function: "encode_field",
+};
+
+// Appends the proof of a writer, if the check does not find all of it.
+fn push_writer_proof(
+    alloc: Global,
+    proofs: &mut Vec<ProofFile>,
+    file: &TypeFile,
+    writer: Writer,
+    arms: &[Arm],
+) -> Result<(), AllocError> {
+    if !arms.iter().any(|arm| arm.is_answered) {
+        return Ok(());
+    }
+    let Writer {
+        trait_name,
+        function,
+    } = writer;
+    let module = file.module.as_str();
+    let name = file.name.as_str();
+    let crate_name = file.crate_name.as_str();
+    let mut text = format!(in alloc;
+        "use Rattle.{crate_name}.proofs.{module}.{name}{trait_name}.{function}.Goals as goal\n"
     )?;
+    for (index, arm) in arms.iter().enumerate() {
+        if arm.is_answered {
+            let answer = answer_of(alloc, arm, &arms[..index])?;
+            text.push_str(answer.as_str())?;
+        }
+    }
+    let path = format!(in alloc; "proofs/{module}/{name}{trait_name}/{function}/Answers.antt")?;
+    proofs.push(ProofFile { path, text })?;
+    Ok(())
+}
+
+// The answer for an arm behind others: its call writes the part.
+fn answer_of(alloc: Global, arm: &Arm, earlier: &[Arm]) -> Result<String, AllocError> {
+    let place = arm.place.as_str();
+    let clause = arm.clause;
+    let is_first_call = !earlier.iter().any(|other| other.call == arm.call);
+    let call = step_name(alloc, arm.call, place, is_first_call)?;
+    let call = call.as_str();
+    let first = format!(in alloc; "\npub returns-in-{place} : goal.returns-in-{place}\n")?;
+    let second = if arm.is_addition {
+        let is_first_option = !earlier.iter().any(|other| other.is_addition);
+        let option = step_name(alloc, "as_ref", place, is_first_option)?;
+        let option = option.as_str();
+        format!(in alloc;
+            "returns-in-{place} g c = rw (c.in-{place}.is, ← c.{option}.ensures.value) c.{call}.{clause}\n"
+        )?
+    } else {
+        format!(in alloc; "returns-in-{place} g c = rw c.in-{place}.is c.{call}.{clause}\n")?
+    };
     let first = first.as_str();
     let second = second.as_str();
     format!(in alloc; "{first}{second}")
+}
+
+// The name of a call in a proof: with the arm that it is in, unless it is the first.
+fn step_name(alloc: Global, call: &str, place: &str, is_first: bool) -> Result<String, AllocError> {
+    if is_first {
+        String::from_str(alloc, call)
+    } else {
+        format!(in alloc; "{call}-in-{place}")
+    }
 }

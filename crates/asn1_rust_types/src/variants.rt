@@ -6,12 +6,12 @@ use std::alloc::{AllocError, Global};
 /// Brings in the variants of a type for its clauses.
 pub(crate) fn use_variants(
     draft: &mut Draft,
-    crate_name: &str,
     file: &TypeFile,
     variants: &[&str],
 ) -> Result<(), AllocError> {
     let alloc = draft.alloc();
     let variants = joined(alloc, variants, ", ")?;
+    let crate_name = file.crate_name.as_str();
     let module = file.module.as_str();
     let name = file.name.as_str();
     let line = format!(in alloc;
