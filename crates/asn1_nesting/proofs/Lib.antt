@@ -1,1 +1,3 @@
+pub mod ListsRead
 mod OpenAndClosed
+mod OpenAndClosedSequences

@@ -28,9 +28,13 @@
 mod boxes;
 mod closing;
 mod holds_itself;
+mod lists;
 mod opening;
+mod sequences;
 
 pub use boxes::boxed;
 pub use closing::close_choice;
 pub use holds_itself::HoldsItself;
+pub use lists::{close_sequence_of, open_sequence_of_at};
 pub use opening::open_choice_at;
+pub use sequences::{close_sequence, open_sequence_at};
