@@ -1,15 +1,13 @@
 -- Open ::= CHOICE of nine alternatives, each under its own tag, of which the last holds another such value.
-use Rattle.std.specs.Prelude.{◌≡◌, ℕ, Bool as Truth, true, List, [], ◌∷◌, IsTrue, Result, codes, refl}
+use Rattle.std.specs.Prelude.{ℕ, Bool as Truth, List, [], ◌∷◌, IsTrue, codes, refl}
 use Rattle.std.specs.String.{string_bytes}
 use Rattle.std.proofs.Common.{inl, inr}
 use Rattle.asn1_components.specs.Alternatives.{Alternatives, OneOf, MeansTheSame, ValueMeaning, all_of, alternative, chosen_meaning, closed, means_itself, value_meaning}
 use Rattle.asn1_components.specs.ChoiceTypes.{alternatives_with_itself, choice_holding_itself, inside_itself, table_with_itself}
-use Rattle.asn1_laws.specs.Reading.{Outside, Reader, ReadsBack}
-use Rattle.asn1_laws.specs.declared.decode_error.DecodeError.{DecodeError}
-use Rattle.asn1_components.specs.Components.{constructed_type_under}
+use Rattle.asn1_components.specs.Components.{Components, constructed_type_under}
 use Rattle.asn1_model.specs.Kinds.{object_identifier, string_type, utf8_string}
-use Rattle.asn1_model.specs.Meaning.{Meaning, own_records}
-use Rattle.asn1_model.specs.Records.{Record, bits, units, octet, visible}
+use Rattle.asn1_model.specs.Meaning.{Meaning}
+use Rattle.asn1_model.specs.Records.{bits, units, octet, visible}
 use Rattle.asn1_model.specs.RecordTables.{Row, Table}
 use Rattle.asn1_model.specs.TaggedTypes.{untagged}
 use Rattle.asn1_model.specs.Tags.{universal}
@@ -23,8 +21,10 @@ use Rattle.asn1_values.specs.string_contracts.strings.string_unit.U8StringUnit.T
 use Rattle.asn1_types.specs.Kinds.{implicit_type, instance_of_components}
 use Rattle.asn1_types.specs.declared.implicit.Implicit.{Implicit}
 use Rattle.asn1_types.specs.declared.instance_of.InstanceOf.{InstanceOf as Instance}
+use Rattle.asn1_nesting.specs.InsideItself.{in_box}
 use Rattle.asn1_open.specs.declared.open_value.Open.{Open, BitString, Bool, Integer, Null, ObjectIdentifier, OctetString, UniversalString, VisibleString, InstanceOf'}
 use Rattle.std.specs.declared.alloc.Global.{Global}
+use Rattle.std.specs.Global.{Box}
 use Rattle.std.specs.declared.string.String.{String}
 
 -- what the strings mean
@@ -41,11 +41,12 @@ visible_string = string_type (universal 26) (codes "VisibleString") (λ unit. Is
 abbrev pub universal_string : Meaning (Implicit (Marker 28) (String Global))
 universal_string = implicit_type (universal 28) (λ implicit. implicit.value) (utf8_string string_bytes)
 
--- what an INSTANCE OF means, by what the value in it means (X.681, annex C)
+-- the components of an INSTANCE OF, and what it means, by what the value in it means (X.681, annex C)
+abbrev pub components_around : {V : Type 0} → Meaning V → Components (Instance V)
+components_around = instance_of_components (λ instance. instance.type_id) (λ instance. instance.value)
+
 abbrev pub instance_type : {V : Type 0} → Meaning V → Meaning (Instance V)
-instance_type value = constructed_type_under
-    (instance_of_components (λ instance. instance.type_id) (λ instance. instance.value) value)
-    (universal 8) (codes "SEQUENCE")
+instance_type value = constructed_type_under (components_around value) (universal 8) (codes "SEQUENCE")
 
 -- the names of the alternatives, which are rasn's words for them
 abbrev pub open_names : List (List ℕ)
@@ -63,7 +64,7 @@ open_alternatives_with itself = closed (
     alternative (codes "OctetString") (untagged octet_string) ∷
     alternative (codes "UniversalString") (untagged universal_string) ∷
     alternative (codes "VisibleString") (untagged visible_string) ∷
-    alternative (codes "InstanceOf") (untagged (instance_type itself)) ∷ [])
+    alternative (codes "InstanceOf") (untagged (in_box (instance_type itself))) ∷ [])
 
 abbrev pub open_table : Table Row
 open_table = table_with_itself (codes "Open") open_alternatives_with
@@ -86,6 +87,13 @@ open_means (UniversalString string) = value_meaning (untagged universal_string) 
 open_means (VisibleString string) = value_meaning (untagged visible_string) string
 open_means (InstanceOf' cell type_id value) = instance_says type_id (open_means value)
 
+-- a value inside another, and an INSTANCE OF around it
+abbrev pub inner_open : Meaning Open
+inner_open = inside_itself (codes "Open") open_table open_means
+
+abbrev pub inner_instance : Meaning (Box (Instance Open))
+inner_instance = in_box (instance_type inner_open)
+
 abbrev pub open_alternatives : Alternatives
 open_alternatives = alternatives_with_itself (codes "Open") open_alternatives_with open_means
 
@@ -98,7 +106,7 @@ open_pick (ObjectIdentifier arcs) = inr (inr (inr (inr (inl arcs))))
 open_pick (OctetString string) = inr (inr (inr (inr (inr (inl string)))))
 open_pick (UniversalString string) = inr (inr (inr (inr (inr (inr (inl string))))))
 open_pick (VisibleString string) = inr (inr (inr (inr (inr (inr (inr (inl string)))))))
-open_pick (InstanceOf' cell type_id value) = inr (inr (inr (inr (inr (inr (inr (inr (inl (record { type_id = type_id; value = value })))))))))
+open_pick (InstanceOf' cell type_id value) = inr (inr (inr (inr (inr (inr (inr (inr (inl (record { ptr = cell.ptr; alloc = cell.alloc; value = record { type_id = type_id; value = value } })))))))))
 
 pub open_agrees : (v : Open) → MeansTheSame (open_means v) (chosen_meaning (all_of open_alternatives) (open_pick v))
 open_agrees (BitString string) = means_itself
@@ -115,9 +123,6 @@ open_agrees (InstanceOf' cell type_id value) = record { records = refl; of_type 
 abbrev pub open_meaning : Meaning Open
 open_meaning = choice_holding_itself (codes "Open") open_alternatives_with open_means open_pick open_agrees
 
--- A call that reads an INSTANCE OF around an `Open`: of each that is of its type and valid, it answers one that is equal.
-abbrev pub ReadsInstance : {D W : Type 0} → Reader D → (W → Instance Open → Truth) → D → D → Result W DecodeError → Type 0
-ReadsInstance R eq old new result =
-    (v : Instance Open) (rest : List Record) (outer : Outside) →
-    (instance_type open_meaning).IsOfType v → (instance_type open_meaning).IsValid R.accepts v →
-    ReadsBack R old new (own_records (instance_type open_meaning) v) rest outer (λ w. eq w v ≡ true) result
+-- The components of an INSTANCE OF around an `Open`.
+abbrev pub instance_components : Components (Instance Open)
+instance_components = components_around open_meaning

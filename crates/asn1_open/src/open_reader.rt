@@ -1,28 +1,27 @@
-//! How an `Open` is read: by three functions that call one another.
-ghost use Rattle.asn1_components.specs.Alternatives.{Each, all_of};
-ghost use Rattle.asn1_components.specs.ChosenTags.{LacksTag};
-ghost use Rattle.asn1_laws.specs.DecodeErrors.{no_valid_choice, reason};
-ghost use Rattle.asn1_laws.specs.Reading.{KeepsDepth, ReadsValue};
-ghost use Rattle.asn1_laws.specs.ReadingTypes.{ReadsAlternative};
+//! The reader of an `Open`: four functions that call one another.
+ghost use Rattle.asn1_laws.specs.Reading.{AfterReading, ReadsValue};
+ghost use Rattle.asn1_laws.specs.ReadingTypes.{ReadsFields};
 ghost use Rattle.asn1_model.specs.ConstraintSets.{constraint_set};
-ghost use Rattle.asn1_model.specs.Tags.{CHOICE};
-ghost use Rattle.asn1_open.specs.OpenAlternatives.{ReadsInstance, open_alternatives, open_meaning, open_pick};
-ghost use Rattle.asn1_open.specs.declared.open_value.Open.{Open};
-ghost use Rattle.asn1_types.specs.declared.instance_of.InstanceOf.{InstanceOf};
-ghost use Rattle.std.specs.Prelude.{◌≡◌, OnOk, codes};
-ghost use Rattle.std.specs.Result.{IsErrAnd};
+ghost use Rattle.asn1_model.specs.TaggedTypes.{untagged};
+ghost use Rattle.asn1_nesting.specs.InsideItself.{eq_in_box};
+ghost use Rattle.asn1_open.specs.OpenAlternatives.{inner_instance, instance_components, open_meaning};
+ghost use Rattle.asn1_slots.specs.Cases.{ReadsCaseAt, ReadsValueOf};
+ghost use Rattle.std.specs.Prelude.{◌≡◌, OnOk};
 
 use crate::open_value::Open;
 use asn1_dec::{Decode, DecodeError, Decoder};
-use asn1_types::{Class, Constraints, Implicit, InstanceOf, Tag, tag};
-use asn1_values::{BitString, Integer, ObjectIdentifier, OctetString, Utf8String, VisibleString};
+use asn1_nesting::{HoldsItself, close_choice, close_sequence, open_choice_at, open_sequence_at};
+use asn1_slots::{Tagging, alternative};
+use asn1_types::{Class, Constraints, InstanceOf, Tag};
+use asn1_values::ObjectIdentifier;
 
 const VALUE: Tag = Tag {
     class: Class::Context,
     value: 0,
 };
 
-/// An `Open` under a tag: untagged under the CHOICE marker tag, and else after the tag.
+/// Reads a value under a tag.
+#[cycle(open_reader)]
 pub(crate) fn read_open<D: Decoder>(
     decoder: &mut D,
     tag: Tag,
@@ -30,104 +29,71 @@ pub(crate) fn read_open<D: Decoder>(
 ) -> Result<Open, DecodeError>
     ensures read { ReadsValue D.reader open_meaning ⟦<Open as PartialEq>⟧.eq tag
         (constraint_set constraints.now) decoder.old decoder.new result }
-    ensures keeps_depth { KeepsDepth D.reader decoder.old decoder.new result }
-{
-    if tag.is_choice() {
-        return read_untagged(decoder, constraints);
-    }
-    decoder.open_explicit_prefix(tag)?;
-    let value = read_untagged(decoder, &Constraints::NONE)?;
-    decoder.close()?;
-    Ok(value)
-}
-
-/// An `Open` without a tag. It opens a scope before the alternative is read, so the depth left ends
-/// the recursion.
-#[cycle(opens)]
-fn read_untagged<D: Decoder>(
-    decoder: &mut D,
-    constraints: &Constraints<'_>,
-) -> Result<Open, DecodeError>
-    ensures read { ReadsValue D.reader open_meaning ⟦<Open as PartialEq>⟧.eq CHOICE
+    ensures after_reading { AfterReading D.reader open_meaning tag
         (constraint_set constraints.now) decoder.old decoder.new result }
-    ensures keeps_depth { KeepsDepth D.reader decoder.old decoder.new result }
 {
-    let chosen = decoder.open_choice::<Open>(constraints)?;
-    let value = match read_alternative(decoder, chosen) {
-        Ok(value) => value,
-        Err(error) => return Err(decoder.refuse(error)),
-    };
-    decoder.close()?;
-    Ok(value)
+    let index = open_choice_at::<Open, D>(decoder, tag, constraints)?;
+    let value = read_alternative(index, decoder);
+    close_choice(decoder, tag, value)
 }
 
-/// The alternative that can begin with the tag.
-#[cycle(opens)]
-pub(crate) fn read_alternative<D: Decoder>(decoder: &mut D, tag: Tag) -> Result<Open, DecodeError>
-    ensures read { ReadsAlternative D.reader tag open_alternatives open_pick
-        ⟦<Open as PartialEq>⟧.eq decoder.old decoder.new result }
-    ensures unknown { Each (LacksTag tag) (all_of open_alternatives) →
-        IsErrAnd result (λ e. reason e ≡ no_valid_choice (codes "Open")) }
+/// Reads the alternative at an index.
+#[cycle(open_reader)]
+pub(crate) fn read_alternative<D: Decoder>(
+    index: usize,
+    decoder: &mut D,
+) -> Result<Open, DecodeError>
+    ensures read { ReadsCaseAt D.reader ⟦<Open as HoldsItself>⟧.cases
+        ⟦<Open as HoldsItself>⟧.case_of index decoder.old decoder.new result }
     ensures same_depth { OnOk result (D.reader.depth_left decoder.new ≡
         D.reader.depth_left decoder.old) }
 {
-    match tag {
-        Tag::BIT_STRING => {
-            let string = BitString::decode(decoder)?;
-            Ok(Open::BitString(string))
-        }
-        Tag::BOOL => {
-            let flag = bool::decode(decoder)?;
-            Ok(Open::Bool(flag))
-        }
-        Tag::INTEGER => {
-            let number = Integer::decode(decoder)?;
-            Ok(Open::Integer(number))
-        }
-        Tag::NULL => {
-            <()>::decode(decoder)?;
-            Ok(Open::Null)
-        }
-        Tag::OBJECT_IDENTIFIER => {
-            let arcs = ObjectIdentifier::decode(decoder)?;
-            Ok(Open::ObjectIdentifier(arcs))
-        }
-        Tag::OCTET_STRING => {
-            let string = OctetString::decode(decoder)?;
-            Ok(Open::OctetString(string))
-        }
-        Tag::UNIVERSAL_STRING => {
-            let string = Implicit::<tag::UNIVERSAL_STRING, Utf8String>::decode(decoder)?;
-            Ok(Open::UniversalString(string))
-        }
-        Tag::VISIBLE_STRING => {
-            let string = VisibleString::decode(decoder)?;
-            Ok(Open::VisibleString(string))
-        }
-        Tag::EXTERNAL => {
-            let instance = read_instance(decoder)?;
-            match Box::new(decoder.global(), instance) {
-                Ok(instance) => Ok(Open::InstanceOf(instance)),
-                Err(_) => Err(DecodeError::Memory),
-            }
-        }
+    match index {
+        0 => Ok(Open::BitString(alternative(decoder, Tagging::Untagged)?)),
+        1 => Ok(Open::Bool(alternative(decoder, Tagging::Untagged)?)),
+        2 => Ok(Open::Integer(alternative(decoder, Tagging::Untagged)?)),
+        3 => match alternative(decoder, Tagging::Untagged) {
+            Ok(()) => Ok(Open::Null),
+            Err(error) => Err(error),
+        },
+        4 => Ok(Open::ObjectIdentifier(alternative(decoder, Tagging::Untagged)?)),
+        5 => Ok(Open::OctetString(alternative(decoder, Tagging::Untagged)?)),
+        6 => Ok(Open::UniversalString(alternative(decoder, Tagging::Untagged)?)),
+        7 => Ok(Open::VisibleString(alternative(decoder, Tagging::Untagged)?)),
+        8 => match read_instance(decoder) {
+            Ok(instance) => Ok(Open::InstanceOf(instance)),
+            Err(error) => Err(error),
+        },
         _ => Err(DecodeError::NoValidChoice("Open")),
     }
 }
 
-/// An INSTANCE OF around an `Open`.
-#[cycle(opens)]
-fn read_instance<D: Decoder>(decoder: &mut D) -> Result<InstanceOf<Open>, DecodeError>
-    ensures read { ReadsInstance D.reader ⟦<InstanceOf<Open> as PartialEq>⟧.eq decoder.old
-        decoder.new result }
+/// Reads an INSTANCE OF around a value.
+#[cycle(open_reader)]
+fn read_instance<D: Decoder>(decoder: &mut D) -> Result<Box<InstanceOf<Open>>, DecodeError>
+    ensures read { ReadsValueOf D.reader (untagged inner_instance)
+        (eq_in_box ⟦<InstanceOf<Open> as PartialEq>⟧.eq) decoder.old decoder.new result }
     ensures same_depth { OnOk result (D.reader.depth_left decoder.new ≡
         D.reader.depth_left decoder.old) }
 {
-    decoder.open_sequence::<InstanceOf<Open>>(Tag::EXTERNAL)?;
+    open_sequence_at::<InstanceOf<Open>, D>(decoder, Tag::EXTERNAL)?;
+    let components = read_components(decoder);
+    let instance = close_sequence(decoder, Tag::EXTERNAL, components)?;
+    match Box::new(decoder.global(), instance) {
+        Ok(instance) => Ok(instance),
+        Err(_) => Err(DecodeError::Memory),
+    }
+}
+
+/// Reads the components of an INSTANCE OF.
+#[cycle(open_reader)]
+fn read_components<D: Decoder>(decoder: &mut D) -> Result<InstanceOf<Open>, DecodeError>
+    ensures read { ReadsFields D.reader instance_components ⟦<InstanceOf<Open> as PartialEq>⟧.eq
+        decoder.old decoder.new result }
+    ensures same_depth { OnOk result (D.reader.depth_left decoder.new ≡
+        D.reader.depth_left decoder.old) }
+{
     let type_id = ObjectIdentifier::decode(decoder)?;
-    decoder.open_explicit_prefix(VALUE)?;
-    let value = read_untagged(decoder, &Constraints::NONE)?;
-    decoder.close()?;
-    decoder.close()?;
+    let value = read_open(decoder, VALUE, &Constraints::NONE)?;
     Ok(InstanceOf { type_id, value })
 }

@@ -2,17 +2,21 @@
 ghost use Rattle.asn1_components.specs.ChoiceTypes.{itself_agrees};
 ghost use Rattle.asn1_model.specs.Meaning.{IsWellTagged, own_records};
 ghost use Rattle.asn1_model.specs.Records.{highest};
-ghost use Rattle.asn1_open.specs.OpenAlternatives.{open_agrees, open_alternatives, open_meaning, open_pick};
-ghost use Rattle.asn1_open.specs.declared.open_value.Open.{Open};
-ghost use Rattle.asn1_open.specs.declared.open_value.Open.TheVariants.{InstanceOf as AnInstance};
+ghost use Rattle.asn1_model.specs.TaggedTypes.{untagged};
+ghost use Rattle.asn1_nesting.specs.InsideItself.{eq_in_box, its_cases, itself_inside};
+ghost use Rattle.asn1_open.specs.OpenAlternatives.{inner_instance, inner_open, open_agrees, open_alternatives, open_alternatives_with, open_meaning, open_means, open_pick};
+ghost use Rattle.asn1_open.specs.declared.open_value.Open.{Open, BitString, Bool as Flag, Integer, Null, ObjectIdentifier, OctetString, UniversalString, VisibleString, InstanceOf as AnInstance, InstanceOf'};
+ghost use Rattle.asn1_slots.specs.Cases.{variant};
 ghost use Rattle.asn1_types.specs.declared.instance_of.InstanceOf.{InstanceOf as Instance};
-ghost use Rattle.std.specs.Prelude.{◌≡◌, ◌≢◌, ◌+◌, Bool, List, ℕ};
+ghost use Rattle.std.specs.Prelude.{◌≡◌, ◌≢◌, ◌+◌, ◌∷◌, [], Bool, List, codes, refl, ℕ};
 ghost use Rattle.std.specs.declared.alloc.Global.{Global};
 ghost use Rattle.std.specs.declared.boxed.Box.{Box};
 
 use crate::open_reader::{read_alternative, read_open};
 use asn1_dec::{Decode, DecodeChoice, DecodeError, Decoder};
 use asn1_enc::{Encode, EncodeChoice, EncodeError, Encoder};
+use asn1_nesting::HoldsItself;
+use asn1_slots::{DecodeChoiceByIndex, from_tag_by_index};
 use asn1_types::{
     AsnType, Choice, ChoiceType, Constraints, Identifier, Implicit, InstanceOf, Tag, TagTree,
     TypeTable, tag,
@@ -165,6 +169,40 @@ impl EncodeChoice for Open {
     }
 }
 
+impl HoldsItself for Open {
+    ghost use Rattle.asn1_open.specs.contracts.open_value.OpenPartialEq.TheImpl.Laws.{is};
+
+    ghost inside = { inner_open };
+
+    ghost cases = { variant (codes "BitString") BitString (untagged ⟦<BitString as AsnType>⟧.meaning) ⟦<BitString as PartialEq>⟧.eq ∷
+        variant (codes "Bool") Flag (untagged ⟦<bool as AsnType>⟧.meaning) ⟦<bool as PartialEq>⟧.eq ∷
+        variant (codes "Integer") Integer (untagged ⟦<Integer as AsnType>⟧.meaning) ⟦<Integer as PartialEq>⟧.eq ∷
+        variant (codes "Null") (λ nothing. Null) (untagged ⟦<() as AsnType>⟧.meaning) ⟦<() as PartialEq>⟧.eq ∷
+        variant (codes "ObjectIdentifier") ObjectIdentifier (untagged ⟦<ObjectIdentifier as AsnType>⟧.meaning) ⟦<ObjectIdentifier as PartialEq>⟧.eq ∷
+        variant (codes "OctetString") OctetString (untagged ⟦<OctetString as AsnType>⟧.meaning) ⟦<OctetString as PartialEq>⟧.eq ∷
+        variant (codes "UniversalString") UniversalString (untagged ⟦<Implicit<tag::UNIVERSAL_STRING, Utf8String> as AsnType>⟧.meaning) ⟦<Implicit<tag::UNIVERSAL_STRING, Utf8String> as PartialEq>⟧.eq ∷
+        variant (codes "VisibleString") VisibleString (untagged ⟦<VisibleString as AsnType>⟧.meaning) ⟦<VisibleString as PartialEq>⟧.eq ∷
+        variant (codes "InstanceOf") AnInstance (untagged inner_instance) (eq_in_box ⟦<InstanceOf<Open> as PartialEq>⟧.eq) ∷ [] };
+
+    ghost case_of = { open_pick };
+
+    ghost made = { elim [
+      | BitString string ↦ (refl, λ u. is _ _)
+      | Flag flag ↦ (refl, λ u. is _ _)
+      | Integer number ↦ (refl, λ u. is _ _)
+      | Null ↦ (refl, λ u. is _ _)
+      | ObjectIdentifier arcs ↦ (refl, λ u. is _ _)
+      | OctetString string ↦ (refl, λ u. is _ _)
+      | UniversalString string ↦ (refl, λ u. is _ _)
+      | VisibleString string ↦ (refl, λ u. is _ _)
+      | InstanceOf' place type_id value ↦ (refl, λ u. is _ _)
+    ] };
+
+    ghost are_cases = { its_cases };
+
+    ghost is_inside = { itself_inside (codes "Open") open_alternatives_with open_means open_pick open_agrees refl };
+}
+
 impl Decode for Open {
     fn decode_with_tag_and_constraints<D: Decoder>(
         decoder: &mut D,
@@ -175,8 +213,22 @@ impl Decode for Open {
     }
 }
 
+impl DecodeChoiceByIndex for Open {
+    ghost use Rattle.asn1_open.specs.contracts.open_value.OpenHoldsItself.TheImpl.Laws.{made-law as its_made};
+
+    ghost cases = { ⟦<Open as HoldsItself>⟧.cases };
+
+    ghost case_of = { ⟦<Open as HoldsItself>⟧.case_of };
+
+    fn decode_alternative<D: Decoder>(index: usize, decoder: &mut D) -> Result<Open, DecodeError> {
+        read_alternative(index, decoder)
+    }
+
+    ghost made = { its_made };
+}
+
 impl DecodeChoice for Open {
     fn from_tag<D: Decoder>(decoder: &mut D, tag: Tag) -> Result<Open, DecodeError> {
-        read_alternative(decoder, tag)
+        from_tag_by_index(decoder, tag)
     }
 }

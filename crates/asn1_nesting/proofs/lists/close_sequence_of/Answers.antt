@@ -25,5 +25,9 @@ returns-clause-read g c = λ t cs old opened bound is_open reads.
 
 pub returns-clause-same_depth : goal.returns-clause-same_depth
 returns-clause-same_depth g c = λ t cs old opened bound is_open same.
-    omega (arith, is_open.one_less, c.in_ok-close.ensures.gives_depth_back.one_more,
-    subst (λ a. OnOk a (g.D.Decoder.reader.depth_left c.args.decoder.now ≡ g.D.Decoder.reader.depth_left opened)) c.in-Ok.is same)
+    omega (
+      arith,
+      is_open.one_less,
+      c.in_ok-close.ensures.gives_depth_back.one_more,
+      subst (λ a. OnOk a (g.D.Decoder.reader.depth_left c.args.decoder.now ≡ g.D.Decoder.reader.depth_left opened)) c.in-Ok.is same,
+    )
