@@ -1,8 +1,11 @@
+mod Begun
 mod FlatBits
 mod FlatOctets
 pub mod Headers
 mod LooseOctets
 pub mod NormalForms
+mod Joined
+mod Snoc
 mod Splits
 mod Steps
 mod Walking

@@ -1,23 +1,19 @@
 -- The steps of a walk.
-use Rattle.std.proofs.Common.{◌≡◌, ◌≢◌, ℕ, ◌+◌, ◌*◌, ◌<◌, ◌≤◌, Bool, true, List, [], ◌∷◌, ◌++◌, None, Some, length, length-append, take, drop, refl, ap, sym, subst, ◌∙◌, arith}
+use Rattle.std.proofs.Common.{◌≡◌, ◌≢◌, ℕ, ◌+◌, ◌*◌, ◌<◌, ◌≤◌, true, List, [], ◌∷◌, ◌++◌, None, Some, length, length-append, refl, ap, sym, subst, ◌∙◌, arith}
 use Rattle.std.specs.Bool.{⊤}
-use Rattle.std.proofs.Math.Seq.{drop-append_seam, take-append_seam}
-use Rattle.asn1_tags.specs.declared.tags.Tag.{Tag}
 use Rattle.asn1_items.specs.declared.error.ItemError.{ItemError}
 use Rattle.asn1_items.specs.declared.error.ItemError.TheVariants.{Malformed, Memory, Missing}
-use Rattle.asn1_items.specs.Numbers.{Appended}
-use Rattle.asn1_der_items.specs.Elements.{IsBegun, IsElement}
+use Rattle.asn1_der_items.specs.Elements.{IsElement}
 use Rattle.asn1_ber_items.specs.Headers.{Header, end_of_contents, header_at}
-use Rattle.asn1_ber_items.specs.Walks.{AreBegun, Comes, IsAfter, IsClosing, IsCopy, IsOver, Outcome, Remains, Splits, bytes_after, bytes_behind, end_of}
+use Rattle.asn1_ber_items.specs.Walks.{Comes, IsAfter, IsClosing, IsCopy, IsOver, Outcome, Remains, Splits, bytes_after, bytes_behind, end_of}
 use Rattle.asn1_ber_items.specs.declared.open_element.Extent.{Extent}
 use Rattle.asn1_ber_items.specs.declared.open_element.Extent.TheVariants.{Definite, Indefinite}
 use Rattle.asn1_ber_items.specs.declared.open_element.OpenElement.{OpenElement}
 use Rattle.asn1_ber_items.proofs.Splits.{Begins, with_end, with_length, with_octets}
-use Rattle.asn1_ber_items.proofs.Walking.{begun_in, begun_too, comes_back, consumed, ended_begun, ends_ahead, ends_behind, goes_in, grow, produced}
+use Rattle.asn1_ber_items.proofs.Walking.{AreOpen, IsOpenIn, comes_back, consumed, ends_ahead, ends_behind, goes_in, produced}
 
 -- A step over raw lists: the open elements, the bytes left and those that were written, before and after.
 pub record Steps (es fs : List OpenElement) (left back written new : List ℕ) : Type 0 where
-  pub consistent : AreBegun fs (λ _. ⊤) new
   pub ahead : (outcome : Outcome) → ¬ IsOver outcome es left written → Comes es (Remains outcome) left written → Comes fs (Remains outcome) back new
   pub behind : (outcome : Outcome) → ¬ IsOver outcome es left written → Comes fs (Remains outcome) back new → Comes es (Remains outcome) left written
 
@@ -25,36 +21,15 @@ bytes_behind-last : (es : List OpenElement) (e : OpenElement) → bytes_behind (
 bytes_behind-last [] e = omega arith
 bytes_behind-last (f ∷ es) e = omega (arith, bytes_behind-last es e)
 
--- a list with a last element has one such element
-pub record IsSameLast (xs ys : List OpenElement) (a b : OpenElement) : Type 0 where
-  pub front : xs ≡ ys
-  pub last : a ≡ b
-
-head_is : {a b : OpenElement} → a ∷ [] ≡ b ∷ [] → a ≡ b
-head_is e = cc
-
-pub same_last : (xs ys : List OpenElement) (a b : OpenElement) → xs ++ a ∷ [] ≡ ys ++ b ∷ [] → IsSameLast xs ys a b
-same_last xs ys a b e =
-    let long : length xs ≡ length ys = omega (arith, ap length e, length-append xs (a ∷ []), length-append ys (b ∷ [])) in
-    record {
-      front = sym (take-append_seam xs (a ∷ [])) ∙ ap (take (length xs)) e ∙ ap (λ n. take n (ys ++ b ∷ [])) long ∙ take-append_seam ys (b ∷ []);
-      last = head_is (sym (drop-append_seam xs (a ∷ [])) ∙ ap (drop (length xs)) e ∙ ap (λ n. drop n (ys ++ b ∷ [])) long ∙ drop-append_seam ys (b ∷ []));
-    }
-
-pub steps_out : (es outer : List OpenElement) (e : OpenElement) (left back written new : List ℕ) → es ≡ outer ++ e ∷ [] → left ≡ end_of e.extent back → IsAfter e.extent back →
-    ((t : Tag) (constructed : Bool) (before front contents : List ℕ) → IsBegun t constructed front → written ≡ (before ++ front) ++ contents →
-    e.contents ≡ length (before ++ front) → Appended (IsElement t constructed contents) before new) →
-    AreBegun es (λ _. ⊤) written → Steps es outer left back written new
-steps_out es outer e left back written new are ends after appended consistent =
-    let b = begun_in outer e (λ _. ⊤) written (subst (λ fs. AreBegun fs (λ _. ⊤) written) are consistent) in
-    let a = appended e.tag true b.before b.front b.contents b.begun b.are b.inside in
-    record {
-      consistent = subst (λ l. AreBegun outer (λ _. ⊤) l) (sym a.joined) (ended_begun outer e left written back a.added ends after b a.is);
-      ahead = λ outcome more comes. subst (λ l. Comes outer (Remains outcome) back l) (sym a.joined)
-          (ends_ahead outer e left written back a.added ends after b a.is outcome (subst (λ fs. Comes fs (Remains outcome) left written) are comes));
-      behind = λ outcome more comes. subst (λ fs. Comes fs (Remains outcome) left written) (sym are)
-          (ends_behind outer e left written back a.added ends after b a.is outcome (subst (λ l. Comes outer (Remains outcome) back l) a.joined comes));
-    }
+-- a constructed element that ends
+pub steps_out : (es outer : List OpenElement) (e : OpenElement) (left back written new own : List ℕ) → es ≡ outer ++ e ∷ [] → left ≡ end_of e.extent back → IsAfter e.extent back →
+    (b : IsOpenIn e (AreOpen outer (λ _. ⊤)) written) → IsElement e.tag true b.contents own → new ≡ b.before ++ own → Steps es outer left back written new
+steps_out es outer e left back written new own are ends after b element joined = record {
+  ahead = λ outcome more comes. subst (λ l. Comes outer (Remains outcome) back l) (sym joined)
+      (ends_ahead outer e left written back own ends after b element outcome (subst (λ fs. Comes fs (Remains outcome) left written) are comes));
+  behind = λ outcome more comes. subst (λ fs. Comes fs (Remains outcome) left written) (sym are)
+      (ends_behind outer e left written back own ends after b element outcome (subst (λ l. Comes outer (Remains outcome) back l) joined comes));
+}
 
 -- less is left to do after an element that ends
 extent_less : (x : Extent) (left back : List ℕ) (n : ℕ) → left ≡ end_of x back → IsAfter x back → 2 * (length back + n) < 2 * (length left + (n + bytes_after x)) + 1
@@ -67,17 +42,16 @@ less_out es outer e left back are ends after =
     omega (arith, ap bytes_behind are, ap length are, length-append outer (e ∷ []), bytes_behind-last outer e, extent_less e.extent left back (bytes_behind outer) ends after)
 
 -- a constructed element that begins
-pub steps_in : (es : List OpenElement) (e : OpenElement) (left contents written front new : List ℕ) → Splits (IsClosing e.tag e.extent contents) left → IsBegun e.tag true front →
-    new ≡ written ++ front → e.start ≡ length written → e.contents ≡ length new → AreBegun es (λ _. ⊤) written → Steps es (es ++ e ∷ []) left contents written new
-steps_in es e left contents written front new splits begun joined starts inside consistent =
+pub steps_in : (es : List OpenElement) (e : OpenElement) (left contents written front new : List ℕ) → Splits (IsClosing e.tag e.extent contents) left →
+    new ≡ written ++ front → e.start ≡ length written → e.contents ≡ length new → AreOpen es (λ _. ⊤) written → Steps es (es ++ e ∷ []) left contents written new
+steps_in es e left contents written front new splits joined starts inside consistent =
     let at : e.contents ≡ length (written ++ front) = inside ∙ ap length joined in
     record {
-      consistent = subst (λ l. AreBegun (es ++ e ∷ []) (λ _. ⊤) l) (sym joined) (begun_too es e contents written front begun starts at consistent);
       ahead = λ outcome more comes.
           let q = consumed (IsClosing e.tag e.extent contents) left splits outcome written es more consistent comes in
-          subst (λ l. Comes (es ++ e ∷ []) (Remains outcome) contents l) (sym joined) (goes_in es e contents written front begun starts at outcome q.own q.back q.is q.comes);
+          subst (λ l. Comes (es ++ e ∷ []) (Remains outcome) contents l) (sym joined) (goes_in es e contents written front starts at outcome q.own q.back q.is q.comes);
       behind = λ outcome more comes.
-          let q = comes_back es e contents written front begun starts at outcome (subst (λ l. Comes (es ++ e ∷ []) (Remains outcome) contents l) joined comes) in
+          let q = comes_back es e contents written front starts at outcome (subst (λ l. Comes (es ++ e ∷ []) (Remains outcome) contents l) joined comes) in
           produced (IsClosing e.tag e.extent contents) left splits outcome written es q.own q.back q.is more consistent q.comes;
     }
 
@@ -86,9 +60,8 @@ pub less_in : (es : List OpenElement) (e : OpenElement) (left contents : List �
 less_in es e left contents less = omega (arith, less, bytes_behind-last es e, length-append es (e ∷ []))
 
 -- a primitive element
-pub steps_over : (es : List OpenElement) (left back written own new : List ℕ) → Splits (IsCopy own back) left → new ≡ written ++ own → AreBegun es (λ _. ⊤) written → Steps es es left back written new
+pub steps_over : (es : List OpenElement) (left back written own new : List ℕ) → Splits (IsCopy own back) left → new ≡ written ++ own → AreOpen es (λ _. ⊤) written → Steps es es left back written new
 steps_over es left back written own new splits joined consistent = record {
-  consistent = subst (λ l. AreBegun es (λ _. ⊤) l) (sym joined) (grow es written own consistent);
   ahead = λ outcome more comes.
       let q = consumed (IsCopy own back) left splits outcome written es more consistent comes in
       subst (λ l. Comes es (Remains outcome) back l) (sym joined)

@@ -7,25 +7,28 @@ use Rattle.asn1_der_items.proofs.Encodings.{one_element}
 use Rattle.asn1_der_items.proofs.OneElement.{some_bytes as one_has_bytes}
 use Rattle.asn1_der_items.specs.Elements.{IsBegun, IsElement}
 use Rattle.asn1_ber_items.specs.Spellings.{Spells, SpellsOne, nothing}
-use Rattle.asn1_ber_items.specs.Walks.{AreBegun, AreInside, AreLast, Comes, IsAfter, IsBegunIn, IsClosing, IsEnd, IsFront, IsOver, Outcome, Remains, Splits, end_octets, end_of, nothing_left, of_all, of_first}
+use Rattle.asn1_ber_items.specs.Walks.{AreInside, AreLast, Comes, IsAfter, IsClosing, IsEnd, IsFront, IsOver, Outcome, Remains, Splits, end_octets, end_of, nothing_left, of_all, of_first}
 use Rattle.asn1_ber_items.specs.declared.open_element.Extent.{Extent}
 use Rattle.asn1_ber_items.specs.declared.open_element.Extent.TheVariants.{Definite, Indefinite}
 use Rattle.asn1_ber_items.specs.declared.open_element.OpenElement.{OpenElement}
+use Rattle.asn1_ber_items.proofs.Snoc.{IsSnoc, view}
 use Rattle.asn1_ber_items.proofs.Splits.{Begins, none_begins, none_or_more}
 
--- A list that is not empty has a last element.
-pub record IsSnoc (es : List OpenElement) : Type 0 where
-  pub outer : List OpenElement
-  pub innermost : OpenElement
-  pub are : es ≡ outer ++ innermost ∷ []
+-- The element was begun in what was written, and its contents octets are the last of that.
+pub record IsOpenIn (e : OpenElement) (Before : List ℕ → Type 0) (written : List ℕ) : Type 0 where
+  pub before : List ℕ
+  pub front : List ℕ
+  pub contents : List ℕ
+  pub begun : IsBegun e.tag true front
+  pub are : written ≡ (before ++ front) ++ contents
+  pub starts : e.start ≡ length before
+  pub inside : e.contents ≡ length (before ++ front)
+  pub outer : Before before
 
-pub view : (es : List OpenElement) → (es ≡ []) ⊎ IsSnoc es
-view [] = inl refl
-view (e ∷ es) = inr (by es (view es))
-  where
-    by : (es : List OpenElement) → (es ≡ []) ⊎ IsSnoc es → IsSnoc (e ∷ es)
-    by es (inl none) = record { outer = []; innermost = e; are = ap (λ l. e ∷ l) none }
-    by es (inr s) = record { outer = e ∷ s.outer; innermost = s.innermost; are = ap (λ l. e ∷ l) s.are }
+-- the open elements were begun, each inside the one before it
+abbrev pub AreOpen : List OpenElement → (List ℕ → Type 0) → List ℕ → Type 0
+AreOpen [] Before written = Before written
+AreOpen (e ∷ es) Before written = AreOpen es (IsOpenIn e Before) written
 
 -- what is to come inside the last element
 pub comes_in : (es : List OpenElement) (e : OpenElement) (Later : List ℕ → List ℕ → Type 0) (left written : List ℕ) → Comes (es ++ e ∷ []) Later left written → AreInside e (Comes es Later) left written
@@ -36,36 +39,9 @@ pub comes_out : (es : List OpenElement) (e : OpenElement) (Later : List ℕ → 
 comes_out [] e Later left written c = c
 comes_out (f ∷ es) e Later left written c = comes_out es e (AreInside f Later) left written c
 
-pub begun_in : (es : List OpenElement) (e : OpenElement) (Before : List ℕ → Type 0) (written : List ℕ) → AreBegun (es ++ e ∷ []) Before written → IsBegunIn e (AreBegun es Before) written
-begun_in [] e Before written b = b
-begun_in (f ∷ es) e Before written b = begun_in es e (IsBegunIn f Before) written b
-
-pub begun_out : (es : List OpenElement) (e : OpenElement) (Before : List ℕ → Type 0) (written : List ℕ) → IsBegunIn e (AreBegun es Before) written → AreBegun (es ++ e ∷ []) Before written
-begun_out [] e Before written b = b
-begun_out (f ∷ es) e Before written b = begun_out es e (IsBegunIn f Before) written b
-
--- open elements stay so where more is written
-abbrev Grows : (List ℕ → Type 0) → Type 0
-Grows Before = (written own : List ℕ) → Before written → Before (written ++ own)
-
-grows_in : (e : OpenElement) (Before : List ℕ → Type 0) → Grows (IsBegunIn e Before)
-grows_in e Before written own b = record {
-  before = b.before;
-  front = b.front;
-  contents = b.contents ++ own;
-  begun = b.begun;
-  are = ap (λ l. l ++ own) b.are ∙ append_assoc (b.before ++ b.front) b.contents own;
-  starts = b.starts;
-  inside = b.inside;
-  outer = b.outer;
-}
-
-grow_with : (es : List OpenElement) (Before : List ℕ → Type 0) → Grows Before → Grows (AreBegun es Before)
-grow_with [] Before grows written own b = grows written own b
-grow_with (e ∷ es) Before grows written own b = grow_with es (IsBegunIn e Before) (grows_in e Before) written own b
-
-pub grow : (es : List OpenElement) (written own : List ℕ) → AreBegun es (λ _. ⊤) written → AreBegun es (λ _. ⊤) (written ++ own)
-grow es written own b = grow_with es (λ _. ⊤) (λ _ _ _. tt) written own b
+pub open_in : (es : List OpenElement) (e : OpenElement) (Before : List ℕ → Type 0) (written : List ℕ) → AreOpen (es ++ e ∷ []) Before written → IsOpenIn e (AreOpen es Before) written
+open_in [] e Before written b = b
+open_in (f ∷ es) e Before written b = open_in es e (IsOpenIn f Before) written b
 
 -- an end is one
 pub is_end : (x : Extent) (back : List ℕ) → IsEnd (end_of x back)
@@ -120,7 +96,7 @@ module _ (Is : List ℕ → List ℕ → Type 0) (left : List ℕ) (splits : Spl
   produced_last (of_first normal rest) (o ∷ written) own back is more f = absurd (more (refl, λ e. cc))
 
 module _ (Is : List ℕ → List ℕ → Type 0) (left : List ℕ) (splits : Splits Is left) (outcome : Outcome) (written : List ℕ) where
-  consumed_inside : (outer : List OpenElement) (e : OpenElement) → IsBegunIn e (AreBegun outer (λ _. ⊤)) written → AreInside e (Comes outer (Remains outcome)) left written → Consumed Is (outer ++ e ∷ []) outcome written
+  consumed_inside : (outer : List OpenElement) (e : OpenElement) → IsOpenIn e (AreOpen outer (λ _. ⊤)) written → AreInside e (Comes outer (Remains outcome)) left written → Consumed Is (outer ++ e ∷ []) outcome written
   consumed_inside outer e b i =
       let s = splits.ahead i.others (end_of e.extent i.back) (is_end e.extent i.back) i.spell in
       let starts : e.start ≤ length written = omega (arith, b.starts, ap length b.are, length-append (b.before ++ b.front) b.contents, length-append b.before b.front) in
@@ -142,15 +118,15 @@ module _ (Is : List ℕ → List ℕ → Type 0) (left : List ℕ) (splits : Spl
         });
       }
 
-  pub consumed : (es : List OpenElement) → ¬ IsOver outcome es left written → AreBegun es (λ _. ⊤) written → Comes es (Remains outcome) left written → Consumed Is es outcome written
+  pub consumed : (es : List OpenElement) → ¬ IsOver outcome es left written → AreOpen es (λ _. ⊤) written → Comes es (Remains outcome) left written → Consumed Is es outcome written
   consumed es = by (view es)
     where
-      by : (es ≡ []) ⊎ IsSnoc es → ¬ IsOver outcome es left written → AreBegun es (λ _. ⊤) written → Comes es (Remains outcome) left written → Consumed Is es outcome written
-      by (inl none) = subst (λ fs. ¬ IsOver outcome fs left written → AreBegun fs (λ _. ⊤) written → Comes fs (Remains outcome) left written → Consumed Is fs outcome written) (sym none) (λ more b c. consumed_last Is left splits outcome written more c)
-      by (inr s) = subst (λ fs. ¬ IsOver outcome fs left written → AreBegun fs (λ _. ⊤) written → Comes fs (Remains outcome) left written → Consumed Is fs outcome written) (sym s.are)
-          (λ more b c. consumed_inside s.outer s.innermost (begun_in s.outer s.innermost (λ _. ⊤) written b) (comes_in s.outer s.innermost (Remains outcome) left written c))
+      by : (es ≡ []) ⊎ IsSnoc es → ¬ IsOver outcome es left written → AreOpen es (λ _. ⊤) written → Comes es (Remains outcome) left written → Consumed Is es outcome written
+      by (inl none) = subst (λ fs. ¬ IsOver outcome fs left written → AreOpen fs (λ _. ⊤) written → Comes fs (Remains outcome) left written → Consumed Is fs outcome written) (sym none) (λ more b c. consumed_last Is left splits outcome written more c)
+      by (inr s) = subst (λ fs. ¬ IsOver outcome fs left written → AreOpen fs (λ _. ⊤) written → Comes fs (Remains outcome) left written → Consumed Is fs outcome written) (sym s.are)
+          (λ more b c. consumed_inside s.outer s.innermost (open_in s.outer s.innermost (λ _. ⊤) written b) (comes_in s.outer s.innermost (Remains outcome) left written c))
 
-  produced_inside : (outer : List OpenElement) (e : OpenElement) (own back : List ℕ) → Is own back → IsBegunIn e (AreBegun outer (λ _. ⊤)) written → AreInside e (Comes outer (Remains outcome)) back (written ++ own) → AreInside e (Comes outer (Remains outcome)) left written
+  produced_inside : (outer : List OpenElement) (e : OpenElement) (own back : List ℕ) → Is own back → IsOpenIn e (AreOpen outer (λ _. ⊤)) written → AreInside e (Comes outer (Remains outcome)) back (written ++ own) → AreInside e (Comes outer (Remains outcome)) left written
   produced_inside outer e own back is b i =
       let starts : e.start ≤ length written = omega (arith, b.starts, ap length b.are, length-append (b.before ++ b.front) b.contents, length-append b.before b.front) in
       let inside : e.contents ≤ length written = omega (arith, b.inside, ap length b.are, length-append (b.before ++ b.front) b.contents) in
@@ -166,29 +142,17 @@ module _ (Is : List ℕ → List ℕ → Type 0) (left : List ℕ) (splits : Spl
         later = subst (λ l. Comes outer (Remains outcome) i.back (l ++ i.own)) (take-append-le e.start written own starts) i.later;
       }
 
-  pub produced : (es : List OpenElement) (own back : List ℕ) → Is own back → ¬ IsOver outcome es left written → AreBegun es (λ _. ⊤) written → Comes es (Remains outcome) back (written ++ own) → Comes es (Remains outcome) left written
+  pub produced : (es : List OpenElement) (own back : List ℕ) → Is own back → ¬ IsOver outcome es left written → AreOpen es (λ _. ⊤) written → Comes es (Remains outcome) back (written ++ own) → Comes es (Remains outcome) left written
   produced es own back is = by (view es)
     where
-      by : (es ≡ []) ⊎ IsSnoc es → ¬ IsOver outcome es left written → AreBegun es (λ _. ⊤) written → Comes es (Remains outcome) back (written ++ own) → Comes es (Remains outcome) left written
-      by (inl none) = subst (λ fs. ¬ IsOver outcome fs left written → AreBegun fs (λ _. ⊤) written → Comes fs (Remains outcome) back (written ++ own) → Comes fs (Remains outcome) left written) (sym none) (λ more b c. produced_last Is left splits outcome written own back is more c)
-      by (inr s) = subst (λ fs. ¬ IsOver outcome fs left written → AreBegun fs (λ _. ⊤) written → Comes fs (Remains outcome) back (written ++ own) → Comes fs (Remains outcome) left written) (sym s.are)
+      by : (es ≡ []) ⊎ IsSnoc es → ¬ IsOver outcome es left written → AreOpen es (λ _. ⊤) written → Comes es (Remains outcome) back (written ++ own) → Comes es (Remains outcome) left written
+      by (inl none) = subst (λ fs. ¬ IsOver outcome fs left written → AreOpen fs (λ _. ⊤) written → Comes fs (Remains outcome) back (written ++ own) → Comes fs (Remains outcome) left written) (sym none) (λ more b c. produced_last Is left splits outcome written own back is more c)
+      by (inr s) = subst (λ fs. ¬ IsOver outcome fs left written → AreOpen fs (λ _. ⊤) written → Comes fs (Remains outcome) back (written ++ own) → Comes fs (Remains outcome) left written) (sym s.are)
           (λ more b c. comes_out s.outer s.innermost (Remains outcome) left written
-          (produced_inside s.outer s.innermost own back is (begun_in s.outer s.innermost (λ _. ⊤) written b) (comes_in s.outer s.innermost (Remains outcome) back (written ++ own) c)))
+          (produced_inside s.outer s.innermost own back is (open_in s.outer s.innermost (λ _. ⊤) written b) (comes_in s.outer s.innermost (Remains outcome) back (written ++ own) c)))
 
 -- an element that was begun is inside what is open
-module _ (es : List OpenElement) (e : OpenElement) (contents written front : List ℕ) (begun : IsBegun e.tag true front) (starts : e.start ≡ length written) (inside : e.contents ≡ length (written ++ front)) where
-  pub begun_too : AreBegun es (λ _. ⊤) written → AreBegun (es ++ e ∷ []) (λ _. ⊤) (written ++ front)
-  begun_too b = begun_out es e (λ _. ⊤) (written ++ front) (record {
-    before = written;
-    front = front;
-    contents = [];
-    begun = begun;
-    are = sym (append-nil (written ++ front));
-    starts = starts;
-    inside = inside;
-    outer = b;
-  })
-
+module _ (es : List OpenElement) (e : OpenElement) (contents written front : List ℕ) (starts : e.start ≡ length written) (inside : e.contents ≡ length (written ++ front)) where
   taken : take e.start (written ++ front) ≡ written
   taken = ap (λ n. take n (written ++ front)) starts ∙ take-append_seam written front
 
@@ -223,15 +187,12 @@ same_back Indefinite back other a b e = cc
 
 -- an open element that ends
 module _ (outer : List OpenElement) (e : OpenElement) (left written back own : List ℕ) (ends : left ≡ end_of e.extent back) (after : IsAfter e.extent back)
-    (b : IsBegunIn e (AreBegun outer (λ _. ⊤)) written) (element : IsElement e.tag true b.contents own) where
+    (b : IsOpenIn e (AreOpen outer (λ _. ⊤)) written) (element : IsElement e.tag true b.contents own) where
   taken_before : take e.start written ≡ b.before
   taken_before = ap (λ n. take n written) b.starts ∙ ap (λ l. take (length b.before) l) (b.are ∙ append_assoc b.before b.front b.contents) ∙ take-append_seam b.before (b.front ++ b.contents)
 
   dropped_front : drop e.contents written ≡ b.contents
   dropped_front = ap (λ n. drop n written) b.inside ∙ ap (λ l. drop (length (b.before ++ b.front)) l) b.are ∙ drop-append_seam (b.before ++ b.front) b.contents
-
-  pub ended_begun : AreBegun outer (λ _. ⊤) (b.before ++ own)
-  ended_begun = grow outer b.before own b.outer
 
   pub ends_ahead : (outcome : Outcome) → Comes (outer ++ e ∷ []) (Remains outcome) left written → Comes outer (Remains outcome) back (b.before ++ own)
   ends_ahead outcome comes = by (comes_in outer e (Remains outcome) left written comes)

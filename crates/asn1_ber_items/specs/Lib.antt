@@ -1,5 +1,6 @@
 pub mod Headers
 pub mod LooseContents
 pub mod Pieces
+pub mod Segments
 pub mod Spellings
 pub mod Walks

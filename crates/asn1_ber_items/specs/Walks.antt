@@ -1,6 +1,7 @@
 -- The walk through elements of BER: the elements that are open, and what is to come.
-use Rattle.std.specs.Prelude.{◌≡◌, ◌≢◌, ⊤, ℕ, ◌+◌, ◌*◌, ◌<◌, Some, true, List, [], ◌∷◌, ◌++◌, length, take, drop}
+use Rattle.std.specs.Prelude.{◌≡◌, ◌≢◌, ⊤, ℕ, suc, ◌+◌, ◌*◌, ◌<◌, Some, true, List, [], ◌∷◌, ◌++◌, length, take, drop}
 use Rattle.asn1_ber_items.specs.Headers.{end_of_contents, header_at, header_of}
+use Rattle.asn1_ber_items.specs.Segments.{IsCounted, joined, segments_of, written_in}
 use Rattle.asn1_ber_items.specs.Spellings.{Spells, SpellsOne}
 use Rattle.asn1_ber_items.specs.declared.header.Header.{Header as HeaderRead}
 use Rattle.asn1_ber_items.specs.declared.open_element.Extent.{Extent}
@@ -63,31 +64,37 @@ Comes (e ∷ es) Later left written = Comes es (AreInside e Later) left written
 
 -- The walk will have this outcome.
 abbrev pub Writes : Walk → Outcome → Type 0
-Writes walk outcome = Comes walk.begun.items (Remains outcome) walk.left.now walk.written.items
+Writes walk outcome = Comes walk.begun.items (Remains outcome) walk.left.now (written_in walk.written)
 
 -- The walk has to go on for this outcome.
 abbrev pub GoesOn : Walk → Outcome → Type 0
-GoesOn walk outcome = ¬ IsOver outcome walk.begun.items walk.left.now walk.written.items
+GoesOn walk outcome = ¬ IsOver outcome walk.begun.items walk.left.now (written_in walk.written)
 
--- The element was begun, and its contents octets are the last that were written.
-pub record IsBegunIn (e : OpenElement) (Before : List ℕ → Type 0) (written : List ℕ) : Type 0 where
-  pub before : List ℕ
+-- The element was begun in a segment, behind these octets. Its contents octets are the last that were written, in this segment and
+-- later ones.
+pub record IsBegunIn (e : OpenElement) (Before : List (List ℕ) → Type 0) (segments : List (List ℕ)) : Type 0 where
+  pub before : List (List ℕ)
+  pub outside : List ℕ
   pub front : List ℕ
-  pub contents : List ℕ
+  pub rest : List ℕ
+  pub after : List (List ℕ)
   pub begun : IsBegun e.tag true front
-  pub are : written ≡ (before ++ front) ++ contents
-  pub starts : e.start ≡ length before
-  pub inside : e.contents ≡ length (before ++ front)
-  pub outer : Before before
+  pub are : segments ≡ before ++ ((outside ++ front) ++ rest) ∷ after
+  pub segment : e.room.segment ≡ length before
+  pub index : suc e.room.index ≡ length (outside ++ front)
+  pub starts : e.start ≡ length (joined before ++ outside)
+  pub inside : e.contents ≡ length ((joined before ++ outside) ++ front)
+  pub outer : Before (before ++ outside ∷ [])
 
 -- the open elements were begun, each inside the one before it
-abbrev pub AreBegun : List OpenElement → (List ℕ → Type 0) → List ℕ → Type 0
-AreBegun [] Before written = Before written
-AreBegun (e ∷ es) Before written = AreBegun es (IsBegunIn e Before) written
+abbrev pub AreBegun : List OpenElement → (List (List ℕ) → Type 0) → List (List ℕ) → Type 0
+AreBegun [] Before segments = Before segments
+AreBegun (e ∷ es) Before segments = AreBegun es (IsBegunIn e Before) segments
 
--- the open elements of the walk were begun
-abbrev pub IsConsistent : Walk → Type 0
-IsConsistent walk = AreBegun walk.begun.items (λ _. ⊤) walk.written.items
+-- The open elements of the walk were begun, and what was written is counted.
+pub record IsConsistent (walk : Walk) : Type 0 where
+  pub begun : AreBegun walk.begun.items (λ _. ⊤) (segments_of walk.written)
+  pub counted : IsCounted walk.written
 
 -- how many bytes follow an element of a definite length
 abbrev pub bytes_after : Extent → ℕ

@@ -34,6 +34,7 @@ mod loose;
 mod normal;
 mod open_element;
 mod pieces;
+mod segments;
 mod size;
 mod walk;
 

@@ -10,9 +10,9 @@ use std::alloc::Global;
 /// The elements of which the bytes are, each with a definite length of the fewest octets (X.690, 8.1.3 and 10.1).
 ///
 /// # Errors
-/// [`ItemError::Memory`]; else the bytes are no elements of BER with tag numbers below 2^32: [`ItemError::Missing`] where they end too early, outside all
-/// elements of definite lengths, with the number of bytes that are missing of the part that is read, and otherwise
-/// [`ItemError::Malformed`].
+/// [`ItemError::Memory`]; else the bytes are no elements of BER with tag numbers below 2^32: [`ItemError::Missing`] where they end
+/// in the first element, outside all elements of definite lengths, with the number of bytes that are missing of the part that is
+/// read, and otherwise [`ItemError::Malformed`].
 pub fn normal_form(alloc: Global, bytes: &[u8]) -> Result<Vec<u8>, ItemError>
     ensures found { (normal : List ℕ) → Spells bytes.now normal [] →
         MatchResult result (λ own. own.items ≡ normal) (λ e. e ≡ Memory) }
@@ -22,7 +22,8 @@ pub fn normal_form(alloc: Global, bytes: &[u8]) -> Result<Vec<u8>, ItemError>
     while !walk.is_at_end() {
         walk.step()?;
     }
-    Ok(walk.written)
+    let normal = walk.written.join()?;
+    Ok(normal)
 }
 
 /// The normal form of an element, and the bytes after the element.
@@ -50,8 +51,9 @@ pub fn front_element(alloc: Global, bytes: &[u8]) -> Result<FrontElement<'_>, It
     while !walk.is_after_front() {
         walk.step()?;
     }
+    let normal = walk.written.join()?;
     Ok(FrontElement {
-        normal: walk.written,
+        normal,
         rest: walk.left,
     })
 }

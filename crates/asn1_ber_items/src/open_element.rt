@@ -1,4 +1,5 @@
 //! Elements whose end has not been reached.
+use crate::segments::Room;
 use asn1_tags::Tag;
 
 /// A constructed element whose end has not been reached.
@@ -10,6 +11,8 @@ pub(crate) struct OpenElement<'a> {
     pub(crate) start: usize,
     /// The index of its contents octets in what was written.
     pub(crate) contents: usize,
+    /// The octet that is left for its length.
+    pub(crate) room: Room,
     /// Where it ends.
     pub(crate) extent: Extent<'a>,
 }

@@ -1,9 +1,11 @@
 //! The length octets of an element.
 ghost use Rattle.asn1_ber_items.specs.Headers.{Measured as MeasuredView, later_size_at, long_size_at, measured_of, size_at};
+ghost use Rattle.asn1_ber_items.specs.Segments.{WritesSize};
 ghost use Rattle.std.specs.Prelude.{◌≡◌, IfOk, IsOk, Some};
 
 use asn1_der_items::number_of;
-use asn1_items::ItemError;
+use asn1_items::{ItemError, significant};
+use std::alloc::AllocError;
 
 /// A length that was read, and the bytes after it.
 #[derive(Clone, Copy)]
@@ -62,4 +64,30 @@ fn read_long_size(count: usize, octets: &[u8]) -> Result<Measured<'_>, ItemError
         }),
         None => Err(ItemError::Malformed),
     }
+}
+
+/// Writes a length of this size over the octet at an index, and answers how many octets it has beyond one. Those after it are moved
+/// only where there are any.
+pub(crate) fn write_size(
+    octets: &mut Vec<u8>,
+    index: usize,
+    size: usize,
+) -> Result<usize, AllocError>
+    ensures { WritesSize index size octets.old.items octets.new.items result }
+{
+    if octets.len() <= index {
+        return Ok(0);
+    }
+    if size < 128 {
+        octets[index] = size as u8;
+        return Ok(0);
+    }
+    let rest = Vec::from_slice(*octets.allocator(), &octets[index + 1..])?;
+    octets.truncate(index);
+    let long = (size as u64).to_be_bytes();
+    let digits = significant(&long);
+    octets.push(digits.len() as u8 + 128)?;
+    octets.extend_from_slice(digits)?;
+    octets.extend_from_slice(rest.as_slice())?;
+    Ok(digits.len())
 }

@@ -1,5 +1,6 @@
 //! The walk through elements of BER.
 ghost use Rattle.asn1_ber_items.specs.Headers.{end_of_contents};
+ghost use Rattle.asn1_ber_items.specs.Segments.{written_in};
 ghost use Rattle.asn1_ber_items.specs.Walks.{Goes, GoesOn, IsClosing, IsConsistent, IsCopy, IsElementHere, IsEnding, IsStuck, Outcome, Remains, Splits, Writes, bytes_after};
 ghost use Rattle.asn1_der_items.specs.Elements.{IsElement};
 ghost use Rattle.asn1_items.specs.Numbers.{Appended};
@@ -8,6 +9,7 @@ ghost use Rattle.std.specs.Prelude.{◌≡◌, ◌≢◌, ◌∷◌, ◌++◌, �
 
 use crate::header::{Header, read_header};
 use crate::open_element::{Extent, OpenElement};
+use crate::segments::Segments;
 use asn1_der_items::{begin_element, end_element};
 use asn1_items::ItemError;
 use asn1_tags::{Class, Tag};
@@ -23,7 +25,7 @@ const END_OF_CONTENTS: Tag = Tag {
 #[derive(Drop)]
 pub(crate) struct Walk<'a> {
     /// What was written.
-    pub(crate) written: Vec<u8>,
+    pub(crate) written: Segments,
     /// The open elements, the outermost first.
     begun: Vec<OpenElement<'a>>,
     /// The bytes that are left of the innermost open element.
@@ -38,7 +40,7 @@ impl<'a> Walk<'a> {
         ensures behind { (outcome : Outcome) → Writes result outcome → Remains outcome bytes.now [] }
     {
         Walk {
-            written: Vec::new(alloc),
+            written: Segments::new(alloc),
             begun: Vec::new(alloc),
             left: bytes,
         }
@@ -53,7 +55,8 @@ impl<'a> Walk<'a> {
 
     /// Whether the first element was written, and nothing after it.
     pub(crate) fn is_after_front(&self) -> bool
-        ensures { Decides result ((self.now.begun.items ≡ []) × (self.now.written.items ≢ [])) }
+        ensures { IsConsistent self.now → Decides result ((self.now.begun.items ≡ []) ×
+            (written_in self.now.written ≢ [])) }
     {
         self.begun.is_empty() && !self.written.is_empty()
     }
@@ -98,13 +101,11 @@ impl<'a> Walk<'a> {
         let Some(element) = self.begun.pop() else {
             return Ok(());
         };
-        match end_element(&mut self.written, element.contents) {
-            Ok(()) => {
-                self.left = back;
-                Ok(())
-            }
-            Err(_) => Err(ItemError::Memory),
-        }
+        let written = self.written.len()?;
+        let size = written.saturating_sub(element.contents);
+        self.written.write_size(element.room, size)?;
+        self.left = back;
+        Ok(())
     }
 
     /// Begins the next element, where none ends.
@@ -129,14 +130,24 @@ impl<'a> Walk<'a> {
         }
     }
 
-    /// The error where no element was read: bytes are missing only if no open element has a definite length, whose bytes are all
-    /// there.
+    /// The error where no element was read: bytes are missing only of the first element, and only if no open element has a definite
+    /// length, whose bytes are all there.
     fn error_here(&self, error: ItemError) -> ItemError
         ensures { (result ≡ Memory) ↔ (error ≡ Memory) }
     {
         match error {
-            ItemError::Missing(_) if self.is_inside_definite() => ItemError::Malformed,
+            ItemError::Missing(_) if self.is_behind_first() || self.is_inside_definite() => {
+                ItemError::Malformed
+            }
             other => other,
+        }
+    }
+
+    /// Whether the first element was written.
+    fn is_behind_first(&self) -> bool {
+        match self.begun.first() {
+            Some(outermost) => outermost.start > 0,
+            None => !self.written.is_empty(),
         }
     }
 
@@ -179,12 +190,16 @@ impl<'a> Walk<'a> {
             IsConsistent self.old →
             MatchResult result (λ _. Goes self.old self.new) (λ e. e ≡ Memory) }
     {
-        let start = self.written.len();
-        begin_element(&mut self.written, tag, true)?;
+        let start = self.written.len()?;
+        let room = self
+            .written
+            .begin_constructed(tag, are_few(contents, extent))?;
+        let inside = self.written.len()?;
         let element = OpenElement {
             tag,
             start,
-            contents: self.written.len(),
+            contents: inside,
+            room,
             extent,
         };
         match self.begun.push(element) {
@@ -203,9 +218,17 @@ impl<'a> Walk<'a> {
             length back.now < length self.old.left.now → IsConsistent self.old →
             MatchResult result (λ _. Goes self.old self.new) (λ e. e ≡ Memory) }
     {
-        append_element(&mut self.written, tag, contents)?;
+        append_element(&mut self.written.last, tag, contents)?;
         self.left = back;
         Ok(())
+    }
+}
+
+/// Whether contents octets are so few that their length has one octet, also in the normal form.
+fn are_few(contents: &[u8], extent: Extent<'_>) -> bool {
+    match extent {
+        Extent::Definite(_) => contents.len() < 128,
+        Extent::Indefinite => false,
     }
 }
 

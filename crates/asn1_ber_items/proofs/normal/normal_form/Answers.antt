@@ -1,5 +1,6 @@
-use Rattle.std.proofs.Common.{[], append-nil, refl, sym, subst}
+use Rattle.std.proofs.Common.{[], append-nil, refl, sym, subst, ◌∙◌}
 use Rattle.std.proofs.lemmas.Result.{err_from_is_err_and}
+use Rattle.asn1_ber_items.specs.Segments.{written_in}
 use Rattle.asn1_ber_items.specs.Spellings.{Spells, nothing}
 use Rattle.asn1_ber_items.specs.Walks.{Comes, Remains, of_all}
 use Rattle.asn1_ber_items.proofs.Steps.{only_memory}
@@ -29,16 +30,17 @@ pub returns-clause-found : goal.returns-clause-found
 returns-clause-found c = λ normal spells.
     let walk = c.loop-walk.walk in
     let none = c.loop-walk-test.ensures.0 refl in
-    sym (at_end normal walk.left.now walk.written.items none.1 (subst (λ es. Comes es (Remains (of_all normal)) walk.left.now walk.written.items) none.0 (c.loop-walk.invariant.ahead normal spells)))
+    c.in_ok-normal.ensures ∙ sym (at_end normal walk.left.now (written_in walk.written) none.1 (subst (λ es. Comes es (Remains (of_all normal)) walk.left.now (written_in walk.written)) none.0 (c.loop-walk.invariant.ahead normal spells)))
 
 pub returns-clause-only : goal.returns-clause-only
 returns-clause-only c =
     let walk = c.loop-walk.walk in
-    let written = walk.written.items in
+    let written = written_in walk.written in
     let none = c.loop-walk-test.ensures.0 refl in
-    c.loop-walk.invariant.behind written
+    subst (λ l. Spells c.args.bytes.now l []) (sym c.in_ok-normal.ensures)
+    (c.loop-walk.invariant.behind written
     (subst (λ es. Comes es (Remains (of_all written)) walk.left.now written) (sym none.0)
-    (record { others = []; spell = subst (λ l. Spells l [] []) (sym none.1) (nothing []); are = sym (append-nil written) }))
+    (record { others = []; spell = subst (λ l. Spells l [] []) (sym none.1) (nothing []); are = sym (append-nil written) })))
 
 pub returns-in_err-step-clause-found : goal.returns-in_err-step-clause-found
 returns-in_err-step-clause-found c = λ normal spells.

@@ -1,23 +1,36 @@
-use Rattle.std.proofs.Common.{◌+◌, ◌*◌, ◌<◌, List, length, sym, subst, arith}
-use Rattle.asn1_ber_items.specs.Walks.{bytes_behind}
+use Rattle.std.proofs.Common.{◌≡◌, ◌+◌, ◌*◌, ◌<◌, ◌++◌, ◌∷◌, [], List, length, ap, sym, subst, ◌∙◌}
+use Rattle.std.specs.Bool.{⊤}
+use Rattle.asn1_ber_items.specs.Segments.{joined, octets_of_each, segments_of}
+use Rattle.asn1_ber_items.specs.Walks.{AreBegun, bytes_behind}
 use Rattle.asn1_ber_items.specs.declared.open_element.OpenElement.{OpenElement}
+use Rattle.asn1_ber_items.proofs.Begun.{all_opened, begun_too}
+use Rattle.asn1_ber_items.proofs.Joined.{joined-last, joined-more}
 use Rattle.asn1_ber_items.proofs.Steps.{Steps, less_in, steps_in}
 use Rattle.asn1_ber_items.proofs.walk.Walk.begin_constructed.Goals as goal
 
 pub returns-in-Ok : goal.returns-in-Ok
 returns-in-Ok c = λ splits less consistent.
-    let a = c.in_ok-begin_element.ensures in
+    let a = c.in_ok-room.ensures consistent.counted in
     let es = c.args.self.now.begun.items in
     let left = c.args.self.now.left.now in
     let contents = c.args.contents.now in
-    let written = c.args.self.now.written.items in
-    let new = c.begin_element.new.bytes.items in
-    let e : OpenElement = record { tag = c.args.tag; start = c.len-start.result; contents = c.len.result; extent = c.args.extent } in
+    let full = octets_of_each c.args.self.now.written.full.items in
+    let last = c.args.self.now.written.last.items in
+    let segments = segments_of c.args.self.now.written in
+    let new = segments_of c.begin_constructed.new.self in
+    let e : OpenElement = record { tag = c.args.tag; start = c.in_ok-start.start; contents = c.in_ok-inside.inside; room = c.in_ok-room.room; extent = c.args.extent } in
+    let starts : e.start ≡ length (joined segments) = c.in_ok-start.ensures consistent.counted in
+    let inside : e.contents ≡ length (joined new) = c.in_ok-inside.ensures a.counted in
+    let more : joined new ≡ joined segments ++ a.front = ap joined a.are ∙ joined-more full a.after last a.front a.none_after in
     let pushed = c.in-Ok.ensures.items in
-    let s = subst (λ (fs : List OpenElement). Steps es fs left contents written new) (sym pushed)
-    (steps_in es e left contents written a.added new splits a.is a.joined (omega (arith, c.len-start.ensures, c.args.self.now.written.ok.0)) (omega (arith, c.len.ensures, c.begin_element.new.bytes.ok.0)) consistent) in
+    let begun = begun_too es e full a.after last a.front a.begun a.segment a.index (starts ∙ ap length (joined-last full last)) (inside ∙ ap length more ∙ ap (λ l. length (l ++ a.front)) (joined-last full last)) consistent.begun in
+    let s = subst (λ (fs : List OpenElement). Steps es fs left contents (joined segments) (joined new)) (sym pushed)
+    (steps_in es e left contents (joined segments) a.front (joined new) splits more starts inside (all_opened es segments consistent.begun)) in
     record {
-      consistent = s.consistent;
+      consistent = record {
+        begun = subst (λ fs. AreBegun fs (λ _. ⊤) new) (sym pushed) (subst (AreBegun (es ++ e ∷ []) (λ _. ⊤)) (sym a.are) begun);
+        counted = a.counted;
+      };
       ahead = s.ahead;
       behind = s.behind;
       less = subst (λ (fs : List OpenElement). 2 * (length contents + bytes_behind fs) + length fs < 2 * (length left + bytes_behind es) + length es) (sym pushed) (less_in es e left contents less);

@@ -1,5 +1,6 @@
 use Rattle.std.proofs.Common.{◌≤◌, length, arith}
 use Rattle.std.proofs.lemmas.Result.{MatchResult-weaker}
+use Rattle.asn1_ber_items.specs.Segments.{written_in}
 use Rattle.asn1_ber_items.specs.Headers.{header_of}
 use Rattle.asn1_ber_items.proofs.Headers.{cut_shorter, cut_there}
 use Rattle.asn1_ber_items.proofs.Splits.{definite_splits, primitive_splits}
@@ -11,7 +12,7 @@ pub returns-in_default : goal.returns-in_default
 returns-in_default c = λ here size none consistent memory outcome more writes.
     let left = c.args.self.now.left.now in
     let h = header_of c.args.header in
-    let b = begins c.args.self.now.begun.items left c.args.self.now.written.items outcome more
+    let b = begins c.args.self.now.begun.items left (written_in c.args.self.now.written) outcome more
     (λ outer e back are ends after. none back (record { outer = outer; innermost = e; are = are; ends = ends; after = after })) writes in
     let enough : c.args.size ≤ length c.args.header.rest.now = has_contents left h c.args.size here.at size b in
     absurd (omega (arith, enough, c.in_default.ensures.cases))

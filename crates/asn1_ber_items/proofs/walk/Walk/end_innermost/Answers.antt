@@ -1,20 +1,37 @@
-use Rattle.std.proofs.Common.{◌≡◌, sym, subst, ◌∙◌}
-use Rattle.asn1_ber_items.specs.Walks.{IsAfter, end_of}
+use Rattle.std.proofs.Common.{◌≡◌, ◌++◌, length, sym, subst, ◌∙◌, arith}
+use Rattle.std.specs.Bool.{⊤}
+use Rattle.asn1_der_items.specs.Lengths.{IsLength}
+use Rattle.asn1_ber_items.specs.Segments.{joined, segments_of}
+use Rattle.asn1_ber_items.specs.Walks.{AreBegun, IsAfter, end_of}
 use Rattle.asn1_ber_items.specs.declared.open_element.OpenElement.{OpenElement}
-use Rattle.asn1_ber_items.proofs.Steps.{less_out, same_last, steps_out}
+use Rattle.asn1_ber_items.proofs.Begun.{all_opened, begun_in, ended_begun, ended_is, ended_joined, opened, room_at, room_last, size_is}
+use Rattle.asn1_ber_items.proofs.Snoc.{same_last}
+use Rattle.asn1_ber_items.proofs.Steps.{less_out, steps_out}
+use Rattle.asn1_ber_items.proofs.Walking.{AreOpen}
 use Rattle.asn1_ber_items.proofs.walk.Walk.end_innermost.Goals as goal
 
-pub returns-in-Ok : goal.returns-in-Ok
-returns-in-Ok c = λ ending consistent.
+pub returns : goal.returns
+returns c = λ ending consistent.
     let e = c.in-Some.element in
+    let outer = c.pop.new.self.items in
+    let left = c.args.self.now.left.now in
+    let back = c.args.back.now in
+    let segments = segments_of c.args.self.now.written in
+    let new = segments_of c.write_size.new.self in
     let popped = c.in-Some.ensures.items in
-    let same = same_last ending.outer c.pop.new.self.items ending.innermost e (sym ending.are ∙ popped) in
-    let ends = subst (λ (f : OpenElement). c.args.self.now.left.now ≡ end_of f.extent c.args.back.now) same.last ending.ends in
-    let after = subst (λ (f : OpenElement). IsAfter f.extent c.args.back.now) same.last ending.after in
-    let s = steps_out c.args.self.now.begun.items c.pop.new.self.items e c.args.self.now.left.now c.args.back.now c.args.self.now.written.items c.end_element.new.bytes.items popped ends after c.in-Ok.ensures consistent in
+    let same = same_last ending.outer outer ending.innermost e (sym ending.are ∙ popped) in
+    let ends = subst (λ (f : OpenElement). left ≡ end_of f.extent back) same.last ending.ends in
+    let after = subst (λ (f : OpenElement). IsAfter f.extent back) same.last ending.after in
+    let b = begun_in outer e (λ _. ⊤) segments (subst (λ es. AreBegun es (λ _. ⊤) segments) popped consistent.begun) in
+    let m = c.in_ok-write_size.ensures b.before b.after (b.outside ++ b.begun.identifier) b.rest b.begun.room (room_last outer e segments b) b.segment (room_at outer e segments b) consistent.counted in
+    let size : c.saturating_sub-size.result ≡ length (b.rest ++ joined b.after) = omega (arith, c.saturating_sub-size.ensures, c.in_ok-written.ensures consistent.counted, size_is outer e segments b) in
+    let is_length = subst (λ n. IsLength n m.octets) size m.is_length in
+    let inside = opened e (AreBegun outer (λ _. ⊤)) (AreOpen outer (λ _. ⊤)) (all_opened outer) segments b in
+    let s = steps_out c.args.self.now.begun.items outer e left back (joined segments) (joined new) (b.begun.identifier ++ (m.octets ++ (b.rest ++ joined b.after))) popped ends after inside
+    (ended_is outer e segments b m.octets new is_length m.are) (ended_joined outer e segments b m.octets new is_length m.are) in
     record {
-      consistent = s.consistent;
+      consistent = record { begun = ended_begun outer e segments b m.octets new is_length m.are; counted = m.counted };
       ahead = s.ahead;
       behind = s.behind;
-      less = less_out c.args.self.now.begun.items c.pop.new.self.items e c.args.self.now.left.now c.args.back.now popped ends after;
+      less = less_out c.args.self.now.begun.items outer e left back popped ends after;
     }

@@ -1,0 +1,131 @@
+//! Octets in segments.
+ghost use Rattle.asn1_ber_items.specs.Segments.{IsBegunAt, IsCounted, WritesSizeIn, segments_of, written_in};
+ghost use Rattle.std.specs.Prelude.{◌≡◌, ◌++◌, ◌∷◌, [], Decides, IfOk, length};
+
+use crate::size::write_size;
+use asn1_der_items::begin_element;
+use asn1_tags::Tag;
+use std::alloc::{AllocError, Global};
+use std::mem::replace;
+
+/// Octets that are written in segments, so that a length can grow at the end of one without a move of those after it.
+#[derive(Drop)]
+pub(crate) struct Segments {
+    alloc: Global,
+    /// The segments before the last.
+    full: Vec<Vec<u8>>,
+    /// How many octets these have.
+    counted: usize,
+    /// The segment that is written to.
+    pub(crate) last: Vec<u8>,
+}
+
+/// The octet that is left for the length of an element.
+#[derive(Clone, Copy, Drop)]
+pub(crate) struct Room {
+    /// The number of its segment.
+    segment: usize,
+    /// Its index there.
+    index: usize,
+}
+
+impl Segments {
+    /// One segment, without octets.
+    pub(crate) fn new(alloc: Global) -> Segments
+        ensures none { segments_of result ≡ [] ∷ [] }
+        ensures counted { IsCounted result }
+    {
+        Segments {
+            alloc,
+            full: Vec::new(alloc),
+            counted: 0,
+            last: Vec::new(alloc),
+        }
+    }
+
+    /// Whether there are no octets.
+    pub(crate) fn is_empty(&self) -> bool
+        ensures { IsCounted self.now → Decides result (written_in self.now ≡ []) }
+    {
+        if self.counted > 0 {
+            return false;
+        }
+        self.last.is_empty()
+    }
+
+    /// How many octets there are.
+    pub(crate) fn len(&self) -> Result<usize, AllocError>
+        ensures { IsCounted self.now → IfOk result (λ n. n ≡ length (written_in self.now)) }
+    {
+        match self.counted.checked_add(self.last.len()) {
+            Some(len) => Ok(len),
+            None => Err(AllocError),
+        }
+    }
+
+    /// Begins a constructed element: its contents octets are to be written next, and its length then. They are in the same segment if
+    /// they are few.
+    pub(crate) fn begin_constructed(&mut self, tag: Tag, few: bool) -> Result<Room, AllocError>
+        ensures { IsCounted self.old → IfOk result (IsBegunAt tag self.old self.new) }
+    {
+        begin_element(&mut self.last, tag, true)?;
+        let room = Room {
+            segment: self.full.len(),
+            index: self.last.len() - 1,
+        };
+        if few {
+            return Ok(room);
+        }
+        self.begin_segment()?;
+        Ok(room)
+    }
+
+    /// Begins another segment.
+    fn begin_segment(&mut self) -> Result<(), AllocError>
+        ensures segments { IfOk result (λ _. segments_of self.new ≡
+            segments_of self.old ++ [] ∷ []) }
+        ensures counted { IsCounted self.old → IfOk result (λ _. IsCounted self.new) }
+    {
+        self.counted = self.len()?;
+        let last = replace(&mut self.last, Vec::new(self.alloc));
+        self.full.push(last)?;
+        Ok(())
+    }
+
+    /// Writes a length of this size over the octet that is left for it.
+    pub(crate) fn write_size(&mut self, room: Room, size: usize) -> Result<(), AllocError>
+        ensures { WritesSizeIn room size self.old self.new result }
+    {
+        match self.full.get_mut(room.segment) {
+            Some(octets) => {
+                let added = write_size(octets, room.index, size)?;
+                match self.counted.checked_add(added) {
+                    Some(counted) => {
+                        self.counted = counted;
+                        Ok(())
+                    }
+                    None => Err(AllocError),
+                }
+            }
+            None => {
+                write_size(&mut self.last, room.index, size)?;
+                Ok(())
+            }
+        }
+    }
+
+    /// All octets, in one buffer.
+    pub(crate) fn join(self) -> Result<Vec<u8>, AllocError>
+        ensures { IfOk result (λ own. own.items ≡ written_in self) }
+    {
+        if self.full.is_empty() {
+            return Ok(self.last);
+        }
+        let mut whole = Vec::new(self.alloc);
+        for segment in &self.full {
+            whole.extend_from_slice(segment.as_slice())?;
+        }
+        whole.extend_from_slice(self.last.as_slice())?;
+        Ok(whole)
+    }
+}
