@@ -1,24 +1,25 @@
 -- Elements are cut off: trailing bytes change nothing, and what was written is one element.
-use Rattle.std.proofs.Common.{◌≡◌, ◌+◌, ◌≤◌, ◌<◌, ℕ, Bool, false, true, List, [], ◌∷◌, ◌++◌, ap, subst, ◌∙◌, arith, append-nil, length, length-append}
+use Rattle.std.proofs.Common.{◌≡◌, ◌+◌, ◌≤◌, ◌<◌, ℕ, Bool, false, true, List, [], ◌∷◌, ◌++◌, ap, subst, ◌∙◌, arith, append-nil, drop, length, length-append, sym, take}
+use Rattle.std.proofs.lemmas.List.{take-append-drop}
 use Rattle.asn1_ber.specs.Bytes.{HaveBer}
 use Rattle.asn1_ber.specs.Cuts.{IsCut, ber_fronts, cut_within}
 use Rattle.asn1_ber.specs.Form.{ber_is_lawful_form}
-use Rattle.asn1_ber.specs.Format.{Carries, ber_format}
+use Rattle.asn1_ber.specs.Format.{Carries, CarriesNormal, ber_format}
 use Rattle.asn1_ber.specs.declared.reader.BerReader.{BerReader}
 use Rattle.asn1_ber_items.proofs.Headers.{cut_shorter, header_shorter}
-use Rattle.asn1_ber_items.proofs.NormalForms.{one_normal_form, spells-append}
+use Rattle.asn1_ber_items.proofs.NormalForms.{one-append, one_normal_form, spells-append}
 use Rattle.asn1_ber_items.specs.Spellings.{Spells, SpellsOne, definite, indefinite, nothing, primitive}
 use Rattle.asn1_der_items.specs.Series.{is_one_element}
 use Rattle.asn1_model.proofs.SameRecords.{same-mark}
 use Rattle.asn1_model.proofs.SameUpToOrder.{same_as_cons, same_as_none}
-use Rattle.asn1_model.specs.Meaning.{Meaning, IsWellTagged}
+use Rattle.asn1_model.specs.Meaning.{Meaning, IsWellTagged, own_records}
 use Rattle.asn1_model.specs.Orders.{SameRecords}
 use Rattle.asn1_model.specs.Records.{Record, held, is_presence_mark, more, none}
 use Rattle.asn1_model.specs.Tags.{IsOneRecord, Tags}
 use Rattle.asn1_model.specs.WellFormed.{AreWellFormed}
 use Rattle.asn1_rules.proofs.ItemFronts.{belongs, steady}
 use Rattle.asn1_rules.specs.Fronts.{BelongsTo, IsSteady}
-use Rattle.asn1_rules.specs.ItemFronts.{CutsItems}
+use Rattle.asn1_rules.specs.ItemFronts.{CutsItems, IsFrontOf}
 
 -- the rest is no longer than the octets
 pub rest_within : (octets normal rest : List ℕ) → Spells octets normal rest → length rest ≤ length octets
@@ -72,21 +73,41 @@ cuts_elements = record {
   one_cut = λ octets m n a b. one_cut octets m n a b;
 }
 
--- the octets of a record that is no presence mark are one cut
-cut_alone : (r : Record) (octets normal : List ℕ) → is_presence_mark r ≡ false → Spells octets normal [] → HaveBer (more r none) normal → IsCut octets (length octets)
-cut_alone r octets normal no_mark spell p =
+-- the octets of a record that is no presence mark are one element
+one_alone : (r : Record) (normal : List ℕ) → is_presence_mark r ≡ false → HaveBer (more r none) normal → is_one_element normal ≡ true
+one_alone r normal no_mark p =
     let is : normal ≡ p.first = p.are ∙ ap (λ l. p.first ++ l) p.are_others ∙ append-nil p.first in
-    let e = ber_is_lawful_form.element r p.first no_mark p.is_first in
-    record { normal = normal; rest = []; one = record { spells = spell; one = ap is_one_element is ∙ e.one }; long = omega arith }
+    ap is_one_element is ∙ (ber_is_lawful_form.element r p.first no_mark p.is_first).one
 
--- so are the octets of a list of one record
-cut_of_one : (octets : List ℕ) (rs : List Record) (tags : Tags) → IsOneRecord tags rs → AreWellFormed (λ own. is_one_element own) rs → Carries octets rs → IsCut octets (length octets)
-cut_of_one octets rs tags one well_formed carried =
+-- so are those of a list of one record
+one_carried : (octets : List ℕ) (rs : List Record) (tags : Tags) → IsOneRecord tags rs → (carried : Carries octets rs) → is_one_element carried.have_bytes.normal ≡ true
+one_carried octets rs tags one carried =
     let same : SameRecords carried.exactly (one.item ∷ []) = subst (λ l. SameRecords carried.exactly l) one.alone carried.same in
     let begins = same_as_cons carried.exactly one.item [] same in
     let alone : carried.exactly ≡ begins.first ∷ [] = begins.is ∙ ap (λ l. begins.first ∷ l) (same_as_none begins.others begins.same_others) in
     let b = carried.have_bytes in
-    cut_alone begins.first octets b.normal (same-mark begins.same_first ∙ one.no_mark) b.spell (subst (λ l. HaveBer (held l) b.normal) alone b.have)
+    one_alone begins.first b.normal (same-mark begins.same_first ∙ one.no_mark) (subst (λ l. HaveBer (held l) b.normal) alone b.have)
+
+cut_of_one : (octets : List ℕ) (rs : List Record) (tags : Tags) → IsOneRecord tags rs → AreWellFormed (λ own. is_one_element own) rs → Carries octets rs → IsCut octets (length octets)
+cut_of_one octets rs tags one well_formed carried =
+    let b = carried.have_bytes in
+    record { normal = b.normal; rest = []; one = record { spells = b.spell; one = one_carried octets rs tags one carried }; long = omega arith }
+
+-- records that octets carry, in their normal form
+pub in_normal_form : (octets normal : List ℕ) (rs : List Record) (carried : Carries octets rs) → normal ≡ carried.have_bytes.normal → CarriesNormal normal rs
+in_normal_form octets normal rs carried same =
+    record { exactly = carried.exactly; have_bytes = subst (HaveBer (held carried.exactly)) (sym same) carried.have_bytes.have; same = carried.same }
+
+-- the records of a front, in the normal form of the element
+pub front_in_normal_form : {V : Type 0} (m : Meaning V) (octets normal own rest : List ℕ) (v : V) (n : ℕ) → normal ≡ own → IsFrontOf IsCut Carries (λ own. is_one_element own) m octets v n → SpellsOne octets own rest →
+    CarriesNormal normal (own_records m v)
+front_in_normal_form m octets normal own rest v n is front found =
+    let can = front.is_well_tagged in
+    let b = front.carried.have_bytes in
+    let one = one_carried (take n octets) (own_records m v) _ (m.one_record v m.tag m.constraints m.name can.0 can.1) front.carried in
+    let whole : SpellsOne octets b.normal (drop n octets) =
+    subst (λ l. SpellsOne l b.normal (drop n octets)) (take-append-drop n octets) (one-append (take n octets) b.normal [] (drop n octets) (record { spells = b.spell; one = one })) in
+    in_normal_form (take n octets) normal (own_records m v) front.carried (is ∙ (one_normal_form octets own rest b.normal (drop n octets) found whole).0)
 
 pub ber_steady : {V : Type 0} (m : Meaning V) (eq : V → V → Bool) (reader : BerReader) → IsSteady (ber_fronts m eq) reader
 ber_steady m eq reader = steady IsCut Carries (λ own. is_one_element own) (λ reader. reader.depth) m eq reader cuts_elements

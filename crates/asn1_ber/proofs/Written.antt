@@ -3,7 +3,7 @@ use Rattle.std.proofs.Common.{◌≡◌, ◌≢◌, ℕ, true, false, List, [], 
 use Rattle.std.specs.Prelude.{IfErr, IfOk, Result, Vec}
 use Rattle.std.specs.declared.alloc.Global.{Global}
 use Rattle.asn1_ber.specs.Bytes.{AreNormalInDer, HasBer, HasPrimitive, HaveBer, Holds, IsNormalInDer}
-use Rattle.asn1_ber.specs.Format.{ber_format, written_ber}
+use Rattle.asn1_ber.specs.Format.{ber_format, der_under_ber, written_ber}
 use Rattle.asn1_ber_items.proofs.NormalForms.{der_constructed, der_primitive, one_alone, spells-in_front}
 use Rattle.asn1_ber_items.specs.Headers.{end_of_contents}
 use Rattle.asn1_ber_items.specs.LooseContents.{IsTruthValue, other_octet, zero_octet}
@@ -11,7 +11,6 @@ use Rattle.asn1_ber_items.specs.Spellings.{Spells, nothing}
 use Rattle.asn1_buffers.specs.Encoder.{buffer_writer}
 use Rattle.asn1_buffers.specs.Format.{buffer_format}
 use Rattle.asn1_der.specs.Format.{Carries as CarriesDer}
-use Rattle.asn1_der.specs.WrittenElements.{written_der}
 use Rattle.asn1_der_items.specs.Bytes.{HasDer, HaveDer, HoldsInOrder, content_order_of}
 use Rattle.asn1_der_items.specs.Contents.{HasContents}
 use Rattle.asn1_der_items.specs.Elements.{IsElement}
@@ -94,12 +93,12 @@ mutual
   all_plain none bytes plain p = subst (λ l. Spells l l []) (sym p) (nothing [])
   all_plain (more r rs) bytes plain p = subst (λ l. Spells l l []) (sym p.are) (spells-in_front p.first p.first p.others p.others [] (one_plain r p.first plain.0 p.is_first) (all_plain rs p.others plain.1 p.are_others))
 
--- the format of DER, by what is one value of an open type
+-- the format of what is written, by what is one value of an open type
 abbrev pub der_format : Format (Vec ℕ Global)
-der_format = buffer_format written_der (λ own. is_one_element own)
+der_format = buffer_format der_under_ber (λ own. is_one_element own)
 
 -- what DER rejects is rejected
-pub rejected_too : (rs : List Record) → (buffer_writer written_der).rejects rs → (buffer_writer written_ber).rejects rs
+pub rejected_too : (rs : List Record) → (buffer_writer der_under_ber).rejects rs → (buffer_writer written_ber).rejects rs
 rejected_too rs r = record { exactly = r.exactly; rejects = inl r.rejects; same = r.same }
 
 -- the DER that was written is BER, or refused

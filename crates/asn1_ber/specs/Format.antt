@@ -2,12 +2,12 @@
 use Rattle.std.specs.Prelude.{◌≡◌, ◌⊎◌, ℕ, true, List, [], ◌∷◌, ◌++◌, Vec}
 use Rattle.std.specs.declared.alloc.Global.{Global}
 use Rattle.std.proofs.Common.{inl, inr}
-use Rattle.asn1_ber.specs.Bytes.{AreBerOf, AreNormalInDer}
+use Rattle.asn1_ber.specs.Bytes.{AreBerOf, AreNormalInDer, HaveBer}
+use Rattle.asn1_ber.specs.declared.buffer.BerBuffer.{BerBuffer}
 use Rattle.asn1_buffers.specs.Buffers.{BufferForm}
 use Rattle.asn1_buffers.specs.Encoder.{CarriesUpToOrder, in_one_order}
 use Rattle.asn1_buffers.specs.Format.{buffer_format, buffer_format_is_lawful}
 use Rattle.asn1_der.specs.WrittenElements.{rejects_by_parts as der_rejects_by_parts, written_der}
-use Rattle.asn1_der.specs.declared.buffer.DerBuffer.{DerBuffer}
 use Rattle.asn1_der_items.specs.Bytes.{SomeHasNoDer}
 use Rattle.asn1_der_items.specs.Series.{is_one_element}
 use Rattle.asn1_laws.specs.WritingUpToOrder.{RejectsByParts}
@@ -19,10 +19,26 @@ use Rattle.asn1_rules.specs.Rules.{Format, IsLawful}
 abbrev pub HaveNoNormalDer : List Record → Type 0
 HaveNoNormalDer rs = SomeHasNoDer (held rs) ⊎ (¬ AreNormalInDer (held rs))
 
+-- The buffer writes DER.
+abbrev pub der_under_ber : BufferForm BerBuffer
+der_under_ber = record {
+  wrote = λ buffer w. written_der.wrote buffer.der w;
+  rejects = written_der.rejects;
+  have_bytes = written_der.have_bytes;
+}
+
+-- it rejects records where a part of them is rejected
+pub der_rejects : RejectsByParts (in_one_order der_under_ber)
+der_rejects = record {
+  part = λ before rs after rejected. der_rejects_by_parts.part before rs after rejected;
+  inner = λ h rs rejected. der_rejects_by_parts.inner h rs rejected;
+  marks = λ rs alone rejected. der_rejects_by_parts.marks rs alone rejected;
+}
+
 -- What is written is DER. The octets are read as BER.
-abbrev pub written_ber : BufferForm DerBuffer
+abbrev pub written_ber : BufferForm BerBuffer
 written_ber = record {
-  wrote = written_der.wrote;
+  wrote = der_under_ber.wrote;
   rejects = HaveNoNormalDer;
   have_bytes = AreBerOf;
 }
@@ -75,6 +91,10 @@ ber_is_lawful = buffer_format_is_lawful written_ber (λ bytes. is_one_element by
 -- The octets are BER of these records, up to the order inside sets.
 abbrev pub Carries : List ℕ → List Record → Type 0
 Carries octets rs = CarriesUpToOrder AreBerOf octets rs
+
+-- The octets are BER of these records in normal form, up to the order inside sets.
+abbrev pub CarriesNormal : List ℕ → List Record → Type 0
+CarriesNormal normal rs = CarriesUpToOrder (λ exactly octets. HaveBer (held exactly) octets) normal rs
 
 -- Records that are the same up to the order inside sets have no DER, or none that is its own normal form.
 pub record AreRejected (rs : List Record) : Type 0 where

@@ -1,27 +1,33 @@
 //! Laws of what no other contract names: what the codec, its reader and its decoder come to, and what derives give.
 ghost use Rattle.asn1_ber.specs.Bytes.{AreBerOf, AreNormalInDer, HasBer, HaveBer};
 ghost use Rattle.asn1_ber.specs.Cuts.{IsCut};
-ghost use Rattle.asn1_ber.specs.Form.{IsFormOf};
+ghost use Rattle.asn1_ber.specs.Defaults.{ReadsWhatIsThere};
+ghost use Rattle.asn1_ber.specs.Form.{IsFormOf, ber_form};
 ghost use Rattle.asn1_ber.specs.Format.{AreRejected, Carries};
 ghost use Rattle.asn1_ber_items.specs.Spellings.{SpellsOne};
 ghost use Rattle.asn1_bounds.specs.declared.codec.Codec.TheVariants.{Ber};
 ghost use Rattle.asn1_der_items.specs.Bytes.{HaveDer};
 ghost use Rattle.asn1_der_items.specs.Series.{is_one_element};
+ghost use Rattle.asn1_elements.specs.Decoder.{element_reader};
 ghost use Rattle.asn1_items.specs.declared.kinds.ContentKind.{ContentKind};
 ghost use Rattle.asn1_model.specs.Meaning.{IsWellTagged, own_records};
 ghost use Rattle.asn1_model.specs.Records.{Record, held, highest};
 ghost use Rattle.asn1_rules.specs.Fronts.{BelongsTo, IsSteady};
+ghost use Rattle.asn1_slots.specs.Taggings.{under};
 ghost use Rattle.asn1_tags.specs.Derives.{ClonesAll};
 ghost use Rattle.std.specs.Prelude.{◌≡◌, ◌↔◌, ◌+◌, Bool, List, ℕ, length};
 
 use crate::BerDecoder;
+use crate::buffer::BerEncoder;
 use crate::form::BerForm;
 use crate::reader::BerReader;
 use crate::rules::BerRules;
 use asn1_bounds::Codec;
-use asn1_dec::{Decode, Decoder};
+use asn1_dec::{Decode, DecodeError, Decoder};
 use asn1_elements::ElementForm;
+use asn1_enc::Encoder;
 use asn1_rules::{FrontReader, Rules};
+use asn1_slots::{Tagging, optional, or_default};
 
 /// A law of the codec: octets carry the records whose BER they are, up to the order inside sets; one value of an open type is one
 /// element; and the records are rejected of which some in that order have no DER, or none that is its own normal form, and no others.
@@ -56,6 +62,28 @@ pub fn name_of_the_decoder(decoder: &BerDecoder<'_>) -> Codec
     ensures { result ≡ Ber }
 {
     decoder.codec()
+}
+
+/// A law: the name of an encoder of BER.
+pub fn name_of_the_encoder(encoder: &BerEncoder) -> Codec
+    ensures { result ≡ Ber }
+{
+    encoder.codec()
+}
+
+/// A law of DEFAULT (X.690, 8.9.3): a component that is there is read as its value, also if that is the default. These are the calls by
+/// which a type reads it: into its slot, of which the value is made.
+pub fn a_default_that_is_written_is_read<T: Decode>(
+    decoder: &mut BerDecoder<'_>,
+    tagging: Tagging,
+    default_value: T,
+) -> Result<T, DecodeError>
+    ensures { ReadsWhatIsThere (element_reader ber_form) (under tagging T.meaning) T.eq decoder.old
+        decoder.new result }
+{
+    let mut slot = None;
+    optional(&mut slot, decoder, tagging)?;
+    Ok(or_default(slot, default_value))
 }
 
 /// A law of the reader: trailing bytes change nothing, and an input has one front at most (`steady`); and for each well-tagged type,

@@ -4,6 +4,7 @@
 //! |---|---|---|
 //! | [`BerRules`] | the codec | `Bytes`, `Format` |
 //! | [`BerReader`] | reads values one after another from BER | `Cuts` |
+//! | [`BerEncoder`], [`BerBuffer`] | the encoder, which writes DER | `Format` |
 //! | [`BerDecoder`], [`BerForm`] | the decoder, over elements in normal form, and the form of elements that it reads | `Bytes`, `Form` |
 //! | [`laws`] | the laws of the codec and its reader | |
 //!
@@ -21,12 +22,15 @@
 //! - [`BerReader`] takes one whole element for one value (`cut`), and is steady. For a well-tagged type it belongs to these rules
 //!   (`belongs`), so `round_trip_in_pieces` holds of it.
 //!
-//! No contract covers octets that are not BER of the type, nor a component that is present though it is its DEFAULT, which is read. Tests
-//! show that each of these is an error: an indefinite length of a primitive element, missing end-of-contents octets, a piece of another
+//! - A component with a DEFAULT that is there is read as its value, also if that is the default ([`laws::a_default_that_is_written_is_read`]).
+//!
+//! No contract covers octets that are not BER of the type, nor a whole value of which a component is there though it is its DEFAULT,
+//! which is read. Tests show that each of these is an error: an indefinite length of a primitive element, missing end-of-contents octets, a piece of another
 //! tag, unused bits before the last piece, a constructed content that is no string, and elements of tag numbers of 2^32 or more. An
 //! open type is read in normal form, and strings inside it stay in pieces.
 #![tactic(auto)]
 
+mod buffer;
 mod errors;
 mod form;
 pub mod laws;
@@ -35,6 +39,7 @@ mod reading;
 mod rules;
 
 use asn1_elements::ElementDecoder;
+pub use buffer::{BerBuffer, BerEncoder};
 pub use form::BerForm;
 pub use reader::BerReader;
 pub use rules::BerRules;

@@ -1,10 +1,8 @@
 //! Values at the front of octets of BER.
-ghost use Rattle.asn1_ber.specs.Cuts.{IsCut};
-ghost use Rattle.asn1_laws.specs.declared.decode_error.DecodeError.TheVariants.{Memory};
-ghost use Rattle.std.specs.Prelude.{◌≡◌, MatchResult, ℕ};
+ghost use Rattle.std.specs.Prelude.{◌≡◌};
 
 use crate::errors::decode_error_of;
-use crate::reading::read_octets;
+use crate::reading::read_normal;
 use asn1_ber_items::front_element;
 use asn1_dec::{Decode, DecodeError};
 use asn1_rules::FrontReader;
@@ -37,28 +35,18 @@ impl<D: Decode> FrontReader<D> for BerReader {
     ghost fronts = { ber_fronts D.meaning D.eq };
 
     fn read_front(&self, input: &[u8]) -> Result<(D, usize), DecodeError> {
-        let length = element_length(self.alloc, input)?;
-        let value = read_octets(self.alloc, &input[..length], self.depth)?;
-        Ok((value, length))
+        match front_element(self.alloc, input) {
+            Ok(front) => {
+                let length = input.len() - front.rest.len();
+                let value = read_normal(self.alloc, front.normal.as_slice(), self.depth)?;
+                Ok((value, length))
+            }
+            Err(error) => Err(decode_error_of(error)),
+        }
     }
 
     ghost lawful = { record {
       is_cut = λ reader bytes v n front. front.cut;
       within = λ reader bytes n cut. cut_within bytes n cut;
     } };
-}
-
-/// How long the element is with which the octets begin.
-///
-/// # Errors
-/// [`DecodeError::Memory`]; else no whole element is there: [`DecodeError::Incomplete`] where octets are missing, and otherwise
-/// [`DecodeError::Custom`], with the text `bad item`.
-fn element_length(alloc: Global, octets: &[u8]) -> Result<usize, DecodeError>
-    ensures { MatchResult result (IsCut octets.now)
-        (λ e. (n : ℕ) → IsCut octets.now n → e ≡ Memory) }
-{
-    match front_element(alloc, octets) {
-        Ok(front) => Ok(octets.len() - front.rest.len()),
-        Err(error) => Err(decode_error_of(error)),
-    }
 }

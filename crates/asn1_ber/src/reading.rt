@@ -1,5 +1,5 @@
 //! Reading a value from all of its octets.
-ghost use Rattle.asn1_ber.specs.Format.{Carries};
+ghost use Rattle.asn1_ber.specs.Format.{Carries, CarriesNormal};
 ghost use Rattle.asn1_der_items.specs.Series.{is_one_element};
 ghost use Rattle.asn1_rules.specs.Rules.{ReadsCarried, RefusesCarried, RefusesTrailingRecords};
 
@@ -24,7 +24,23 @@ pub(crate) fn read_octets<T: Decode>(
         T.meaning result }
 {
     match normal_form(alloc, octets) {
-        Ok(normal) => read_whole(BerDecoder::new(alloc, normal.as_slice(), depth)),
+        Ok(normal) => read_normal(alloc, normal.as_slice(), depth),
         Err(error) => Err(decode_error_of(error)),
     }
+}
+
+/// Reads the value whose octets in normal form these are, with at most this many nested scopes.
+pub(crate) fn read_normal<T: Decode>(
+    alloc: Global,
+    normal: &[u8],
+    depth: usize,
+) -> Result<T, DecodeError>
+    ensures read { ReadsCarried (λ own. is_one_element own) (CarriesNormal normal.now) T.meaning
+        T.eq depth result }
+    ensures refuses { RefusesCarried (λ own. is_one_element own) (CarriesNormal normal.now)
+        T.meaning T.refusals depth result }
+    ensures none_left { RefusesTrailingRecords (λ own. is_one_element own)
+        (CarriesNormal normal.now) T.meaning result }
+{
+    read_whole(BerDecoder::new(alloc, normal, depth))
 }

@@ -4,11 +4,11 @@ ghost use Rattle.asn1_laws.specs.Writing.{IsRejection};
 ghost use Rattle.asn1_laws.specs.declared.encode_error.EncodeError.TheVariants.{Depth, Failed};
 ghost use Rattle.std.specs.Prelude.{◌≡◌, ◌≢◌, [], IfErr, IfOk};
 
+use crate::buffer::BerBuffer;
 use crate::reading::read_octets;
 use asn1_ber_items::normal_form;
 use asn1_buffers::write_whole;
 use asn1_dec::{Decode, DecodeError};
-use asn1_der::DerBuffer;
 use asn1_enc::{Encode, EncodeError};
 use asn1_items::ItemError;
 use asn1_rules::Rules;
@@ -16,8 +16,8 @@ use std::alloc::Global;
 
 /// The rules of BER (X.690, 8): a value has many encodings, each of which is read. Its distinguished encoding is written.
 ///
-/// A component that is present though it is its DEFAULT is read too, but no clause says so. While a value is written, the name of the
-/// codec is `Der`, and while one is read `Ber`.
+/// A component that is present though it is its DEFAULT is read too; a clause says so of the call that reads the component
+/// ([`crate::laws::a_default_that_is_written_is_read`]), and none of a whole value.
 ///
 /// They reject the records that have no DER, those with tag universal 0, which end-of-contents octets have (8.1.5), and those with an
 /// open type that is not in normal form: one element, with definite lengths of the fewest octets at each depth. So `write_value`
@@ -25,9 +25,8 @@ use std::alloc::Global;
 /// [`EncodeError::Custom`] with a text that says why; and for no other reason.
 ///
 /// Of octets that are not BER of a value of the type, `read_value` answers an error or a value. [`DecodeError::Incomplete`] comes
-/// where octets are missing, with how many of the part that is read, which may be an element after the value; and
-/// [`DecodeError::Custom`], with the text `bad item`, where the
-/// octets are not what is asked for or some are left. An error of the type's own is answered as it is. No memory is taken by a
+/// where octets of the first element are missing, with how many of the part that is read; and [`DecodeError::Custom`], with the text
+/// `bad item`, where the octets are not what is asked for or some are left. An error of the type's own is answered as it is. No memory is taken by a
 /// length that the octets tell, but by those that are there.
 #[derive(Clone, Copy, Debug)]
 pub struct BerRules {
@@ -59,7 +58,7 @@ impl Rules for BerRules {
         ensures writes_der { IfOk result (λ own.
             CarriesDer own.items (own_records T.meaning value.now)) }
     {
-        let octets = write_whole::<DerBuffer, T>(self.alloc, value, depth)?;
+        let octets = write_whole::<BerBuffer, T>(self.alloc, value, depth)?;
         normal_octets(self.alloc, octets)
     }
 

@@ -1,30 +1,25 @@
-use Rattle.std.proofs.Common.{◌++◌, inl, subst, sym, ◌∙◌}
-use Rattle.asn1_ber.specs.Bytes.{HaveBer}
-use Rattle.asn1_ber.specs.Form.{ber_is_lawful_form}
-use Rattle.asn1_elements.proofs.RemainingElements.{is_form}
-use Rattle.asn1_items.proofs.DecodeStates.{records_are_not_the_end}
+use Rattle.std.proofs.Common.{◌++◌, inl, ◌∙◌}
+use Rattle.asn1_ber.proofs.Cuts.{in_normal_form}
 use Rattle.asn1_model.specs.Meaning.{own_records}
-use Rattle.asn1_model.specs.Records.{held}
 use Rattle.asn1_ber.proofs.reading.read_octets.Goals as goal
 
 pub returns-in-Ok-clause-read : goal.returns-in-Ok-clause-read
 returns-in-Ok-clause-read g c = λ v can of_type valid carried.
     let b = carried.have_bytes in
-    let have = subst (HaveBer (held carried.exactly)) (sym (c.as_slice.ensures.value ∙ c.in-Ok.ensures.found b.normal b.spell)) b.have in
-    rw (← c.new.ensures.depth_left) (c.read_whole.ensures.read v can of_type valid (c.new.ensures.before carried.exactly (own_records g.T.AsnType.meaning v) have carried.same))
+    c.read_normal.ensures.read v can of_type valid
+    (in_normal_form c.args.octets.now c.as_slice.result.now (own_records g.T.AsnType.meaning v) carried (c.as_slice.ensures.value ∙ c.in-Ok.ensures.found b.normal b.spell))
 
 pub returns-in-Ok-clause-refuses : goal.returns-in-Ok-clause-refuses
 returns-in-Ok-clause-refuses g c = λ rs error refused well_formed carried.
     let b = carried.have_bytes in
-    let have = subst (HaveBer (held carried.exactly)) (sym (c.as_slice.ensures.value ∙ c.in-Ok.ensures.found b.normal b.spell)) b.have in
-    rw (← c.new.ensures.depth_left) (c.read_whole.ensures.refuses rs error refused (c.new.ensures.before carried.exactly rs have carried.same))
+    c.read_normal.ensures.refuses rs error refused well_formed
+    (in_normal_form c.args.octets.now c.as_slice.result.now rs carried (c.as_slice.ensures.value ∙ c.in-Ok.ensures.found b.normal b.spell))
 
 pub returns-in-Ok-clause-none_left : goal.returns-in-Ok-clause-none_left
 returns-in-Ok-clause-none_left g c = λ v rest can of_type valid well some carried.
     let b = carried.have_bytes in
-    let have = subst (HaveBer (held carried.exactly)) (sym (c.as_slice.ensures.value ∙ c.in-Ok.ensures.found b.normal b.spell)) b.have in
-    c.read_whole.ensures.none_left v rest can of_type valid (c.new.ensures.before carried.exactly (own_records g.T.AsnType.meaning v ++ rest) have carried.same)
-    (λ d. records_are_not_the_end (is_form ber_is_lawful_form) (λ d. d.state) d rest some)
+    c.read_normal.ensures.none_left v rest can of_type valid well some
+    (in_normal_form c.args.octets.now c.as_slice.result.now (own_records g.T.AsnType.meaning v ++ rest) carried (c.as_slice.ensures.value ∙ c.in-Ok.ensures.found b.normal b.spell))
 
 pub returns-in-Err-clause-read : goal.returns-in-Err-clause-read
 returns-in-Err-clause-read g c = λ v can of_type valid carried.

@@ -1,31 +1,43 @@
-use Rattle.std.proofs.Common.{◌≡◌, inl, subst, sym, take}
+use Rattle.std.proofs.Common.{◌-◌, length, inl, arith}
 use Rattle.std.proofs.lemmas.Result.{err_from_is_err_and}
-use Rattle.asn1_ber.proofs.Cuts.{one_cut}
-use Rattle.asn1_ber.specs.Format.{Carries}
-use Rattle.asn1_model.specs.Meaning.{own_records}
+use Rattle.asn1_ber.specs.Cuts.{IsCut}
+use Rattle.asn1_ber.proofs.Cuts.{front_in_normal_form, one_cut, rest_within}
 use Rattle.asn1_ber.proofs.reader.BerReaderFrontReader.read_front.Goals as goal
 
-pub returns-in_err-length : goal.returns-in_err-length
-returns-in_err-length g c =
-    let p = err_from_is_err_and c.from_residual.result c.from_residual.ensures.1 in
-    record { read = rw (p.1, p.2) (λ v n front. inl (c.in_err-length.ensures n front.cut)) }
+pub overflow_sub-length : goal.overflow_sub-length
+overflow_sub-length g c = omega (arith, rest_within c.args.input.now c.in-Ok.front.normal.items c.in-Ok.front.rest.now c.in-Ok.ensures.only.spells)
 
-pub returns-in_err-value : goal.returns-in_err-value
-returns-in_err-value g c =
-    let from = c.from_residual-in_err-value in
-    let p = err_from_is_err_and from.result from.ensures.1 in
+pub returns-in-Err : goal.returns-in-Err
+returns-in-Err g c = record { read = λ v n front. inl (c.decode_error_of.ensures.memory (c.in-Err.ensures.found front.cut.normal front.cut.rest front.cut.one)) }
+
+pub returns-in_err-value-in-Ok : goal.returns-in_err-value-in-Ok
+returns-in_err-value-in-Ok g c =
+    let p = err_from_is_err_and c.from_residual.result c.from_residual.ensures.1 in
+    let front = c.in-Ok.front in
     record {
-      read = rw (p.1, p.2) (λ v n front.
-          let same : n ≡ c.in_ok-length.length = one_cut c.args.input.now n c.in_ok-length.length front.cut c.in_ok-length.ensures in
-          c.in_err-value.ensures.read v front.is_well_tagged front.of_type front.valid (subst (λ k. Carries (take k c.args.input.now) (own_records g.D.AsnType.meaning v)) same front.carried));
+      read = rw (p.1, p.2) (λ v n is.
+          c.in_err-value-in-Ok.ensures.read v is.is_well_tagged is.of_type is.valid
+          (front_in_normal_form g.D.AsnType.meaning c.args.input.now c.as_slice.result.now front.normal.items front.rest.now v n c.as_slice.ensures.value is c.in-Ok.ensures.only));
     }
 
-pub returns : goal.returns
-returns g c = record {
-  read = record {
-    cut = c.in_ok-length.ensures;
-    as_written = λ v n front.
-        let same : n ≡ c.in_ok-length.length = one_cut c.args.input.now n c.in_ok-length.length front.cut c.in_ok-length.ensures in
-        (sym same, (c.in_ok-value.ensures.read v front.is_well_tagged front.of_type front.valid (subst (λ k. Carries (take k c.args.input.now) (own_records g.D.AsnType.meaning v)) same front.carried)).0);
-  };
-}
+pub returns-in_ok-value-in-Ok : goal.returns-in_ok-value-in-Ok
+returns-in_ok-value-in-Ok g c =
+    let input = c.args.input.now in
+    let front = c.in-Ok.front in
+    let found = c.in-Ok.ensures.only in
+    let cut : IsCut input (length input - length front.rest.now) = record {
+      normal = front.normal.items;
+      rest = front.rest.now;
+      one = found;
+      long = omega (arith, rest_within input front.normal.items front.rest.now found.spells);
+    } in
+    record {
+      read = record {
+        cut = cut;
+        as_written = λ v n is. (
+          one_cut input _ n cut is.cut,
+          (c.in_ok-value-in-Ok.ensures.read v is.is_well_tagged is.of_type is.valid
+              (front_in_normal_form g.D.AsnType.meaning input c.as_slice.result.now front.normal.items front.rest.now v n c.as_slice.ensures.value is found)).0,
+        );
+      };
+    }
