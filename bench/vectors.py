@@ -8,7 +8,7 @@ made here of the items of the other alone, by the layout that asn1_items defines
 not canonical names the bytes as which its value is written: these have to be read by another line, and the position has to be that of
 the first byte in which the two differ. It stops at the first line that is otherwise, and prints how many lines were checked. Left out
 are other refusals, open types by themselves, lines of one form, the lines that read a component that is its DEFAULT, which is
-not written again, and those of BER, whose spellings bench/spellings.py makes.
+not written again, and those of BER, which bench/spellings.py and bench/encoders.py make.
 """
 import os
 import sys

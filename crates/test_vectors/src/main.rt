@@ -15,8 +15,9 @@
 //! with `#` are written as they are.
 //!
 //! The stored run is the test. The answers in `stdout` were made by hand or with another tool: X.690's examples, OpenSSL, and a
-//! model of three codecs in Python, `bench/vectors.py`, which checks each line that has a value in two forms. Other spellings of BER are those of
-//! `bench/spellings.py`. The answer to bytes that are refused is the text of the error.
+//! model of three codecs in Python, `bench/vectors.py`, which checks each line that has a value in two forms. Other spellings of BER
+//! are those of `bench/spellings.py`, and those that Erlang's asn1ct, asn1c and OpenSSL write (`bench/encoders.py`, which compares
+//! what these read, too). The answer to bytes that are refused is the text of the error.
 #![tactic(auto)]
 
 mod answer;
