@@ -11,8 +11,14 @@
 //! of `asn1_print`. The errors of one stage are told together: those of the notation, then those of names and numbers, then those of
 //! tags and of what cannot be printed.
 //!
-//! The contracts promise that there are files if and only if no message is an error (`complete` of [`compile`]), so nothing is left
-//! to write after an error. No contract covers which messages a text has. Every call returns, and fails only if memory runs out.
+//! The contracts promise:
+//!
+//! - There are files if and only if no message is an error (`complete` of [`compile`]), so nothing is left to write after an
+//!   error.
+//! - The messages for the problems of a stage are one for each, with its severity and its text, in the order of the places
+//!   (`messages_of` in `message`; `AreMessagesOf` in `specs/Messages`).
+//!
+//! No contract covers which problems a text has. Every call returns, and fails only if memory runs out.
 #![tactic(auto)]
 
 mod compiled;

@@ -1,6 +1,9 @@
 //! Errors and warnings as lines.
-ghost use Rattle.std.specs.Prelude.{◌≡◌};
+ghost use Rattle.std.specs.Prelude.{◌≡◌, ◌<◌, [], ◌∷◌, ◌++◌, IfOk, OnOk, map};
+ghost use Rattle.std.specs.List.Sorted.{IsPermutation, IsSortedBy};
+ghost use Rattle.std.specs.String.{string_bytes};
 ghost use Rattle.asn1_compilation.specs.Messages as spec;
+ghost use Rattle.asn1_compilation.specs.Messages.{AreMessagesOf, IsMessageOf, is_before};
 
 use crate::job::Input;
 use crate::locator::Locator;
@@ -39,20 +42,31 @@ pub(crate) fn messages_of(
     alloc: Global,
     inputs: &[Input],
     problems: &[Problem],
-) -> Result<Vec<Message>, AllocError> {
-    let mut places = Vec::new(alloc);
-    for (index, problem) in problems.iter().enumerate() {
-        places.push((problem.place.text, problem.place.span.start, index))?;
-    }
-    places.sort()?;
+) -> Result<Vec<Message>, AllocError>
+    ensures { IfOk result (λ messages. AreMessagesOf problems.now messages.items) }
+{
+    let order = in_order(alloc, problems)?;
     let mut locator = Locator::new();
     let mut messages = Vec::new(alloc);
-    for (_, _, index) in &places {
-        if let Some(problem) = problems.get(*index) {
-            messages.push(message_of(alloc, &mut locator, inputs, problem)?)?;
-        }
+    for problem in &order {
+        messages.push(message_of(alloc, &mut locator, inputs, problem)?)?;
     }
     Ok(messages)
+}
+
+// The problems in the order of their places.
+fn in_order<'p>(alloc: Global, problems: &'p [Problem]) -> Result<Vec<&'p Problem>, AllocError>
+    ensures permutation { IfOk result (λ order.
+        IsPermutation problems.now (map (λ problem. problem.now) order.items)) }
+    ensures ascending { IfOk result (λ order.
+        IsSortedBy is_before (map (λ problem. problem.now) order.items)) }
+{
+    let mut order = Vec::new(alloc);
+    for problem in problems {
+        order.push(problem)?;
+    }
+    order.sort_by_key(|problem| (problem.place.text, problem.place.span.start))?;
+    Ok(order)
 }
 
 // The message for a problem.
@@ -61,7 +75,24 @@ fn message_of(
     locator: &mut Locator,
     inputs: &[Input],
     problem: &Problem,
-) -> Result<Message, AllocError> {
+) -> Result<Message, AllocError>
+    ensures { IfOk result (λ message. IsMessageOf problem.now message) }
+{
+    let mut line = beginning(alloc, locator, inputs, problem)?;
+    push_octets(&mut line, problem.text.as_slice())?;
+    Ok(Message {
+        severity: problem.severity,
+        line,
+    })
+}
+
+// What comes before the text of a problem: its place, and that it is a warning.
+fn beginning(
+    alloc: Global,
+    locator: &mut Locator,
+    inputs: &[Input],
+    problem: &Problem,
+) -> Result<String, AllocError> {
     let mut line = String::new(alloc);
     let place = problem.place;
     if let Some(input) = inputs.get(place.text) {
@@ -74,18 +105,35 @@ fn message_of(
     if problem.severity == Severity::Warning {
         line.push_str("warning: ")?;
     }
-    push_octets(&mut line, problem.text.as_slice())?;
-    Ok(Message {
-        severity: problem.severity,
-        line,
-    })
+    Ok(line)
 }
 
 /// Appends octets. One that is not of ASCII becomes a question mark.
-pub(crate) fn push_octets(out: &mut String, octets: &[u8]) -> Result<(), AllocError> {
+pub(crate) fn push_octets(out: &mut String, octets: &[u8]) -> Result<(), AllocError>
+    ensures { OnOk result (string_bytes out.new ≡
+        string_bytes out.old ++ map spec.shown octets.now) }
+{
     for octet in octets {
-        let is_shown = octet.is_ascii_graphic() || *octet == b' ';
-        out.push(if is_shown { char::from(*octet) } else { '?' })?;
+        push_octet(out, *octet)?;
     }
     Ok(())
+}
+
+// Appends an octet, or a question mark.
+fn push_octet(out: &mut String, octet: u8) -> Result<(), AllocError>
+    ensures { OnOk result (string_bytes out.new ≡ string_bytes out.old ++ spec.shown octet ∷ []) }
+{
+    if octet.is_ascii_graphic() || octet == b' ' {
+        push_plain(out, octet)
+    } else {
+        out.push('?')
+    }
+}
+
+// Appends an octet of ASCII.
+fn push_plain(out: &mut String, octet: u8) -> Result<(), AllocError>
+    requires { octet < 128 }
+    ensures { OnOk result (string_bytes out.new ≡ string_bytes out.old ++ octet ∷ []) }
+{
+    out.push(char::from(octet))
 }

@@ -1,0 +1,3 @@
+mod FirstTags
+mod Groups
+mod SchemaTables

@@ -1,1 +1,3 @@
 pub mod DistinctTags
+pub mod FirstTags
+pub mod Tables

@@ -1,7 +1,6 @@
 //! Types of components with the first tags of each.
 use asn1_clash::FlatComponent;
 use asn1_names::Place;
-use std::alloc::Global;
 
 /// The kinds of types of components.
 #[derive(Clone, Copy, Debug, PartialEq, Eq)]
@@ -34,16 +33,4 @@ pub struct ComponentName<'a> {
     pub name: &'a [u8],
     /// The place of the name.
     pub place: Place,
-}
-
-impl<'a> Constructed<'a> {
-    /// A type with no components yet.
-    pub(crate) fn new(alloc: Global, kind: ConstructedKind, place: Place) -> Constructed<'a> {
-        Constructed {
-            kind,
-            place,
-            names: Vec::new(alloc),
-            components: Vec::new(alloc),
-        }
-    }
 }

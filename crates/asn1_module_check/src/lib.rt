@@ -12,11 +12,18 @@
 //!
 //! A problem has the place of the second component, and a text with the tag.
 //!
-//! The contract of [`check_constructed`] promises that there is no problem if and only if in every type of the list all
-//! components have distinct tags that must have them (`accepted`; `HasDistinctTags` in `specs/DistinctTags`, in the words of
-//! `asn1_fields`).
+//! The contracts promise:
 //!
-//! No contract covers the list of a schema, or the texts. The calls return for every schema, and fail only if memory runs out.
+//! - [`check_tags`] finds no problem if and only if no type inside the schema, at any depth, has components that share a tag
+//!   which must not (`accepted`; `IsFreeOfClashes` in `specs/DistinctTags`, in the words of `asn1_fields`). The types inside a
+//!   schema are those of `types_of` in `asn1_resolved`.
+//! - [`list_constructed`] lists the tables of all these types, in the order of the text (`complete`; `schema_tables` in
+//!   `specs/Tables`). The tags with which a type begins are `first_tags` in `specs/FirstTags`: a reference begins as its
+//!   definition, a CHOICE as each of its alternatives. A type with more than 100,000 tags, and one that leads to no tag, counts
+//!   as one that begins with any.
+//! - [`check_constructed`] finds no problem if and only if no table of its list has a clash (`accepted`; `HasDistinctTags`).
+//!
+//! No contract covers the texts. The calls return for every schema, and fail only if memory runs out.
 #![tactic(auto)]
 
 mod clashes;
@@ -25,6 +32,7 @@ mod first_tags;
 mod list;
 mod messages;
 mod problems;
+mod tables;
 
 pub use constructed::{ComponentName, Constructed, ConstructedKind};
 pub use list::list_constructed;

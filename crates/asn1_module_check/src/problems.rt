@@ -1,7 +1,8 @@
 //! Components that share a tag, as problems.
 ghost use Rattle.std.specs.Prelude.{◌≡◌, ◌↔◌, [], IfOk, OnOk};
 ghost use Rattle.std.specs.List.{All};
-ghost use Rattle.asn1_module_check.specs.DistinctTags.{HasDistinctTags};
+ghost use Rattle.asn1_resolved.specs.TypesInside.{types_of};
+ghost use Rattle.asn1_module_check.specs.DistinctTags.{HasDistinctTags, IsFreeOfClashes};
 
 use crate::clashes::find_clash;
 use crate::constructed::{ComponentName, Constructed};
@@ -13,7 +14,11 @@ use asn1_tags::Tag;
 use std::alloc::{AllocError, Global};
 
 /// The components of a schema that share a tag although X.680 forbids it, as errors at the second of each two.
-pub fn check_tags(alloc: Global, schema: &Schema<'_>) -> Result<Vec<Problem>, AllocError> {
+pub fn check_tags(alloc: Global, schema: &Schema<'_>) -> Result<Vec<Problem>, AllocError>
+    // There is none if and only if no type inside the schema has a clash.
+    ensures accepted { IfOk result (λ problems. (problems.items ≡ []) ↔
+        All (IsFreeOfClashes schema.now) (types_of schema.now)) }
+{
     let list = list_constructed(alloc, schema)?;
     check_constructed(alloc, list.as_slice())
 }

@@ -1,0 +1,2 @@
+pub mod TypesInside
+pub mod UniversalTags

@@ -1,10 +1,15 @@
 //! Universal tags.
+ghost use Rattle.std.specs.Prelude.{◌≡◌};
+ghost use Rattle.asn1_resolved.specs.UniversalTags as spec;
+
 use crate::types::TypeKind;
 use asn1_notation::StringKind;
 
 impl TypeKind<'_> {
     /// The number of the universal tag of the type, if it has one (X.680, 8.4, table 1).
-    pub fn universal_number(&self) -> Option<u32> {
+    pub fn universal_number(&self) -> Option<u32>
+        ensures { result ≡ spec.universal_number self.now }
+    {
         match self {
             TypeKind::Boolean => Some(1),
             TypeKind::Integer(_) => Some(2),
@@ -23,7 +28,9 @@ impl TypeKind<'_> {
 }
 
 // The number of the universal tag of a string of characters, or a time.
-fn string_number(kind: StringKind) -> u32 {
+fn string_number(kind: StringKind) -> u32
+    ensures { result ≡ spec.string_number kind }
+{
     match kind {
         StringKind::ObjectDescriptor => 7,
         StringKind::Utf8 => 12,
