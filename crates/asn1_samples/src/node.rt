@@ -6,7 +6,7 @@ ghost use Rattle.asn1_model.specs.Records.{highest};
 ghost use Rattle.asn1_samples.specs.NodeComponents.{node_components, node_agrees, node_meaning, records_by_children};
 ghost use Rattle.asn1_samples.specs.declared.node.Node.{out-Node};
 
-use crate::node_reader::read_fields;
+use crate::node_reader::{read_components, read_node};
 use asn1_dec::{Decode, DecodeError, DecodeFields, Decoder};
 use asn1_enc::{Encode, EncodeError, EncodeFields, Encoder};
 use asn1_types::{
@@ -108,15 +108,15 @@ impl Decode for Node {
     fn decode_with_tag_and_constraints<D: Decoder>(
         decoder: &mut D,
         tag: Tag,
-        _constraints: &Constraints<'_>,
+        constraints: &Constraints<'_>,
     ) -> Result<Node, DecodeError> {
-        decoder.decode_sequence(tag)
+        read_node(decoder, tag, constraints)
     }
 }
 
 impl DecodeFields for Node {
     fn decode_fields<D: Decoder>(decoder: &mut D) -> Result<Node, DecodeError> {
-        read_fields(decoder)
+        read_components(decoder)
     }
 }
 
