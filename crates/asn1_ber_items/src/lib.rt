@@ -25,7 +25,8 @@
 //! - TRUE is any octet but zero (`IsTruthValue`), and unused bits may be any (`AreLooseBits`).
 //!
 //! Elements may be nested to any depth: the walk (`specs/Walks.antt`) keeps the open elements in a list and does not call itself, and
-//! pieces are read with no list. No length in the bytes reserves memory. A normal form leaves contents octets as they are.
+//! pieces are read with no list. It writes in segments (`specs/Segments.antt`), so a length moves none of the octets after it. No
+//! length in the bytes reserves memory. A normal form leaves contents octets as they are.
 #![tactic(auto)]
 
 mod header;

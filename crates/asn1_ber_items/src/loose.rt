@@ -1,8 +1,8 @@
 //! Primitive contents octets as BER has them, more than DER has.
 ghost use Rattle.asn1_ber_items.specs.LooseContents.{AreLooseBits, AreSameBits, IsTruthValue};
 ghost use Rattle.asn1_items.specs.Bits.{AreBits, bits_of_octet};
-ghost use Rattle.asn1_items.specs.declared.error.ItemError.TheVariants.{Memory};
-ghost use Rattle.std.specs.Prelude.{◌≡◌, ◌<◌, ◌-◌, ◌++◌, Bool, IfOk, List, MatchResult, false, replicate, take, ℕ};
+ghost use Rattle.asn1_items.specs.declared.error.ItemError.TheVariants.{Malformed, Memory};
+ghost use Rattle.std.specs.Prelude.{◌≡◌, ◌⊎◌, ◌<◌, ◌-◌, ◌++◌, Bool, IfErr, IfOk, List, MatchResult, false, replicate, take, ℕ};
 
 use asn1_items::ItemError;
 use std::alloc::Global;
@@ -14,6 +14,7 @@ use std::alloc::Global;
 pub fn read_truth_value(octets: &[u8]) -> Result<bool, ItemError>
     ensures found { (value : Bool) → IsTruthValue value octets.now → result ≡ Ok value }
     ensures only { IfOk result (λ value. IsTruthValue value octets.now) }
+    ensures refused { IfErr result (λ e. e ≡ Malformed) }
 {
     match octets {
         [octet] => Ok(*octet != 0),
@@ -29,6 +30,7 @@ pub fn strict_bits(alloc: Global, bytes: &[u8]) -> Result<Vec<u8>, ItemError>
     ensures found { (bits : List Bool) → AreLooseBits bits bytes.now →
         MatchResult result (λ own. AreBits bits own.items) (λ e. e ≡ Memory) }
     ensures only { IfOk result (λ own. AreSameBits bytes.now own.items) }
+    ensures refused { IfErr result (λ e. (e ≡ Memory) ⊎ (e ≡ Malformed)) }
 {
     let Some((unused, octets)) = bytes.split_first() else {
         return Err(ItemError::Malformed);
