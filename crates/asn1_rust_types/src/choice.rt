@@ -222,7 +222,7 @@ fn append_macro(draft: &mut Draft, name: &str) -> Result<(), AllocError> {
         "\
 /// Reads the value of an alternative, and makes this variant of it.
 macro_rules! read {{
-    ($decoder:expr, $tagging:expr, $variant:ident) => {{
+    ($decoder:expr, $tagging:expr, $variant:ident $(,)?) => {{
         match alternative($decoder, $tagging) {{
             Ok(value) => Ok({name}::$variant(value)),
             Err(error) => Err(error),
