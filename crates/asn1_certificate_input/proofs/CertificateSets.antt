@@ -15,7 +15,7 @@ use Rattle.asn1_model.specs.Tags.{universal}
 use Rattle.asn1_tags.specs.declared.tags.Tag.{Tag}
 use Rattle.asn1_x509.specs.contracts.algorithm_identifier.AlgorithmIdentifierAsnType.TheImpl.{ghosts as algorithm_types}
 use Rattle.asn1_x509.specs.contracts.algorithm_identifier.AlgorithmIdentifierFieldTable.TheImpl.{ghosts as algorithm_fields}
-use Rattle.asn1_x509.specs.contracts.attribute.AttributeTypeAndValueAsnType.TheImpl.{ghosts as attribute_types}
+use Rattle.asn1_x509.specs.contracts.attribute_type_and_value.AttributeTypeAndValueAsnType.TheImpl.{ghosts as attribute_types}
 use Rattle.asn1_x509.specs.contracts.certificate.CertificateAsnType.TheImpl.{ghosts as certificate_types}
 use Rattle.asn1_x509.specs.contracts.certificate.CertificateFieldTable.TheImpl.{ghosts as certificate_fields}
 use Rattle.asn1_x509.specs.contracts.extension.ExtensionAsnType.TheImpl.{ghosts as extension_types}
@@ -29,15 +29,15 @@ use Rattle.asn1_x509.specs.contracts.time.TimeAsnType.TheImpl.{ghosts as time_ty
 use Rattle.asn1_x509.specs.contracts.validity.ValidityAsnType.TheImpl.{ghosts as validity_types}
 use Rattle.asn1_x509.specs.contracts.validity.ValidityFieldTable.TheImpl.{ghosts as validity_fields}
 use Rattle.asn1_x509.specs.declared.algorithm_identifier.AlgorithmIdentifier.{AlgorithmIdentifier}
-use Rattle.asn1_x509.specs.declared.attribute.AttributeTypeAndValue.{AttributeTypeAndValue}
+use Rattle.asn1_x509.specs.declared.attribute_type_and_value.AttributeTypeAndValue.{AttributeTypeAndValue}
 use Rattle.asn1_x509.specs.declared.certificate.Certificate.{Certificate}
 use Rattle.asn1_x509.specs.declared.extension.Extension.{Extension}
 use Rattle.asn1_x509.specs.declared.name.Name.{Name}
-use Rattle.asn1_x509.specs.declared.name.Name.TheVariants.{Rdns}
+use Rattle.asn1_x509.specs.declared.name.Name.TheVariants.{RdnSequence}
 use Rattle.asn1_x509.specs.declared.subject_public_key_info.SubjectPublicKeyInfo.{SubjectPublicKeyInfo}
 use Rattle.asn1_x509.specs.declared.tbs_certificate.TbsCertificate.{TbsCertificate}
 use Rattle.asn1_x509.specs.declared.time.Time.{Time}
-use Rattle.asn1_x509.specs.declared.time.Time.TheVariants.{Utc, General}
+use Rattle.asn1_x509.specs.declared.time.Time.TheVariants.{UtcTime, GeneralTime}
 use Rattle.asn1_x509.specs.declared.validity.Validity.{Validity}
 
 -- no SET is in two lists of records, in those of elements, in a component that may be absent, or that has a default
@@ -80,11 +80,11 @@ rdn_free : (rdn : List AttributeTypeAndValue) → HaveNoSet (held (rdn_records r
 rdn_free rdn = ((tt, free_elements (own_records attribute_types.meaning) attribute_free rdn), tt)
 
 name_free : (n : Name) → HaveNoSet (held (own_records name_types.meaning n))
-name_free (Rdns rdns) = ((tt, ((tt, free_elements rdn_records rdn_free rdns.items), tt)), tt)
+name_free (RdnSequence rdns) = ((tt, ((tt, free_elements rdn_records rdn_free rdns.items), tt)), tt)
 
 time_free : (t : Time) → HaveNoSet (held (own_records time_types.meaning t))
-time_free (Utc text) = ((tt, (tt, tt)), tt)
-time_free (General text) = ((tt, (tt, tt)), tt)
+time_free (UtcTime text) = ((tt, (tt, tt)), tt)
+time_free (GeneralTime text) = ((tt, (tt, tt)), tt)
 
 validity_free : (v : Validity) → HaveNoSet (held (own_records validity_types.meaning v))
 validity_free v = ((tt, all_free (all_components validity_fields.components) v (time_free v.not_before, (time_free v.not_after, tt))), tt)

@@ -6,7 +6,7 @@ use Rattle.std.specs.Str.{chars}
 use Rattle.std.specs.String.{string_bytes}
 use Rattle.asn1_certificate_reader.specs.Units.{universal_characters}
 use Rattle.asn1_x509.specs.declared.directory_string.DirectoryString.{DirectoryString}
-use Rattle.asn1_x509.specs.declared.directory_string.DirectoryString.TheVariants.{Teletex, Printable, Universal, Utf8, Bmp}
+use Rattle.asn1_x509.specs.declared.directory_string.DirectoryString.TheVariants.{TeletexString, PrintableString, UniversalString, Utf8String, BmpString}
 
 -- the character of a unit of a TeletexString, read as Latin-1, which has the first 256 characters of Unicode; and U+FFFD where a unit
 -- is the number of no character
@@ -20,8 +20,8 @@ universal_text_characters octets = unwrap_or (universal_characters octets) (char
 -- The characters of a DirectoryString (RFC 5280, 4.1.2.4). The units of a BMPString are read as UTF-16, with U+FFFD for each half of a
 -- pair that is alone.
 abbrev pub directory_characters : DirectoryString → List ℕ
-directory_characters (Teletex units) = map teletex_character units
-directory_characters (Printable text) = chars text
-directory_characters (Universal text) = universal_text_characters (string_bytes text.value)
-directory_characters (Utf8 text) = chars (string_bytes text)
-directory_characters (Bmp units) = utf16_lossy_chars units
+directory_characters (TeletexString units) = map teletex_character units
+directory_characters (PrintableString text) = chars text
+directory_characters (UniversalString text) = universal_text_characters (string_bytes text.value)
+directory_characters (Utf8String text) = chars (string_bytes text)
+directory_characters (BmpString units) = utf16_lossy_chars units

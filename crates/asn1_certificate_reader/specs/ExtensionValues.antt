@@ -2,7 +2,7 @@
 use Rattle.std.specs.Bool.{beq}
 use Rattle.std.specs.Cmp.Lexicographic.{pointwise}
 use Rattle.std.specs.List.{AllZip}
-use Rattle.std.specs.Prelude.{◌≡◌, ℕ, ℤ, Bool, ◌==◌, List, [], ◌∷◌, None, Option, Some, Vec, if◌then◌else◌, nat_eq}
+use Rattle.std.specs.Prelude.{◌≡◌, ℕ, Bool, ◌==◌, List, [], ◌∷◌, None, Option, Some, Vec, if◌then◌else◌, nat_eq}
 use Rattle.std.specs.declared.alloc.Global.{Global}
 use Rattle.asn1_certificate_reader.specs.GeneralNames.{AreGeneralNamesOf}
 use Rattle.asn1_certificate_reader.specs.Inside.{AreReadAs}
@@ -29,7 +29,6 @@ use Rattle.asn1_x509_extensions.specs.contracts.general_name.GeneralNamePartialE
 use Rattle.asn1_x509_extensions.specs.declared.authority_key_identifier.AuthorityKeyIdentifier.{AuthorityKeyIdentifier}
 use Rattle.asn1_x509_extensions.specs.declared.basic_constraints.BasicConstraints.{BasicConstraints}
 use Rattle.asn1_x509_extensions.specs.declared.general_name.GeneralName.{GeneralName}
-use Rattle.asn1_x509_extensions.specs.declared.path_length.PathLength.{PathLength}
 
 -- the kind of the values of id-ce-.., by its last arc (RFC 5280, 4.2.1)
 abbrev pub kind_by_last_arc : ℕ → ValueKind
@@ -69,15 +68,10 @@ abbrev pub AreUsages : List Bool → ExtensionValue → Type 0
 AreUsages usages (own.Usages shown) = shown.items ≡ usages
 AreUsages usages _ = ⊥
 
--- the greatest number of certificates between, if there is a limit
-abbrev pub path_length_of : Option PathLength → Option ℤ
-path_length_of None = None
-path_length_of (Some length) = Some length.0
-
 -- it is these constraints of an authority: whether it is one, and the path length
 abbrev pub IsAuthority : BasicConstraints → ExtensionValue → Type 0
 IsAuthority constraints (own.Authority shown) =
-    (shown.is_authority ≡ constraints.is_authority) × (shown.path_length ≡ path_length_of constraints.path_length)
+    (shown.is_authority ≡ constraints.ca) × (shown.path_length ≡ constraints.path_len_constraint)
 IsAuthority constraints _ = ⊥
 
 -- it is these objects, the purposes of a key, in their order

@@ -22,14 +22,14 @@ module _ (F : Format (Vec ℕ Global)) where
   -- A name of the same kind: texts by their characters, a name of the directory by its parts, objects by their names, an address by
   -- its octets, a name of a kind of its own by the octets of its value, and an X.400 address by how many components it has.
   abbrev pub IsGeneralNameOf : GeneralName → ShownGeneralName → Type 0
-  IsGeneralNameOf (given.Other name) (own.Other kind octets) = IsObjectOf name.type_id kind × (octets.items ≡ name.value)
-  IsGeneralNameOf (given.Rfc822 mailbox) (own.Mail characters) = characters.items ≡ chars mailbox
-  IsGeneralNameOf (given.Dns host) (own.Host characters) = characters.items ≡ chars host
-  IsGeneralNameOf (given.X400 components) (own.X400 count) = count ≡ length components.items
-  IsGeneralNameOf (given.Directory name) (own.Directory shown) = IsNameOf F name shown
-  IsGeneralNameOf (given.EdiParty party) (own.Party characters assigner) =
+  IsGeneralNameOf (given.OtherName name) (own.Other kind octets) = IsObjectOf name.type_id kind × (octets.items ≡ name.value)
+  IsGeneralNameOf (given.Rfc822Name mailbox) (own.Mail characters) = characters.items ≡ chars mailbox
+  IsGeneralNameOf (given.DnsName host) (own.Host characters) = characters.items ≡ chars host
+  IsGeneralNameOf (given.X400Address components) (own.X400 count) = count ≡ length components.items
+  IsGeneralNameOf (given.DirectoryName name) (own.Directory shown) = IsNameOf F name shown
+  IsGeneralNameOf (given.EdiPartyName party) (own.Party characters assigner) =
       AreCharactersOf party.party_name characters × AreBothOrNone AreCharactersOf party.name_assigner assigner
-  IsGeneralNameOf (given.Uri uri) (own.Uri characters) = characters.items ≡ chars uri
+  IsGeneralNameOf (given.UniformResourceIdentifier uri) (own.Uri characters) = characters.items ≡ chars uri
   IsGeneralNameOf (given.IpAddress octets) (own.Address shown) = shown.items ≡ octets
   IsGeneralNameOf (given.RegisteredId arcs) (own.Registered object) = IsObjectOf arcs object
   IsGeneralNameOf _ _ = ⊥

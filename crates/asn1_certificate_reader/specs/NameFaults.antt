@@ -10,9 +10,9 @@ use Rattle.asn1_der_items.specs.Elements.{Element, element_at}
 use Rattle.asn1_model.specs.Tags.{universal}
 use Rattle.asn1_tags.specs.Tags.{has, tag_eq}
 use Rattle.asn1_tags.specs.declared.tags.Tag.{Tag}
-use Rattle.asn1_x509.specs.declared.attribute.AttributeTypeAndValue.{AttributeTypeAndValue}
+use Rattle.asn1_x509.specs.declared.attribute_type_and_value.AttributeTypeAndValue.{AttributeTypeAndValue}
 use Rattle.asn1_x509.specs.declared.name.Name.{Name}
-use Rattle.asn1_x509.specs.declared.name.Name.TheVariants.{Rdns}
+use Rattle.asn1_x509.specs.declared.name.Name.TheVariants.{RdnSequence}
 
 -- The tags of the primitive values that a name can have: BIT STRING, which a unique identifier is, UTF8String, NumericString,
 -- PrintableString, TeletexString, IA5String, UniversalString and BMPString (X.680, 8.4, table 1).
@@ -80,4 +80,4 @@ AnswersParts parts (Some f) = IsFirstFault parts f
 
 -- the same for a name
 abbrev pub AnswersName : Name → Option NameFault → Type 0
-AnswersName (Rdns rdns) answer = AnswersParts rdns.items answer
+AnswersName (RdnSequence rdns) answer = AnswersParts rdns.items answer

@@ -19,9 +19,9 @@ use Rattle.asn1_model.specs.Meaning.{Meaning}
 use Rattle.asn1_rules.specs.Rules.{Format}
 use Rattle.asn1_x509.specs.contracts.directory_string.DirectoryStringAsnType.TheImpl.{ghosts as directory_strings}
 use Rattle.asn1_x509.specs.contracts.directory_string.DirectoryStringPartialEq.TheImpl.{ghosts as directory_equality}
-use Rattle.asn1_x509.specs.declared.attribute.AttributeTypeAndValue.{AttributeTypeAndValue}
+use Rattle.asn1_x509.specs.declared.attribute_type_and_value.AttributeTypeAndValue.{AttributeTypeAndValue}
 use Rattle.asn1_x509.specs.declared.name.Name.{Name}
-use Rattle.asn1_x509.specs.declared.name.Name.TheVariants.{Rdns}
+use Rattle.asn1_x509.specs.declared.name.Name.TheVariants.{RdnSequence}
 
 -- it is a text of these characters
 abbrev pub IsTextOf : List ℕ → AttributeValue → Type 0
@@ -68,7 +68,7 @@ module _ (F : Format (Vec ℕ Global)) where
   -- An attribute of this kind, with its value (RFC 4514, 2.3). A kind without a name here is written by its arcs, and its value then by
   -- its octets (2.4).
   pub record IsAttributeOf (attribute : AttributeTypeAndValue) (shown : Attribute) : Type 0 where
-    pub kind : IsObjectOf attribute.attribute shown.kind
+    pub kind : IsObjectOf attribute.type_ shown.kind
     pub value : MatchOption shown.kind.name (IsOctetsOf attribute.value shown.value) (λ name. IsValueOf attribute.value shown.value)
 
   -- a part of a name, with its attributes in their order (2.2)
@@ -77,4 +77,4 @@ module _ (F : Format (Vec ℕ Global)) where
 
   -- a name, with its parts from the last to the first (2.1)
   abbrev pub IsNameOf : Name → ShownName → Type 0
-  IsNameOf (Rdns rdns) shown = AllZip IsPartOf (reverse rdns.items) shown.parts.items
+  IsNameOf (RdnSequence rdns) shown = AllZip IsPartOf (reverse rdns.items) shown.parts.items

@@ -16,9 +16,9 @@ use Rattle.asn1_x509.specs.declared.extension.Extension.{Extension}
 
 -- an extension of that kind, critical or not, and of its value (RFC 5280, 4.2)
 pub record IsExtensionOf (F : Format (Vec ℕ Global)) (e : Extension) (shown : ShownExtension) : Type 0 where
-  pub kind : IsObjectOf e.extension_id shown.kind
+  pub kind : IsObjectOf e.extn_id shown.kind
   pub critical : shown.is_critical ≡ e.critical
-  pub value : IsValueOfKind F (kind_of e.extension_id) e.value shown.value
+  pub value : IsValueOfKind F (kind_of e.extn_id) e.extn_value shown.value
 
 -- one for each, in their order, and none where there are none
 abbrev pub AreExtensionsOf : Format (Vec ℕ Global) → Option (Vec Extension Global) → List ShownExtension → Type 0

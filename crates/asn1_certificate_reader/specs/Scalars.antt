@@ -10,7 +10,7 @@ use Rattle.asn1_certificate_text.specs.declared.time.ShownTime.{ShownTime}
 use Rattle.asn1_certificate_text.specs.declared.time.ShownTime.TheVariants.{Moment, Text}
 use Rattle.asn1_values.specs.Numbers.{IsShortest, magnitude, signed}
 use Rattle.asn1_x509.specs.declared.time.Time.{Time}
-use Rattle.asn1_x509.specs.declared.time.Time.TheVariants.{Utc, General}
+use Rattle.asn1_x509.specs.declared.time.Time.TheVariants.{UtcTime, GeneralTime}
 
 -- the version with this number (RFC 5280, 4.1.2.1); one that there is not is shown by its number
 abbrev pub IsVersionOf : ℤ → Version → Type 0
@@ -40,5 +40,5 @@ IsTextOfTime Says text (Text said) = (said.items ≡ chars text) × ((m : SomeMo
 
 -- the same of a time
 abbrev pub IsTimeOf : Time → ShownTime → Type 0
-IsTimeOf (Utc time) shown = IsTextOfTime SaysInUtc time.value shown
-IsTimeOf (General time) shown = IsTextOfTime SaysInGeneral time.value shown
+IsTimeOf (UtcTime time) shown = IsTextOfTime SaysInUtc time.value shown
+IsTimeOf (GeneralTime time) shown = IsTextOfTime SaysInGeneral time.value shown

@@ -20,7 +20,7 @@ pub(crate) fn name_of<R: Rules<Output = Vec<u8>>>(
     ensures { IfOk result (IsNameOf R.format name.now) }
 {
     match name {
-        Name::Rdns(given) => name_of_parts(rules, alloc, given.as_slice()),
+        Name::RdnSequence(given) => name_of_parts(rules, alloc, given.as_slice()),
     }
 }
 
@@ -90,7 +90,7 @@ fn attribute_of<R: Rules<Output = Vec<u8>>>(
 ) -> Result<Attribute, AllocError>
     ensures { IfOk result (IsAttributeOf R.format attribute.now) }
 {
-    let kind = object_of(alloc, &attribute.attribute)?;
+    let kind = object_of(alloc, &attribute.type_)?;
     let value = value_under(rules, alloc, kind.name, attribute.value.as_bytes())?;
     Ok(Attribute { kind, value })
 }

@@ -17,13 +17,13 @@ pub(crate) fn directory_characters(
     ensures { IfOk result (λ characters. characters.items ≡ directory_characters directory.now) }
 {
     match directory {
-        DirectoryString::Teletex(teletex) => teletex_characters(alloc, teletex.as_slice()),
-        DirectoryString::Printable(printable) => text_characters(alloc, printable.as_str()),
-        DirectoryString::Universal(universal) => {
+        DirectoryString::TeletexString(teletex) => teletex_characters(alloc, teletex.as_slice()),
+        DirectoryString::PrintableString(printable) => text_characters(alloc, printable.as_str()),
+        DirectoryString::UniversalString(universal) => {
             universal_text_characters(alloc, universal.value.as_str())
         }
-        DirectoryString::Utf8(utf8) => text_characters(alloc, utf8.as_str()),
-        DirectoryString::Bmp(bmp) => utf16_characters(alloc, bmp.as_slice()),
+        DirectoryString::Utf8String(utf8) => text_characters(alloc, utf8.as_str()),
+        DirectoryString::BmpString(bmp) => utf16_characters(alloc, bmp.as_slice()),
     }
 }
 

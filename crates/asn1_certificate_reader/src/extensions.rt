@@ -38,11 +38,11 @@ fn extension_of<R: Rules<Output = Vec<u8>>>(
 ) -> Result<ShownExtension, AllocError>
     ensures { IfOk result (IsExtensionOf R.format extension.now) }
 {
-    let kind = kind_of(extension.extension_id.as_slice());
+    let kind = kind_of(extension.extn_id.as_slice());
     Ok(ShownExtension {
-        kind: object_of(alloc, &extension.extension_id)?,
+        kind: object_of(alloc, &extension.extn_id)?,
         is_critical: extension.critical,
-        value: value_of(rules, alloc, kind, extension.value.as_slice())?,
+        value: value_of(rules, alloc, kind, extension.extn_value.as_slice())?,
     })
 }
 

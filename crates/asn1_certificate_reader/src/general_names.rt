@@ -36,23 +36,23 @@ fn general_name_of<R: Rules<Output = Vec<u8>>>(
     ensures { IfOk result (IsGeneralNameOf R.format name.now) }
 {
     match name {
-        GeneralName::Other(other) => Ok(ShownGeneralName::Other(
+        GeneralName::OtherName(other) => Ok(ShownGeneralName::Other(
             object_of(alloc, &other.type_id)?,
             Vec::from_slice(alloc, other.value.as_bytes())?,
         )),
-        GeneralName::Rfc822(mailbox) => {
+        GeneralName::Rfc822Name(mailbox) => {
             Ok(ShownGeneralName::Mail(ascii_characters(alloc, mailbox)?))
         }
-        GeneralName::Dns(host) => Ok(ShownGeneralName::Host(ascii_characters(alloc, host)?)),
-        GeneralName::X400(components) => Ok(ShownGeneralName::X400(components.len())),
-        GeneralName::Directory(directory) => {
+        GeneralName::DnsName(host) => Ok(ShownGeneralName::Host(ascii_characters(alloc, host)?)),
+        GeneralName::X400Address(components) => Ok(ShownGeneralName::X400(components.len())),
+        GeneralName::DirectoryName(directory) => {
             Ok(ShownGeneralName::Directory(name_of(rules, alloc, directory)?))
         }
-        GeneralName::EdiParty(party) => Ok(ShownGeneralName::Party(
+        GeneralName::EdiPartyName(party) => Ok(ShownGeneralName::Party(
             directory_characters(alloc, &party.party_name)?,
             characters_of_assigner(alloc, &party.name_assigner)?,
         )),
-        GeneralName::Uri(uri) => Ok(ShownGeneralName::Uri(ascii_characters(alloc, uri)?)),
+        GeneralName::UniformResourceIdentifier(uri) => Ok(ShownGeneralName::Uri(ascii_characters(alloc, uri)?)),
         GeneralName::IpAddress(octets) => {
             Ok(ShownGeneralName::Address(Vec::from_slice(alloc, octets.as_slice())?))
         }

@@ -54,7 +54,7 @@ pub fn first_name_fault(name: &Name) -> Option<NameFault>
     ensures { AnswersName name.now result }
 {
     match name {
-        Name::Rdns(parts) => first_in_parts(parts.as_slice()),
+        Name::RdnSequence(parts) => first_in_parts(parts.as_slice()),
     }
 }
 

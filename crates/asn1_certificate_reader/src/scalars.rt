@@ -43,8 +43,8 @@ pub(crate) fn time_of(alloc: Global, time: &Time) -> Result<ShownTime, AllocErro
     ensures { IfOk result (IsTimeOf time.now) }
 {
     match time {
-        Time::Utc(utc) => utc_time_of(alloc, &utc.value),
-        Time::General(general) => generalized_time_of(alloc, &general.value),
+        Time::UtcTime(utc) => utc_time_of(alloc, &utc.value),
+        Time::GeneralTime(general) => generalized_time_of(alloc, &general.value),
     }
 }
 

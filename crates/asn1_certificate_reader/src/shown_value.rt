@@ -1,6 +1,6 @@
 //! The types of the values of extensions, and the reports of their values.
 ghost use Rattle.std.specs.Prelude.{◌≡◌, IfOk};
-ghost use Rattle.asn1_certificate_reader.specs.ExtensionValues.{AreIssuers, AreNames, ArePurposes, AreUsages, IsAuthority, IsAuthorityKey, IsKeyIdentifier, IsKeyOfAuthority, IsShownAs, path_length_of};
+ghost use Rattle.asn1_certificate_reader.specs.ExtensionValues.{AreIssuers, AreNames, ArePurposes, AreUsages, IsAuthority, IsAuthorityKey, IsKeyIdentifier, IsKeyOfAuthority, IsShownAs};
 ghost use Rattle.asn1_certificate_reader.specs.Options.{AreBothOrNone};
 ghost use Rattle.asn1_certificate_reader.specs.Scalars.{IsOctetNumberOf};
 
@@ -15,7 +15,7 @@ use asn1_dec::Decode;
 use asn1_rules::Rules;
 use asn1_values::{BitString, Integer, ObjectIdentifier, OctetString};
 use asn1_x509_extensions::{
-    AuthorityKeyIdentifier, BasicConstraints, GeneralName, GeneralNames, KeyIdentifier, PathLength,
+    AuthorityKeyIdentifier, BasicConstraints, GeneralName, GeneralNames, KeyIdentifier,
     authority_key_identifier_is_well_tagged, basic_constraints_is_well_tagged,
     general_name_is_well_tagged, key_extensions_are_well_tagged,
 };
@@ -142,8 +142,8 @@ impl ShownValue for BasicConstraints {
         alloc: Global,
     ) -> Result<ExtensionValue, AllocError> {
         Ok(ExtensionValue::Authority(Authority {
-            is_authority: self.is_authority,
-            path_length: path_length_of(alloc, &self.path_length)?,
+            is_authority: self.ca,
+            path_length: path_length_of(alloc, &self.path_len_constraint)?,
         }))
     }
 
@@ -153,11 +153,11 @@ impl ShownValue for BasicConstraints {
 }
 
 /// The greatest number of certificates between, if there is a limit.
-fn path_length_of(alloc: Global, length: &Option<PathLength>) -> Result<Option<Integer>, AllocError>
-    ensures { IfOk result (λ shown. shown ≡ path_length_of length.now) }
+fn path_length_of(alloc: Global, length: &Option<Integer>) -> Result<Option<Integer>, AllocError>
+    ensures { IfOk result (λ shown. shown ≡ length.now) }
 {
     match length {
-        Some(length) => Ok(Some(copy_of(alloc, &length.0)?)),
+        Some(length) => Ok(Some(copy_of(alloc, length)?)),
         None => Ok(None),
     }
 }

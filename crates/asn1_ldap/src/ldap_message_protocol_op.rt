@@ -126,7 +126,7 @@ pub(crate) const LDAP_MESSAGE_PROTOCOL_OP: &[TagTree<'static>] = &[
 
 /// Reads the value of an alternative, and makes this variant of it.
 macro_rules! read {
-    ($decoder:expr, $tagging:expr, $variant:ident) => {
+    ($decoder:expr, $tagging:expr, $variant:ident $(,)?) => {
         match alternative($decoder, $tagging) {
             Ok(value) => Ok(LdapMessageProtocolOp::$variant(value)),
             Err(error) => Err(error),

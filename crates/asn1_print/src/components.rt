@@ -76,11 +76,12 @@ pub(crate) fn require_few(
 
 // The place of the first component: of the root, or else of the additions.
 fn first_place(components: &Components<'_>) -> Option<Place> {
-    match (components.root.as_slice(), components.additions.as_slice()) {
-        ([first, ..], _) => Some(first.place),
-        ([], [Addition::Component(first), ..]) => Some(first.place),
-        ([], [Addition::Group(group), ..]) => Some(group.as_slice().first()?.place),
-        ([], []) => None,
+    if let Some(first) = components.root.as_slice().first() {
+        return Some(first.place);
+    }
+    match components.additions.as_slice().first()? {
+        Addition::Component(first) => Some(first.place),
+        Addition::Group(group) => Some(group.as_slice().first()?.place),
     }
 }
 

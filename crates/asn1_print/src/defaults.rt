@@ -104,7 +104,7 @@ fn carried_default(
             let word = if *flag { "true" } else { "false" };
             plain_default(plan, plan.text(word)?, plan.text(word)?, Some(word))
         }
-        Value::Integer(number) => integer_default(plan, *number, definition),
+        Value::Integer(number) => integer_default(plan, *number, definition, name),
         Value::Item(item) => item_default(plan, item, definition, name),
         Value::Elements(elements) => {
             if elements.is_empty() {
@@ -213,6 +213,7 @@ fn integer_default(
     plan: &Plan<'_, '_>,
     number: i128,
     definition: &Type<'_>,
+    name: &TypeName,
 ) -> Result<Option<Usage>, AllocError> {
     let alloc = plan.alloc;
     let range = base_range(plan, definition);
@@ -230,7 +231,8 @@ fn integer_default(
             if has_limits(range).is_some() || number < 0 {
                 return Ok(None);
             }
-            let code = format!(in alloc; "Integer::from_i128({number})")?;
+            let type_name = name.text.as_str();
+            let code = format!(in alloc; "{type_name}::from_i128({number})")?;
             let term = format!(in alloc; "(pos {number})")?;
             plain_default(plan, code, term, Some("pos"))
         }

@@ -8,7 +8,7 @@ use asn1_rust_components::{
 };
 use std::alloc::AllocError;
 
-/// The greatest number of alternatives that are read with a question mark, if none is behind an explicit tag.
+/// The greatest number of alternatives that are read with a question mark, if there are several and none is behind an explicit tag.
 const FEW: usize = 8;
 
 /// A CHOICE with its file.
@@ -99,7 +99,8 @@ fn append_reader(draft: &mut Draft, subject: ChoiceSubject<'_>) -> Result<(), Al
         "Decoder",
         "alternative",
     ])?;
-    let is_short = subject.body.alternatives.len() <= FEW
+    let is_short = subject.body.alternatives.len() > 1
+        && subject.body.alternatives.len() <= FEW
         && !subject.body.alternatives.iter().any(is_behind_tag);
     if !is_short {
         append_macro(draft, name)?;
@@ -221,7 +222,7 @@ fn append_macro(draft: &mut Draft, name: &str) -> Result<(), AllocError> {
         "\
 /// Reads the value of an alternative, and makes this variant of it.
 macro_rules! read {{
-    ($decoder:expr, $tagging:expr, $variant:ident) => {{
+    ($decoder:expr, $tagging:expr, $variant:ident $(,)?) => {{
         match alternative($decoder, $tagging) {{
             Ok(value) => Ok({name}::$variant(value)),
             Err(error) => Err(error),

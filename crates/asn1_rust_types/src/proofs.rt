@@ -18,14 +18,13 @@ pub struct ProofFile {
 }
 
 /// The proofs of a type: those of the trees of a CHOICE with another in it; of the trees and the writer of a CHOICE of many
-/// alternatives; and of a writer of parts whose types are behind explicit tags.
+/// alternatives; of the writer of a CHOICE of one; and of a writer of parts whose types are behind explicit tags.
 pub fn proof_files(alloc: Global, file: &TypeFile) -> Result<Vec<ProofFile>, AllocError> {
     let mut proofs = Vec::new(alloc);
     match &file.body {
         TypeBody::Choice(choice) => {
             push_tree_proofs(alloc, &mut proofs, file, choice)?;
-            let arms = arms_of_choice(alloc, choice)?;
-            push_writer_proof(alloc, &mut proofs, file, CHOICE, arms.as_slice())?;
+            push_choice_proof(alloc, &mut proofs, file, choice.alternatives.as_slice())?;
         }
         TypeBody::Sequence(body) => push_component_proof(alloc, &mut proofs, file, body)?,
         TypeBody::Set(body) => push_component_proof(alloc, &mut proofs, file, body)?,
@@ -33,6 +32,25 @@ pub fn proof_files(alloc: Global, file: &TypeFile) -> Result<Vec<ProofFile>, All
         TypeBody::Enumerated(_) => {}
     }
     Ok(proofs)
+}
+
+// Appends the proof of the writer of alternatives.
+fn push_choice_proof(
+    alloc: Global,
+    proofs: &mut Vec<ProofFile>,
+    file: &TypeFile,
+    alternatives: &[Alternative],
+) -> Result<(), AllocError> {
+    match alternatives {
+        [only] => {
+            proofs.push(only_proof(alloc, file, only)?)?;
+            Ok(())
+        }
+        several => {
+            let arms = arms_of_choice(alloc, several)?;
+            push_writer_proof(alloc, proofs, file, CHOICE, arms.as_slice())
+        }
+    }
 }
 
 // Appends the proof of the writer of components.
@@ -141,15 +159,12 @@ struct Arm {
 }
 
 // The arms that write alternatives.
-fn arms_of_choice(alloc: Global, choice: &ChoiceType) -> Result<Vec<Arm>, AllocError> {
-    let is_long = choice.alternatives.len() > FEW;
+fn arms_of_choice(alloc: Global, alternatives: &[Alternative]) -> Result<Vec<Arm>, AllocError> {
+    let is_long = alternatives.len() > FEW;
     let mut arms = Vec::new(alloc);
-    for alternative in &choice.alternatives {
-        let (call, clause, is_plain) = match alternative.tagging {
-            Tagging::Untagged => ("encode", "ensures", true),
-            Tagging::Implicit(_) => ("encode_with_tag", "ensures", true),
-            Tagging::Explicit(_) => ("encode_explicit_prefix", "ensures.writes", false),
-        };
+    for alternative in alternatives {
+        let (call, clause) = call_of_alternative(alternative);
+        let is_plain = !matches!(alternative.tagging, Tagging::Explicit(_));
         arms.push(Arm {
             place: String::from_str(alloc, alternative.variant.as_str())?,
             call,
@@ -159,6 +174,15 @@ fn arms_of_choice(alloc: Global, choice: &ChoiceType) -> Result<Vec<Arm>, AllocE
         })?;
     }
     Ok(arms)
+}
+
+// The call that writes an alternative, and its clause.
+fn call_of_alternative(alternative: &Alternative) -> (&'static str, &'static str) {
+    match alternative.tagging {
+        Tagging::Untagged => ("encode", "ensures"),
+        Tagging::Implicit(_) => ("encode_with_tag", "ensures"),
+        Tagging::Explicit(_) => ("encode_explicit_prefix", "ensures.writes"),
+    }
 }
 
 // The arms that write components.
@@ -218,6 +242,34 @@ const COMPONENTS: Writer = Writer {
     trait_name: "EncodeFields",
     function: "encode_field",
 };
+
+// The proof of the writer of a CHOICE of one alternative, where a match tells nothing of the value.
+fn only_proof(alloc: Global, file: &TypeFile, only: &Alternative) -> Result<ProofFile, AllocError> {
+    let (call, clause) = call_of_alternative(only);
+    let variant = only.variant.as_str();
+    let module = file.module.as_str();
+    let name = file.name.as_str();
+    let crate_name = file.crate_name.as_str();
+    Ok(ProofFile {
+        path: format!(in alloc;
+            "proofs/{module}/{name}EncodeChoice/encode_alternative/Answers.antt"
+        )?,
+        text: format!(in alloc;
+            "use Rattle.std.proofs.Common.{{◌≡◌, refl}}
+use Rattle.{crate_name}.specs.declared.{module}.{name}.{{{name}}}
+use Rattle.{crate_name}.specs.declared.{module}.{name}.TheVariants.{{{variant}}}
+use Rattle.{crate_name}.proofs.{module}.{name}EncodeChoice.encode_alternative.Goals as goal
+
+-- a value is of the only alternative
+only : (v : {name}) → (x : _) × (v ≡ {variant} x)
+only ({variant} x) = (x, refl)
+
+pub returns : goal.returns
+returns g c = let x = only c.args.self.now in rw x.1 (rw x.1 at c.{call}.{clause})
+"
+        )?,
+    })
+}
 
 // Appends the proof of a writer, if the check does not find all of it.
 fn push_writer_proof(

@@ -25,9 +25,9 @@ use Rattle.asn1_model.specs.Tags.{universal}
 use Rattle.asn1_types.specs.MultisetLaws.{same_counts-SameElements}
 use Rattle.asn1_types.specs.Multisets.{same_counts}
 use Rattle.asn1_x509.specs.contracts.algorithm_identifier.AlgorithmIdentifierPartialEq.TheImpl.{ghosts as algorithms}
-use Rattle.asn1_x509.specs.contracts.attribute.AttributeTypeAndValuePartialEq.TheImpl.{ghosts as attributes}
-use Rattle.asn1_x509.specs.contracts.attribute.AttributeTypeAndValueAsnType.TheImpl.{ghosts as attribute_types}
-use Rattle.asn1_x509.specs.contracts.attribute.AttributeTypeAndValueFieldTable.TheImpl.{ghosts as attribute_fields}
+use Rattle.asn1_x509.specs.contracts.attribute_type_and_value.AttributeTypeAndValuePartialEq.TheImpl.{ghosts as attributes}
+use Rattle.asn1_x509.specs.contracts.attribute_type_and_value.AttributeTypeAndValueAsnType.TheImpl.{ghosts as attribute_types}
+use Rattle.asn1_x509.specs.contracts.attribute_type_and_value.AttributeTypeAndValueFieldTable.TheImpl.{ghosts as attribute_fields}
 use Rattle.asn1_x509.specs.contracts.certificate.CertificateAsnType.TheImpl.{ghosts as certificate_types}
 use Rattle.asn1_x509.specs.contracts.certificate.CertificateFieldTable.TheImpl.{ghosts as certificate_fields}
 use Rattle.asn1_x509.specs.contracts.certificate.CertificatePartialEq.TheImpl.{ghosts as certificates}
@@ -40,11 +40,11 @@ use Rattle.asn1_x509.specs.contracts.tbs_certificate.TbsCertificateFieldTable.Th
 use Rattle.asn1_x509.specs.contracts.tbs_certificate.TbsCertificatePartialEq.TheImpl.{ghosts as signed_parts}
 use Rattle.asn1_x509.specs.contracts.validity.ValidityPartialEq.TheImpl.{ghosts as validities}
 use Rattle.asn1_x509.specs.declared.algorithm_identifier.AlgorithmIdentifier.{AlgorithmIdentifier}
-use Rattle.asn1_x509.specs.declared.attribute.AttributeTypeAndValue.{AttributeTypeAndValue}
+use Rattle.asn1_x509.specs.declared.attribute_type_and_value.AttributeTypeAndValue.{AttributeTypeAndValue}
 use Rattle.asn1_x509.specs.declared.certificate.Certificate.{Certificate}
 use Rattle.asn1_x509.specs.declared.extension.Extension.{Extension}
 use Rattle.asn1_x509.specs.declared.name.Name.{Name}
-use Rattle.asn1_x509.specs.declared.name.Name.TheVariants.{Rdns}
+use Rattle.asn1_x509.specs.declared.name.Name.TheVariants.{RdnSequence}
 use Rattle.asn1_x509.specs.declared.subject_public_key_info.SubjectPublicKeyInfo.{SubjectPublicKeyInfo}
 use Rattle.asn1_x509.specs.declared.tbs_certificate.TbsCertificate.{TbsCertificate}
 use Rattle.asn1_x509.specs.declared.validity.Validity.{Validity}
@@ -138,7 +138,7 @@ abbrev set_of_attributes : Head
 set_of_attributes = set_of (universal 17) unconstrained (Some (codes "SET_OF"))
 
 name_same : (a b : Name) → names.eq a b ≡ true → SameRecords (own_records name_types.meaning a) (own_records name_types.meaning b)
-name_same (Rdns a) (Rdns b) alike =
+name_same (RdnSequence a) (RdnSequence b) alike =
     next (one_by_one _ (next (one_by_one _ (parts_same set_of_attributes a.items b.items refl alike)) at_end)) at_end
 
 -- options of equal values

@@ -4,7 +4,7 @@ use Rattle.std.specs.Prelude.{ℕ, Bool, IsTrue, List, IfSome, All}
 use Rattle.asn1_x509.specs.declared.algorithm_identifier.AlgorithmIdentifier.{AlgorithmIdentifier}
 use Rattle.asn1_x509.specs.declared.certificate.Certificate.{Certificate}
 use Rattle.asn1_x509.specs.declared.name.Name.{Name}
-use Rattle.asn1_x509.specs.declared.name.Name.TheVariants.{Rdns}
+use Rattle.asn1_x509.specs.declared.name.Name.TheVariants.{RdnSequence}
 use Rattle.asn1_x509.specs.declared.tbs_certificate.TbsCertificate.{TbsCertificate}
 
 module _ (accepts : List ℕ → Bool) where
@@ -14,7 +14,7 @@ module _ (accepts : List ℕ → Bool) where
 
   -- the value of each attribute of a name
   abbrev pub NameIsAccepted : Name → Type 0
-  NameIsAccepted (Rdns rdns) = All (λ rdn. All (λ attribute. IsTrue (accepts attribute.value)) rdn) rdns.items
+  NameIsAccepted (RdnSequence rdns) = All (λ rdn. All (λ attribute. IsTrue (accepts attribute.value)) rdn) rdns.items
 
   -- what is open in the part that is signed: in two algorithms and two names
   pub record SignedPartIsAccepted (tbs : TbsCertificate) : Type 0 where

@@ -1,21 +1,22 @@
-//! `AlgorithmIdentifier ::= SEQUENCE { algorithm OBJECT IDENTIFIER, parameters ANY DEFINED BY algorithm OPTIONAL }`
-ghost use Rattle.std.specs.Prelude.{Bool, List, [], codes, ℕ, ◌↔◌, ◌∷◌};
-ghost use Rattle.asn1_slots.specs.Slots.{optional_slot, required_slot, sequence_of_slots};
-ghost use Rattle.asn1_types.specs.Words.{IsWellTagged, constructed_agrees, constructed_type, untagged};
-ghost use Rattle.asn1_x509.specs.OpenValues.{ParametersAreAccepted};
+//! `AlgorithmIdentifier` of the module `PKIX1Explicit88`.
+//!
+//! ```text
+//! AlgorithmIdentifier ::= SEQUENCE {
+//!     algorithm OBJECT IDENTIFIER,
+//!     parameters ANY DEFINED BY algorithm OPTIONAL
+//! }
+//! ```
+ghost use Rattle.std.specs.Prelude.{[], codes, ◌∷◌};
+ghost use Rattle.asn1_schema.specs.Words.{IsWellTagged, constructed_agrees, constructed_type, optional_slot, required_slot, sequence_of_slots, untagged};
 
-use asn1_dec::{Decode, DecodeError, Decoder};
-use asn1_enc::{Encode, EncodeError, EncodeFields, Encoder};
-use asn1_slots::{
-    DecodeByIndex, Decoded, Tagging, decode_sequence_naming_errors, optional, required,
+use asn1_schema::{
+    Any, AsnType, Constraints, ConstructedType, Decode, DecodeByIndex, DecodeError, Decoded,
+    Decoder, Encode, EncodeError, EncodeFields, Encoder, Field, FieldTable, Identifier,
+    ObjectIdentifier, Tag, Tagging, TypeTable, decode_sequence_naming_errors, optional, required,
 };
-use asn1_types::{
-    Any, AsnType, Constraints, ConstructedType, Field, FieldTable, Identifier, Tag, TypeTable,
-};
-use asn1_values::ObjectIdentifier;
 use std::alloc::{AllocError, Global};
 
-/// An algorithm, and its parameters where it has any: an open type that may be absent.
+/// `AlgorithmIdentifier` of the module `PKIX1Explicit88`.
 #[derive(PartialEq, Eq, Debug, Drop)]
 pub struct AlgorithmIdentifier {
     /// `algorithm OBJECT IDENTIFIER`
@@ -27,13 +28,11 @@ pub struct AlgorithmIdentifier {
 impl DecodeByIndex for AlgorithmIdentifier {
     type Slots = (Option<ObjectIdentifier>, Option<Any>);
 
-    ghost layout = { required_slot (codes "algorithm") (λ v. v.algorithm) (λ s. s.0)
-        (untagged ⟦<ObjectIdentifier as AsnType>⟧.meaning) ⟦<ObjectIdentifier as PartialEq>⟧.eq ∷
-        optional_slot (codes "parameters") (λ v. v.parameters) (λ s. s.1)
-        (untagged ⟦<Any as AsnType>⟧.meaning) ⟦<Any as PartialEq>⟧.eq ∷ [] };
+    ghost layout = { required_slot (codes "algorithm") (λ v. v.algorithm) (λ s. s.0) (untagged ⟦<ObjectIdentifier as AsnType>⟧.meaning) ⟦<ObjectIdentifier as PartialEq>⟧.eq ∷
+        optional_slot (codes "parameters") (λ v. v.parameters) (λ s. s.1) (untagged ⟦<Any as AsnType>⟧.meaning) ⟦<Any as PartialEq>⟧.eq ∷ [] };
 
-    fn full(_alloc: Global, slots: Self::Slots) -> Result<AlgorithmIdentifier, AllocError> {
-        Ok(AlgorithmIdentifier {
+    fn full(_alloc: Global, slots: Self::Slots) -> Result<Self, AllocError> {
+        Ok(Self {
             algorithm: slots.0.unwrap(),
             parameters: slots.1,
         })
@@ -84,16 +83,9 @@ impl ConstructedType for AlgorithmIdentifier {
     ghost agrees = { constructed_agrees };
 }
 
-/// An `AlgorithmIdentifier` can be inside other types: nothing follows the open type.
+/// An `AlgorithmIdentifier` can be inside other types.
 pub fn algorithm_identifier_is_well_tagged()
     ensures { IsWellTagged ⟦<AlgorithmIdentifier as AsnType>⟧.meaning }
-{}
-
-/// An `AlgorithmIdentifier` is valid if and only if the codec accepts its parameters, where there are any.
-pub fn algorithm_identifier_is_valid(algorithm: &AlgorithmIdentifier)
-    ensures { (accepts : List ℕ → Bool) →
-        ⟦<AlgorithmIdentifier as AsnType>⟧.meaning.IsValid accepts algorithm.now ↔
-        ParametersAreAccepted accepts algorithm.now }
 {}
 
 impl Encode for AlgorithmIdentifier {
@@ -123,7 +115,7 @@ impl Decode for AlgorithmIdentifier {
         decoder: &mut D,
         tag: Tag,
         constraints: &Constraints<'_>,
-    ) -> Result<AlgorithmIdentifier, DecodeError> {
+    ) -> Result<Self, DecodeError> {
         decode_sequence_naming_errors(decoder, tag, constraints)
     }
 }

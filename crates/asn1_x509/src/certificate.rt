@@ -1,23 +1,25 @@
-//! `Certificate ::= SEQUENCE { tbsCertificate TBSCertificate, signatureAlgorithm AlgorithmIdentifier, signatureValue BIT STRING }`
-//! (RFC 5280, 4.1).
-ghost use Rattle.std.specs.Prelude.{Bool, List, [], codes, true, ℕ, ◌↔◌, ◌∷◌, ◌≡◌};
-ghost use Rattle.asn1_slots.specs.Slots.{required_slot, sequence_of_slots};
-ghost use Rattle.asn1_types.specs.Words.{IsWellTagged, constructed_agrees, constructed_type, own_records, untagged};
-ghost use Rattle.asn1_model.specs.Orders.{SameRecords};
-ghost use Rattle.asn1_x509.specs.OpenValues.{CertificateIsAccepted};
+//! `Certificate` of the module `PKIX1Explicit88`.
+//!
+//! ```text
+//! Certificate ::= SEQUENCE {
+//!     tbsCertificate TBSCertificate,
+//!     signatureAlgorithm AlgorithmIdentifier,
+//!     signatureValue BIT STRING
+//! }
+//! ```
+ghost use Rattle.std.specs.Prelude.{[], codes, ◌∷◌};
+ghost use Rattle.asn1_schema.specs.Words.{IsWellTagged, constructed_agrees, constructed_type, required_slot, sequence_of_slots, untagged};
 
 use crate::algorithm_identifier::AlgorithmIdentifier;
 use crate::tbs_certificate::TbsCertificate;
-use asn1_dec::{Decode, DecodeError, Decoder};
-use asn1_enc::{Encode, EncodeError, EncodeFields, Encoder};
-use asn1_slots::{DecodeByIndex, Decoded, Tagging, decode_sequence_naming_errors, required};
-use asn1_types::{
-    AsnType, Constraints, ConstructedType, Field, FieldTable, Identifier, Tag, TypeTable,
+use asn1_schema::{
+    AsnType, BitString, Constraints, ConstructedType, Decode, DecodeByIndex, DecodeError, Decoded,
+    Decoder, Encode, EncodeError, EncodeFields, Encoder, Field, FieldTable, Identifier, Tag,
+    Tagging, TypeTable, decode_sequence_naming_errors, required,
 };
-use asn1_values::BitString;
 use std::alloc::{AllocError, Global};
 
-/// A certificate: what is signed, how, and the signature.
+/// `Certificate` of the module `PKIX1Explicit88`.
 #[derive(PartialEq, Eq, Debug, Drop)]
 pub struct Certificate {
     /// `tbsCertificate TBSCertificate`
@@ -35,15 +37,12 @@ impl DecodeByIndex for Certificate {
         Option<BitString>,
     );
 
-    ghost layout = { required_slot (codes "tbsCertificate") (λ v. v.tbs_certificate) (λ s. s.0)
-        (untagged ⟦<TbsCertificate as AsnType>⟧.meaning) ⟦<TbsCertificate as PartialEq>⟧.eq ∷
-        required_slot (codes "signatureAlgorithm") (λ v. v.signature_algorithm) (λ s. s.1)
-        (untagged ⟦<AlgorithmIdentifier as AsnType>⟧.meaning) ⟦<AlgorithmIdentifier as PartialEq>⟧.eq ∷
-        required_slot (codes "signatureValue") (λ v. v.signature_value) (λ s. s.2)
-        (untagged ⟦<BitString as AsnType>⟧.meaning) ⟦<BitString as PartialEq>⟧.eq ∷ [] };
+    ghost layout = { required_slot (codes "tbsCertificate") (λ v. v.tbs_certificate) (λ s. s.0) (untagged ⟦<TbsCertificate as AsnType>⟧.meaning) ⟦<TbsCertificate as PartialEq>⟧.eq ∷
+        required_slot (codes "signatureAlgorithm") (λ v. v.signature_algorithm) (λ s. s.1) (untagged ⟦<AlgorithmIdentifier as AsnType>⟧.meaning) ⟦<AlgorithmIdentifier as PartialEq>⟧.eq ∷
+        required_slot (codes "signatureValue") (λ v. v.signature_value) (λ s. s.2) (untagged ⟦<BitString as AsnType>⟧.meaning) ⟦<BitString as PartialEq>⟧.eq ∷ [] };
 
-    fn full(_alloc: Global, slots: Self::Slots) -> Result<Certificate, AllocError> {
-        Ok(Certificate {
+    fn full(_alloc: Global, slots: Self::Slots) -> Result<Self, AllocError> {
+        Ok(Self {
             tbs_certificate: slots.0.unwrap(),
             signature_algorithm: slots.1.unwrap(),
             signature_value: slots.2.unwrap(),
@@ -102,20 +101,6 @@ pub fn certificate_is_well_tagged()
     ensures { IsWellTagged ⟦<Certificate as AsnType>⟧.meaning }
 {}
 
-/// A `Certificate` is valid if and only if the codec accepts what is open in it.
-pub fn certificate_is_valid(certificate: &Certificate)
-    ensures { (accepts : List ℕ → Bool) →
-        ⟦<Certificate as AsnType>⟧.meaning.IsValid accepts certificate.now ↔
-        CertificateIsAccepted accepts certificate.now }
-{}
-
-/// Equal certificates have the same records, up to the order inside sets: what is written of the one is written of the other.
-pub fn equal_certificates_have_the_same_records()
-    ensures { (one other : Certificate) → ⟦<Certificate as PartialEq>⟧.eq one other ≡ true →
-        SameRecords (own_records ⟦<Certificate as AsnType>⟧.meaning one)
-        (own_records ⟦<Certificate as AsnType>⟧.meaning other) }
-{}
-
 impl Encode for Certificate {
     fn encode_with_tag_and_constraints<E: Encoder>(
         &self,
@@ -144,7 +129,7 @@ impl Decode for Certificate {
         decoder: &mut D,
         tag: Tag,
         constraints: &Constraints<'_>,
-    ) -> Result<Certificate, DecodeError> {
+    ) -> Result<Self, DecodeError> {
         decode_sequence_naming_errors(decoder, tag, constraints)
     }
 }

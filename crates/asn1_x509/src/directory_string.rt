@@ -1,44 +1,42 @@
-//! A text in one of five kinds of string.
+//! `DirectoryString` of the module `PKIX1Explicit88`.
 //!
 //! ```text
 //! DirectoryString ::= CHOICE {
-//!     teletexString   TeletexString (SIZE (1..MAX)),
+//!     teletexString TeletexString (SIZE (1..MAX)),
 //!     printableString PrintableString (SIZE (1..MAX)),
 //!     universalString UniversalString (SIZE (1..MAX)),
-//!     utf8String      UTF8String (SIZE (1..MAX)),
-//!     bmpString       BMPString (SIZE (1..MAX))
+//!     utf8String UTF8String (SIZE (1..MAX)),
+//!     bmpString BMPString (SIZE (1..MAX))
 //! }
 //! ```
-ghost use Rattle.std.specs.Prelude.{Bool, List, [], codes, refl, ℕ, ◌∷◌};
-ghost use Rattle.asn1_slots.specs.Cases.{choice_of_cases, variant};
-ghost use Rattle.asn1_types.specs.Words.{IsWellTagged, choice_agrees, choice_of, inl, inr, untagged};
-ghost use Rattle.asn1_x509.specs.declared.directory_string.DirectoryString.TheVariants.{Teletex, Printable, Universal, Utf8, Bmp};
+ghost use Rattle.std.specs.Prelude.{[], codes, refl, ◌∷◌};
+ghost use Rattle.asn1_schema.specs.Words.{IsWellTagged, choice_agrees, choice_of, choice_of_cases, inl, inr, untagged, variant};
+ghost use Rattle.asn1_x509.specs.declared.directory_string.DirectoryString.TheVariants.{TeletexString, PrintableString, UniversalString, Utf8String, BmpString};
 
-use asn1_dec::{Decode, DecodeChoice, DecodeError, Decoder};
-use asn1_enc::{Encode, EncodeChoice, EncodeError, Encoder};
-use asn1_slots::{DecodeChoiceByIndex, Tagging, alternative, from_tag_by_index};
-use asn1_types::{
-    AsnType, Choice, ChoiceType, Constraints, Identifier, Implicit, Tag, TagTree, TypeTable, tag,
+use asn1_schema::{
+    AsnType, BmpString, Choice, ChoiceType, Constraints, Decode, DecodeChoice, DecodeChoiceByIndex,
+    DecodeError, Decoder, Encode, EncodeChoice, EncodeError, Encoder, Identifier, PrintableString,
+    Tag, TagTree, Tagging, TeletexString, TypeTable, UniversalString, Utf8String, alternative,
+    from_tag_by_index,
 };
-use asn1_values::{BmpString, PrintableString, TeletexString, Utf8String};
 
-/// A text in one of five kinds of string. The caller ensures that it is not empty.
+/// `DirectoryString` of the module `PKIX1Explicit88`.
 #[derive(PartialEq, Eq, Debug, Drop)]
 pub enum DirectoryString {
     /// `teletexString TeletexString (SIZE (1..MAX))`
-    Teletex(TeletexString),
+    TeletexString(TeletexString),
     /// `printableString PrintableString (SIZE (1..MAX))`
-    Printable(PrintableString),
+    PrintableString(PrintableString),
     /// `universalString UniversalString (SIZE (1..MAX))`
-    Universal(Implicit<tag::UNIVERSAL_STRING, Utf8String>),
+    UniversalString(UniversalString),
     /// `utf8String UTF8String (SIZE (1..MAX))`
-    Utf8(Utf8String),
+    Utf8String(Utf8String),
     /// `bmpString BMPString (SIZE (1..MAX))`
-    Bmp(BmpString),
+    BmpString(BmpString),
 }
 
 /// The trees of the alternatives.
-const DIRECTORY_STRING: &[TagTree<'static>] = &[
+pub(crate) const DIRECTORY_STRING: &[TagTree<'static>] = &[
     TagTree::Leaf(Tag::TELETEX_STRING),
     TagTree::Leaf(Tag::PRINTABLE_STRING),
     TagTree::Leaf(Tag::UNIVERSAL_STRING),
@@ -47,31 +45,26 @@ const DIRECTORY_STRING: &[TagTree<'static>] = &[
 ];
 
 impl DecodeChoiceByIndex for DirectoryString {
-    ghost cases = { variant (codes "teletexString") Teletex (untagged ⟦<TeletexString as AsnType>⟧.meaning)
-        ⟦<TeletexString as PartialEq>⟧.eq ∷
-        variant (codes "printableString") Printable (untagged ⟦<PrintableString as AsnType>⟧.meaning)
-        ⟦<PrintableString as PartialEq>⟧.eq ∷
-        variant (codes "universalString") Universal (untagged ⟦<Implicit<tag::UNIVERSAL_STRING, Utf8String> as AsnType>⟧.meaning)
-        ⟦<Implicit<tag::UNIVERSAL_STRING, Utf8String> as PartialEq>⟧.eq ∷
-        variant (codes "utf8String") Utf8 (untagged ⟦<Utf8String as AsnType>⟧.meaning)
-        ⟦<Utf8String as PartialEq>⟧.eq ∷
-        variant (codes "bmpString") Bmp (untagged ⟦<BmpString as AsnType>⟧.meaning)
-        ⟦<BmpString as PartialEq>⟧.eq ∷ [] };
+    ghost cases = { variant (codes "teletexString") TeletexString (untagged ⟦<TeletexString as AsnType>⟧.meaning) ⟦<TeletexString as PartialEq>⟧.eq ∷
+        variant (codes "printableString") PrintableString (untagged ⟦<PrintableString as AsnType>⟧.meaning) ⟦<PrintableString as PartialEq>⟧.eq ∷
+        variant (codes "universalString") UniversalString (untagged ⟦<UniversalString as AsnType>⟧.meaning) ⟦<UniversalString as PartialEq>⟧.eq ∷
+        variant (codes "utf8String") Utf8String (untagged ⟦<Utf8String as AsnType>⟧.meaning) ⟦<Utf8String as PartialEq>⟧.eq ∷
+        variant (codes "bmpString") BmpString (untagged ⟦<BmpString as AsnType>⟧.meaning) ⟦<BmpString as PartialEq>⟧.eq ∷ [] };
 
-    ghost case_of = { elim [ Teletex teletex ↦ inl teletex | Printable printable ↦ inr (inl printable) | Universal universal ↦ inr (inr (inl universal)) | Utf8 utf8 ↦ inr (inr (inr (inl utf8))) | Bmp bmp ↦ inr (inr (inr (inr (inl bmp)))) ] };
+    ghost case_of = { elim [ TeletexString x ↦ inl x | PrintableString x ↦ inr (inl x) | UniversalString x ↦ inr (inr (inl x)) | Utf8String x ↦ inr (inr (inr (inl x))) | BmpString x ↦ inr (inr (inr (inr (inl x)))) ] };
 
     fn decode_alternative<D: Decoder>(index: usize, decoder: &mut D) -> Result<Self, DecodeError> {
         match index {
-            0 => Ok(DirectoryString::Teletex(alternative(decoder, Tagging::Untagged)?)),
-            1 => Ok(DirectoryString::Printable(alternative(decoder, Tagging::Untagged)?)),
-            2 => Ok(DirectoryString::Universal(alternative(decoder, Tagging::Untagged)?)),
-            3 => Ok(DirectoryString::Utf8(alternative(decoder, Tagging::Untagged)?)),
-            4 => Ok(DirectoryString::Bmp(alternative(decoder, Tagging::Untagged)?)),
+            0 => Ok(Self::TeletexString(alternative(decoder, Tagging::Untagged)?)),
+            1 => Ok(Self::PrintableString(alternative(decoder, Tagging::Untagged)?)),
+            2 => Ok(Self::UniversalString(alternative(decoder, Tagging::Untagged)?)),
+            3 => Ok(Self::Utf8String(alternative(decoder, Tagging::Untagged)?)),
+            4 => Ok(Self::BmpString(alternative(decoder, Tagging::Untagged)?)),
             _ => Err(DecodeError::NoValidChoice("DirectoryString")),
         }
     }
 
-    ghost made = { elim [ Teletex x ↦ (refl, λ _. refl) | Printable x ↦ (refl, λ _. refl) | Universal x ↦ (refl, λ _. refl) | Utf8 x ↦ (refl, λ _. refl) | Bmp x ↦ (refl, λ _. refl) ] };
+    ghost made = { elim [ TeletexString x ↦ (refl, λ _. refl) | PrintableString x ↦ (refl, λ _. refl) | UniversalString x ↦ (refl, λ _. refl) | Utf8String x ↦ (refl, λ _. refl) | BmpString x ↦ (refl, λ _. refl) ] };
 }
 
 impl Choice for DirectoryString {
@@ -114,15 +107,9 @@ impl ChoiceType for DirectoryString {
     ghost agrees = { choice_agrees };
 }
 
-/// A `DirectoryString` can be inside other types: the tags of its alternatives are distinct.
+/// A `DirectoryString` can be inside other types.
 pub fn directory_string_is_well_tagged()
     ensures { IsWellTagged ⟦<DirectoryString as AsnType>⟧.meaning }
-{}
-
-/// Each `DirectoryString` is valid, also an empty one.
-pub fn directory_string_is_valid(text: &DirectoryString)
-    ensures { (accepts : List ℕ → Bool) →
-        ⟦<DirectoryString as AsnType>⟧.meaning.IsValid accepts text.now }
 {}
 
 impl Encode for DirectoryString {
@@ -140,21 +127,21 @@ impl Encode for DirectoryString {
 impl EncodeChoice for DirectoryString {
     fn chosen_tag(&self) -> Tag {
         match self {
-            DirectoryString::Teletex(_) => Tag::TELETEX_STRING,
-            DirectoryString::Printable(_) => Tag::PRINTABLE_STRING,
-            DirectoryString::Universal(_) => Tag::UNIVERSAL_STRING,
-            DirectoryString::Utf8(_) => Tag::UTF8_STRING,
-            DirectoryString::Bmp(_) => Tag::BMP_STRING,
+            Self::TeletexString(_) => Tag::TELETEX_STRING,
+            Self::PrintableString(_) => Tag::PRINTABLE_STRING,
+            Self::UniversalString(_) => Tag::UNIVERSAL_STRING,
+            Self::Utf8String(_) => Tag::UTF8_STRING,
+            Self::BmpString(_) => Tag::BMP_STRING,
         }
     }
 
     fn encode_alternative<E: Encoder>(&self, encoder: &mut E) -> Result<(), EncodeError> {
         match self {
-            DirectoryString::Teletex(teletex) => teletex.encode(encoder),
-            DirectoryString::Printable(printable) => printable.encode(encoder),
-            DirectoryString::Universal(universal) => universal.encode(encoder),
-            DirectoryString::Utf8(utf8) => utf8.encode(encoder),
-            DirectoryString::Bmp(bmp) => bmp.encode(encoder),
+            Self::TeletexString(value) => value.encode(encoder),
+            Self::PrintableString(value) => value.encode(encoder),
+            Self::UniversalString(value) => value.encode(encoder),
+            Self::Utf8String(value) => value.encode(encoder),
+            Self::BmpString(value) => value.encode(encoder),
         }
     }
 }
@@ -164,13 +151,13 @@ impl Decode for DirectoryString {
         decoder: &mut D,
         tag: Tag,
         constraints: &Constraints<'_>,
-    ) -> Result<DirectoryString, DecodeError> {
+    ) -> Result<Self, DecodeError> {
         decoder.decode_choice_with_tag(tag, constraints)
     }
 }
 
 impl DecodeChoice for DirectoryString {
-    fn from_tag<D: Decoder>(decoder: &mut D, tag: Tag) -> Result<DirectoryString, DecodeError> {
+    fn from_tag<D: Decoder>(decoder: &mut D, tag: Tag) -> Result<Self, DecodeError> {
         from_tag_by_index(decoder, tag)
     }
 }

@@ -1,48 +1,46 @@
-//! `Extension ::= SEQUENCE { extnID OBJECT IDENTIFIER, critical BOOLEAN DEFAULT FALSE, extnValue OCTET STRING }`
-ghost use Rattle.std.specs.Prelude.{Bool, List, [], codes, false, ℕ, ◌∷◌};
-ghost use Rattle.asn1_slots.specs.Slots.{default_slot, required_slot, sequence_of_slots};
-ghost use Rattle.asn1_types.specs.Words.{IsWellTagged, constructed_agrees, constructed_type, untagged};
+//! `Extension` of the module `PKIX1Explicit88`.
+//!
+//! ```text
+//! Extension ::= SEQUENCE {
+//!     extnID OBJECT IDENTIFIER,
+//!     critical BOOLEAN DEFAULT FALSE,
+//!     extnValue OCTET STRING
+//! }
+//! ```
+ghost use Rattle.std.specs.Prelude.{[], codes, false, ◌∷◌};
+ghost use Rattle.asn1_schema.specs.Words.{IsWellTagged, constructed_agrees, constructed_type, default_slot, required_slot, sequence_of_slots, untagged};
 
-use asn1_dec::{Decode, DecodeError, Decoder};
-use asn1_enc::{Encode, EncodeError, EncodeFields, Encoder};
-use asn1_slots::{
-    DecodeByIndex, Decoded, Tagging, decode_sequence_naming_errors, optional, or_default, required,
+use asn1_schema::{
+    AsnType, Constraints, ConstructedType, Decode, DecodeByIndex, DecodeError, Decoded, Decoder,
+    Encode, EncodeError, EncodeFields, Encoder, Field, FieldTable, Identifier, ObjectIdentifier,
+    OctetString, Tag, Tagging, TypeTable, decode_sequence_naming_errors, optional, or_default,
+    required,
 };
-use asn1_types::{
-    AsnType, Constraints, ConstructedType, Field, FieldTable, Identifier, Tag, TypeTable,
-};
-use asn1_values::{ObjectIdentifier, OctetString};
 use std::alloc::{AllocError, Global};
 
-/// `Extensions ::= SEQUENCE SIZE (1..MAX) OF Extension`. The caller ensures that there is at least one.
-pub type Extensions = Vec<Extension>;
-
-/// An extension of a certificate: its kind, and the bytes of its value.
+/// `Extension` of the module `PKIX1Explicit88`.
 #[derive(PartialEq, Eq, Debug, Drop)]
 pub struct Extension {
     /// `extnID OBJECT IDENTIFIER`
-    pub extension_id: ObjectIdentifier,
+    pub extn_id: ObjectIdentifier,
     /// `critical BOOLEAN DEFAULT FALSE`
     pub critical: bool,
     /// `extnValue OCTET STRING`
-    pub value: OctetString,
+    pub extn_value: OctetString,
 }
 
 impl DecodeByIndex for Extension {
     type Slots = (Option<ObjectIdentifier>, Option<bool>, Option<OctetString>);
 
-    ghost layout = { required_slot (codes "extnID") (λ v. v.extension_id) (λ s. s.0)
-        (untagged ⟦<ObjectIdentifier as AsnType>⟧.meaning) ⟦<ObjectIdentifier as PartialEq>⟧.eq ∷
-        default_slot (codes "critical") (λ v. v.critical) false (λ s. s.1)
-        (untagged ⟦<bool as AsnType>⟧.meaning) ⟦<bool as PartialEq>⟧.eq ∷
-        required_slot (codes "extnValue") (λ v. v.value) (λ s. s.2)
-        (untagged ⟦<OctetString as AsnType>⟧.meaning) ⟦<OctetString as PartialEq>⟧.eq ∷ [] };
+    ghost layout = { required_slot (codes "extnID") (λ v. v.extn_id) (λ s. s.0) (untagged ⟦<ObjectIdentifier as AsnType>⟧.meaning) ⟦<ObjectIdentifier as PartialEq>⟧.eq ∷
+        default_slot (codes "critical") (λ v. v.critical) false (λ s. s.1) (untagged ⟦<bool as AsnType>⟧.meaning) ⟦<bool as PartialEq>⟧.eq ∷
+        required_slot (codes "extnValue") (λ v. v.extn_value) (λ s. s.2) (untagged ⟦<OctetString as AsnType>⟧.meaning) ⟦<OctetString as PartialEq>⟧.eq ∷ [] };
 
-    fn full(_alloc: Global, slots: Self::Slots) -> Result<Extension, AllocError> {
-        Ok(Extension {
-            extension_id: slots.0.unwrap(),
+    fn full(_alloc: Global, slots: Self::Slots) -> Result<Self, AllocError> {
+        Ok(Self {
+            extn_id: slots.0.unwrap(),
             critical: or_default(slots.1, false),
-            value: slots.2.unwrap(),
+            extn_value: slots.2.unwrap(),
         })
     }
 
@@ -98,12 +96,6 @@ pub fn extension_is_well_tagged()
     ensures { IsWellTagged ⟦<Extension as AsnType>⟧.meaning }
 {}
 
-/// Each `Extension` is valid, whatever its value has in it.
-pub fn extension_is_valid(extension: &Extension)
-    ensures { (accepts : List ℕ → Bool) →
-        ⟦<Extension as AsnType>⟧.meaning.IsValid accepts extension.now }
-{}
-
 impl Encode for Extension {
     fn encode_with_tag_and_constraints<E: Encoder>(
         &self,
@@ -119,9 +111,9 @@ impl Encode for Extension {
 impl EncodeFields for Extension {
     fn encode_field<E: Encoder>(&self, index: usize, encoder: &mut E) -> Result<(), EncodeError> {
         match index {
-            0 => self.extension_id.encode(encoder),
+            0 => self.extn_id.encode(encoder),
             1 => encoder.encode_default(&self.critical, |_| Ok(false), bool::identifier()),
-            2 => self.value.encode(encoder),
+            2 => self.extn_value.encode(encoder),
             _ => Ok(()),
         }
     }
@@ -132,7 +124,7 @@ impl Decode for Extension {
         decoder: &mut D,
         tag: Tag,
         constraints: &Constraints<'_>,
-    ) -> Result<Extension, DecodeError> {
+    ) -> Result<Self, DecodeError> {
         decode_sequence_naming_errors(decoder, tag, constraints)
     }
 }

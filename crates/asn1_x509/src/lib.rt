@@ -10,6 +10,8 @@
 //! | [`AlgorithmIdentifier`], [`SubjectPublicKeyInfo`], [`RsaPublicKey`] | an algorithm, a public key, and a key of RSA |
 //! | [`Extension`], [`Extensions`] | the extensions of a certificate |
 //!
+//! The types but [`Signed`] are in files made by `asn1_compile` of `examples/modules/x509.asn1`.
+//!
 //! The promises:
 //!
 //! - Each type is well tagged (`certificate_is_well_tagged` and the like), a [`Signed`] if the signed type is. So `round_trip` of
@@ -21,12 +23,12 @@
 //!   unique names and extensions (`specs/CertificateRecords`).
 //! - Equal certificates have the same records, up to the order inside sets (`equal_certificates_have_the_same_records`).
 //!
-//! Each type states its components or its alternatives once; its tables, writer and reader are proved to agree with them. The
-//! caller ensures the other constraints of the schema: a list has an element, and a text is a time.
-#![tactic(auto, using(asn1_tags::proofs::Leaves::tree_shapes))]
+//! The caller ensures the other constraints of the schema: a list has an element, and a text is a time.
+#![tactic(auto, using(asn1_schema::proofs::Trees::tree_shapes))]
 
 mod algorithm_identifier;
-mod attribute;
+mod aliases;
+mod attribute_type_and_value;
 mod certificate;
 mod directory_string;
 mod extension;
@@ -37,33 +39,30 @@ mod signed;
 mod subject_public_key_info;
 mod tbs_certificate;
 mod time;
+mod valid;
 mod validity;
 
-pub use algorithm_identifier::{
-    AlgorithmIdentifier, algorithm_identifier_is_valid, algorithm_identifier_is_well_tagged,
+pub use algorithm_identifier::{AlgorithmIdentifier, algorithm_identifier_is_well_tagged};
+pub use aliases::{
+    AttributeType, AttributeValue, CertificateSerialNumber, Extensions, RdnSequence,
+    RelativeDistinguishedName, UniqueIdentifier, Version, VersionNames,
 };
-pub use attribute::{
-    AttributeTypeAndValue, attribute_type_and_value_is_valid,
-    attribute_type_and_value_is_well_tagged,
+pub use attribute_type_and_value::{
+    AttributeTypeAndValue, attribute_type_and_value_is_well_tagged,
 };
-pub use certificate::{
-    Certificate, certificate_is_valid, certificate_is_well_tagged,
-    equal_certificates_have_the_same_records,
-};
-pub use directory_string::{
-    DirectoryString, directory_string_is_valid, directory_string_is_well_tagged,
-};
-pub use extension::{Extension, Extensions, extension_is_valid, extension_is_well_tagged};
-pub use laws::first_version_is_absent;
-pub use name::{Name, RdnSequence, RelativeDistinguishedName, name_is_valid, name_is_well_tagged};
-pub use rsa_public_key::{RsaPublicKey, rsa_public_key_is_valid, rsa_public_key_is_well_tagged};
+pub use certificate::{Certificate, certificate_is_well_tagged};
+pub use directory_string::{DirectoryString, directory_string_is_well_tagged};
+pub use extension::{Extension, extension_is_well_tagged};
+pub use laws::{equal_certificates_have_the_same_records, first_version_is_absent};
+pub use name::{Name, name_is_well_tagged};
+pub use rsa_public_key::{RsaPublicKey, rsa_public_key_is_well_tagged};
 pub use signed::{Signed, signed_is_valid, signed_is_well_tagged};
-pub use subject_public_key_info::{
-    SubjectPublicKeyInfo, subject_public_key_info_is_valid, subject_public_key_info_is_well_tagged,
+pub use subject_public_key_info::{SubjectPublicKeyInfo, subject_public_key_info_is_well_tagged};
+pub use tbs_certificate::{TbsCertificate, tbs_certificate_is_well_tagged};
+pub use time::{Time, time_is_well_tagged};
+pub use valid::{
+    algorithm_identifier_is_valid, attribute_type_and_value_is_valid, certificate_is_valid,
+    directory_string_is_valid, extension_is_valid, name_is_valid, rsa_public_key_is_valid,
+    subject_public_key_info_is_valid, tbs_certificate_is_valid, time_is_valid, validity_is_valid,
 };
-pub use tbs_certificate::{
-    CertificateSerialNumber, TbsCertificate, UniqueIdentifier, Version, tbs_certificate_is_valid,
-    tbs_certificate_is_well_tagged,
-};
-pub use time::{Time, time_is_valid, time_is_well_tagged};
-pub use validity::{Validity, validity_is_valid, validity_is_well_tagged};
+pub use validity::{Validity, validity_is_well_tagged};

@@ -1,51 +1,48 @@
 //! `Name ::= CHOICE { rdnSequence RDNSequence }`
-ghost use Rattle.std.specs.Prelude.{Bool, List, [], codes, refl, ℕ, ◌↔◌, ◌∷◌};
-ghost use Rattle.asn1_slots.specs.Cases.{choice_of_cases, variant};
-ghost use Rattle.asn1_types.specs.Words.{IsWellTagged, choice_agrees, choice_of, inl, untagged};
-ghost use Rattle.asn1_x509.specs.OpenValues.{NameIsAccepted};
-ghost use Rattle.asn1_x509.specs.declared.name.Name.TheVariants.{Rdns};
+ghost use Rattle.std.specs.Prelude.{[], codes, refl, ◌∷◌};
+ghost use Rattle.asn1_schema.specs.Words.{IsWellTagged, choice_agrees, choice_of, choice_of_cases, inl, untagged, variant};
+ghost use Rattle.asn1_x509.specs.declared.name.Name.TheVariants.{RdnSequence};
 
-use crate::attribute::AttributeTypeAndValue;
-use asn1_dec::{Decode, DecodeChoice, DecodeError, Decoder};
-use asn1_enc::{Encode, EncodeChoice, EncodeError, Encoder};
-use asn1_slots::{DecodeChoiceByIndex, Tagging, alternative, from_tag_by_index};
-use asn1_types::{
-    AsnType, Choice, ChoiceType, Constraints, Identifier, SetOf, Tag, TagTree, TypeTable,
+use crate::aliases::RdnSequence;
+use asn1_schema::{
+    AsnType, Choice, ChoiceType, Constraints, Decode, DecodeChoice, DecodeChoiceByIndex,
+    DecodeError, Decoder, Encode, EncodeChoice, EncodeError, Encoder, Identifier, Tag, TagTree,
+    Tagging, TypeTable, alternative, from_tag_by_index,
 };
 
-/// `RelativeDistinguishedName ::= SET SIZE (1..MAX) OF AttributeTypeAndValue`. The caller ensures that there is at least one.
-pub type RelativeDistinguishedName = SetOf<AttributeTypeAndValue>;
-
-/// `RDNSequence ::= SEQUENCE OF RelativeDistinguishedName`
-pub type RdnSequence = Vec<RelativeDistinguishedName>;
-
-/// Whose certificate it is, and who issued it: a CHOICE of one alternative.
+/// `Name` of the module `PKIX1Explicit88`.
 #[derive(PartialEq, Eq, Debug, Drop)]
 pub enum Name {
     /// `rdnSequence RDNSequence`
-    Rdns(RdnSequence),
+    RdnSequence(RdnSequence),
 }
 
 /// The trees of the alternatives.
-const NAME: &[TagTree<'static>] = &[TagTree::Leaf(Tag::SEQUENCE)];
+pub(crate) const NAME: &[TagTree<'static>] = &[TagTree::Leaf(Tag::SEQUENCE)];
+
+/// Reads the value of an alternative, and makes this variant of it.
+macro_rules! read {
+    ($decoder:expr, $tagging:expr, $variant:ident $(,)?) => {
+        match alternative($decoder, $tagging) {
+            Ok(value) => Ok(Name::$variant(value)),
+            Err(error) => Err(error),
+        }
+    };
+}
 
 impl DecodeChoiceByIndex for Name {
-    ghost cases = { variant (codes "rdnSequence") Rdns (untagged ⟦<RdnSequence as AsnType>⟧.meaning)
-        ⟦<RdnSequence as PartialEq>⟧.eq ∷ [] };
+    ghost cases = { variant (codes "rdnSequence") RdnSequence (untagged ⟦<RdnSequence as AsnType>⟧.meaning) ⟦<RdnSequence as PartialEq>⟧.eq ∷ [] };
 
-    ghost case_of = { elim [ Rdns rdns ↦ inl rdns ] };
+    ghost case_of = { elim [ RdnSequence x ↦ inl x ] };
 
     fn decode_alternative<D: Decoder>(index: usize, decoder: &mut D) -> Result<Self, DecodeError> {
         match index {
-            0 => match alternative(decoder, Tagging::Untagged) {
-                Ok(rdns) => Ok(Name::Rdns(rdns)),
-                Err(error) => Err(error),
-            },
+            0 => read!(decoder, Tagging::Untagged, RdnSequence),
             _ => Err(DecodeError::NoValidChoice("Name")),
         }
     }
 
-    ghost made = { elim [ Rdns x ↦ (refl, λ _. refl) ] };
+    ghost made = { elim [ RdnSequence x ↦ (refl, λ _. refl) ] };
 }
 
 impl Choice for Name {
@@ -87,13 +84,6 @@ pub fn name_is_well_tagged()
     ensures { IsWellTagged ⟦<Name as AsnType>⟧.meaning }
 {}
 
-/// A `Name` is valid if and only if the codec accepts the value of each of its attributes.
-pub fn name_is_valid(name: &Name)
-    ensures { (accepts : List ℕ → Bool) →
-        ⟦<Name as AsnType>⟧.meaning.IsValid accepts name.now ↔
-        NameIsAccepted accepts name.now }
-{}
-
 impl Encode for Name {
     fn encode_with_tag_and_constraints<E: Encoder>(
         &self,
@@ -109,13 +99,13 @@ impl Encode for Name {
 impl EncodeChoice for Name {
     fn chosen_tag(&self) -> Tag {
         match self {
-            Name::Rdns(_) => Tag::SEQUENCE,
+            Self::RdnSequence(_) => Tag::SEQUENCE,
         }
     }
 
     fn encode_alternative<E: Encoder>(&self, encoder: &mut E) -> Result<(), EncodeError> {
         match self {
-            Name::Rdns(rdns) => rdns.encode(encoder),
+            Self::RdnSequence(value) => value.encode(encoder),
         }
     }
 }
@@ -125,13 +115,13 @@ impl Decode for Name {
         decoder: &mut D,
         tag: Tag,
         constraints: &Constraints<'_>,
-    ) -> Result<Name, DecodeError> {
+    ) -> Result<Self, DecodeError> {
         decoder.decode_choice_with_tag(tag, constraints)
     }
 }
 
 impl DecodeChoice for Name {
-    fn from_tag<D: Decoder>(decoder: &mut D, tag: Tag) -> Result<Name, DecodeError> {
+    fn from_tag<D: Decoder>(decoder: &mut D, tag: Tag) -> Result<Self, DecodeError> {
         from_tag_by_index(decoder, tag)
     }
 }

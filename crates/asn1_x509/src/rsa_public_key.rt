@@ -1,18 +1,15 @@
-//! `RSAPublicKey ::= SEQUENCE { modulus INTEGER, publicExponent INTEGER }` (RFC 3279, 2.3.1)
-ghost use Rattle.std.specs.Prelude.{Bool, List, [], codes, ℕ, ◌∷◌};
-ghost use Rattle.asn1_slots.specs.Slots.{required_slot, sequence_of_slots};
-ghost use Rattle.asn1_types.specs.Words.{IsWellTagged, constructed_agrees, constructed_type, untagged};
+//! `RSAPublicKey ::= SEQUENCE { modulus INTEGER, publicExponent INTEGER }`
+ghost use Rattle.std.specs.Prelude.{[], codes, ◌∷◌};
+ghost use Rattle.asn1_schema.specs.Words.{IsWellTagged, constructed_agrees, constructed_type, required_slot, sequence_of_slots, untagged};
 
-use asn1_dec::{Decode, DecodeError, Decoder};
-use asn1_enc::{Encode, EncodeError, EncodeFields, Encoder};
-use asn1_slots::{DecodeByIndex, Decoded, Tagging, decode_sequence_naming_errors, required};
-use asn1_types::{
-    AsnType, Constraints, ConstructedType, Field, FieldTable, Identifier, Tag, TypeTable,
+use asn1_schema::{
+    AsnType, Constraints, ConstructedType, Decode, DecodeByIndex, DecodeError, Decoded, Decoder,
+    Encode, EncodeError, EncodeFields, Encoder, Field, FieldTable, Identifier, Integer, Tag,
+    Tagging, TypeTable, decode_sequence_naming_errors, required,
 };
-use asn1_values::Integer;
 use std::alloc::{AllocError, Global};
 
-/// A key of RSA, which is inside the bits of a public key.
+/// `RSAPublicKey` of the module `PKIX1Explicit88`.
 #[derive(PartialEq, Eq, Debug, Drop)]
 pub struct RsaPublicKey {
     /// `modulus INTEGER`
@@ -24,13 +21,11 @@ pub struct RsaPublicKey {
 impl DecodeByIndex for RsaPublicKey {
     type Slots = (Option<Integer>, Option<Integer>);
 
-    ghost layout = { required_slot (codes "modulus") (λ v. v.modulus) (λ s. s.0)
-        (untagged ⟦<Integer as AsnType>⟧.meaning) ⟦<Integer as PartialEq>⟧.eq ∷
-        required_slot (codes "publicExponent") (λ v. v.public_exponent) (λ s. s.1)
-        (untagged ⟦<Integer as AsnType>⟧.meaning) ⟦<Integer as PartialEq>⟧.eq ∷ [] };
+    ghost layout = { required_slot (codes "modulus") (λ v. v.modulus) (λ s. s.0) (untagged ⟦<Integer as AsnType>⟧.meaning) ⟦<Integer as PartialEq>⟧.eq ∷
+        required_slot (codes "publicExponent") (λ v. v.public_exponent) (λ s. s.1) (untagged ⟦<Integer as AsnType>⟧.meaning) ⟦<Integer as PartialEq>⟧.eq ∷ [] };
 
-    fn full(_alloc: Global, slots: Self::Slots) -> Result<RsaPublicKey, AllocError> {
-        Ok(RsaPublicKey {
+    fn full(_alloc: Global, slots: Self::Slots) -> Result<Self, AllocError> {
+        Ok(Self {
             modulus: slots.0.unwrap(),
             public_exponent: slots.1.unwrap(),
         })
@@ -86,12 +81,6 @@ pub fn rsa_public_key_is_well_tagged()
     ensures { IsWellTagged ⟦<RsaPublicKey as AsnType>⟧.meaning }
 {}
 
-/// Each `RsaPublicKey` is valid.
-pub fn rsa_public_key_is_valid(key: &RsaPublicKey)
-    ensures { (accepts : List ℕ → Bool) →
-        ⟦<RsaPublicKey as AsnType>⟧.meaning.IsValid accepts key.now }
-{}
-
 impl Encode for RsaPublicKey {
     fn encode_with_tag_and_constraints<E: Encoder>(
         &self,
@@ -119,7 +108,7 @@ impl Decode for RsaPublicKey {
         decoder: &mut D,
         tag: Tag,
         constraints: &Constraints<'_>,
-    ) -> Result<RsaPublicKey, DecodeError> {
+    ) -> Result<Self, DecodeError> {
         decode_sequence_naming_errors(decoder, tag, constraints)
     }
 }

@@ -1,18 +1,15 @@
 //! `SIGNED{ToBeSigned} ::= SEQUENCE { toBeSigned ToBeSigned, algorithmIdentifier AlgorithmIdentifier, encrypted BIT STRING }`
 //! (X.509, 6.2.1)
 ghost use Rattle.std.specs.Prelude.{Bool, List, [], codes, ℕ, ◌↔◌, ◌∷◌};
-ghost use Rattle.asn1_slots.specs.Slots.{required_slot};
-ghost use Rattle.asn1_types.specs.Words.{IsWellTagged, constructed_agrees, constructed_type, required, sequence, untagged};
+ghost use Rattle.asn1_schema.specs.Words.{IsWellTagged, constructed_agrees, constructed_type, required, required_slot, sequence, untagged};
 ghost use Rattle.asn1_x509.specs.OpenValues.{ParametersAreAccepted};
 
 use crate::algorithm_identifier::AlgorithmIdentifier;
-use asn1_dec::{Decode, DecodeError, Decoder};
-use asn1_enc::{Encode, EncodeError, EncodeFields, Encoder};
-use asn1_slots::{DecodeByIndex, Decoded, Tagging, decode_sequence_naming_errors, required};
-use asn1_types::{
-    AsnType, Constraints, ConstructedType, Field, FieldTable, Identifier, Tag, TypeTable,
+use asn1_schema::{
+    AsnType, BitString, Constraints, ConstructedType, Decode, DecodeByIndex, DecodeError, Decoded,
+    Decoder, Encode, EncodeError, EncodeFields, Encoder, Field, FieldTable, Identifier, Tag,
+    Tagging, TypeTable, decode_sequence_naming_errors, required,
 };
-use asn1_values::BitString;
 use std::alloc::{AllocError, Global};
 
 /// A value of any type, with its signature.

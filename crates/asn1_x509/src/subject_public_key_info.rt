@@ -1,20 +1,16 @@
 //! `SubjectPublicKeyInfo ::= SEQUENCE { algorithm AlgorithmIdentifier, subjectPublicKey BIT STRING }`
-ghost use Rattle.std.specs.Prelude.{Bool, List, [], codes, ℕ, ◌↔◌, ◌∷◌};
-ghost use Rattle.asn1_slots.specs.Slots.{required_slot, sequence_of_slots};
-ghost use Rattle.asn1_types.specs.Words.{IsWellTagged, constructed_agrees, constructed_type, untagged};
-ghost use Rattle.asn1_x509.specs.OpenValues.{ParametersAreAccepted};
+ghost use Rattle.std.specs.Prelude.{[], codes, ◌∷◌};
+ghost use Rattle.asn1_schema.specs.Words.{IsWellTagged, constructed_agrees, constructed_type, required_slot, sequence_of_slots, untagged};
 
 use crate::algorithm_identifier::AlgorithmIdentifier;
-use asn1_dec::{Decode, DecodeError, Decoder};
-use asn1_enc::{Encode, EncodeError, EncodeFields, Encoder};
-use asn1_slots::{DecodeByIndex, Decoded, Tagging, decode_sequence_naming_errors, required};
-use asn1_types::{
-    AsnType, Constraints, ConstructedType, Field, FieldTable, Identifier, Tag, TypeTable,
+use asn1_schema::{
+    AsnType, BitString, Constraints, ConstructedType, Decode, DecodeByIndex, DecodeError, Decoded,
+    Decoder, Encode, EncodeError, EncodeFields, Encoder, Field, FieldTable, Identifier, Tag,
+    Tagging, TypeTable, decode_sequence_naming_errors, required,
 };
-use asn1_values::BitString;
 use std::alloc::{AllocError, Global};
 
-/// A public key, and the algorithm that it is for.
+/// `SubjectPublicKeyInfo` of the module `PKIX1Explicit88`.
 #[derive(PartialEq, Eq, Debug, Drop)]
 pub struct SubjectPublicKeyInfo {
     /// `algorithm AlgorithmIdentifier`
@@ -26,13 +22,11 @@ pub struct SubjectPublicKeyInfo {
 impl DecodeByIndex for SubjectPublicKeyInfo {
     type Slots = (Option<AlgorithmIdentifier>, Option<BitString>);
 
-    ghost layout = { required_slot (codes "algorithm") (λ v. v.algorithm) (λ s. s.0)
-        (untagged ⟦<AlgorithmIdentifier as AsnType>⟧.meaning) ⟦<AlgorithmIdentifier as PartialEq>⟧.eq ∷
-        required_slot (codes "subjectPublicKey") (λ v. v.subject_public_key) (λ s. s.1)
-        (untagged ⟦<BitString as AsnType>⟧.meaning) ⟦<BitString as PartialEq>⟧.eq ∷ [] };
+    ghost layout = { required_slot (codes "algorithm") (λ v. v.algorithm) (λ s. s.0) (untagged ⟦<AlgorithmIdentifier as AsnType>⟧.meaning) ⟦<AlgorithmIdentifier as PartialEq>⟧.eq ∷
+        required_slot (codes "subjectPublicKey") (λ v. v.subject_public_key) (λ s. s.1) (untagged ⟦<BitString as AsnType>⟧.meaning) ⟦<BitString as PartialEq>⟧.eq ∷ [] };
 
-    fn full(_alloc: Global, slots: Self::Slots) -> Result<SubjectPublicKeyInfo, AllocError> {
-        Ok(SubjectPublicKeyInfo {
+    fn full(_alloc: Global, slots: Self::Slots) -> Result<Self, AllocError> {
+        Ok(Self {
             algorithm: slots.0.unwrap(),
             subject_public_key: slots.1.unwrap(),
         })
@@ -88,13 +82,6 @@ pub fn subject_public_key_info_is_well_tagged()
     ensures { IsWellTagged ⟦<SubjectPublicKeyInfo as AsnType>⟧.meaning }
 {}
 
-/// A `SubjectPublicKeyInfo` is valid if and only if the codec accepts the parameters of its algorithm, where there are any.
-pub fn subject_public_key_info_is_valid(key: &SubjectPublicKeyInfo)
-    ensures { (accepts : List ℕ → Bool) →
-        ⟦<SubjectPublicKeyInfo as AsnType>⟧.meaning.IsValid accepts key.now ↔
-        ParametersAreAccepted accepts key.now.algorithm }
-{}
-
 impl Encode for SubjectPublicKeyInfo {
     fn encode_with_tag_and_constraints<E: Encoder>(
         &self,
@@ -122,7 +109,7 @@ impl Decode for SubjectPublicKeyInfo {
         decoder: &mut D,
         tag: Tag,
         constraints: &Constraints<'_>,
-    ) -> Result<SubjectPublicKeyInfo, DecodeError> {
+    ) -> Result<Self, DecodeError> {
         decode_sequence_naming_errors(decoder, tag, constraints)
     }
 }

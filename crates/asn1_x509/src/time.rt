@@ -1,49 +1,44 @@
 //! `Time ::= CHOICE { utcTime UTCTime, generalTime GeneralizedTime }`
-ghost use Rattle.std.specs.Prelude.{Bool, List, [], codes, refl, ℕ, ◌∷◌};
-ghost use Rattle.asn1_slots.specs.Cases.{choice_of_cases, variant};
-ghost use Rattle.asn1_types.specs.Words.{IsWellTagged, choice_agrees, choice_of, inl, inr, untagged};
-ghost use Rattle.asn1_x509.specs.declared.time.Time.TheVariants.{Utc, General};
+ghost use Rattle.std.specs.Prelude.{[], codes, refl, ◌∷◌};
+ghost use Rattle.asn1_schema.specs.Words.{IsWellTagged, choice_agrees, choice_of, choice_of_cases, inl, inr, untagged, variant};
+ghost use Rattle.asn1_x509.specs.declared.time.Time.TheVariants.{UtcTime, GeneralTime};
 
-use asn1_dec::{Decode, DecodeChoice, DecodeError, Decoder};
-use asn1_enc::{Encode, EncodeChoice, EncodeError, Encoder};
-use asn1_slots::{DecodeChoiceByIndex, Tagging, alternative, from_tag_by_index};
-use asn1_types::{
-    AsnType, Choice, ChoiceType, Constraints, Identifier, Implicit, Tag, TagTree, TypeTable, tag,
+use asn1_schema::{
+    AsnType, Choice, ChoiceType, Constraints, Decode, DecodeChoice, DecodeChoiceByIndex,
+    DecodeError, Decoder, Encode, EncodeChoice, EncodeError, Encoder, GeneralizedTime, Identifier,
+    Tag, TagTree, Tagging, TypeTable, UtcTime, alternative, from_tag_by_index,
 };
-use asn1_values::VisibleString;
 
-/// A point in time, in one of two kinds of text.
+/// `Time` of the module `PKIX1Explicit88`.
 #[derive(PartialEq, Eq, Debug, Drop)]
 pub enum Time {
     /// `utcTime UTCTime`
-    Utc(Implicit<tag::UTC_TIME, VisibleString>),
+    UtcTime(UtcTime),
     /// `generalTime GeneralizedTime`
-    General(Implicit<tag::GENERALIZED_TIME, VisibleString>),
+    GeneralTime(GeneralizedTime),
 }
 
 /// The trees of the alternatives.
-const TIME: &[TagTree<'static>] = &[
+pub(crate) const TIME: &[TagTree<'static>] = &[
     TagTree::Leaf(Tag::UTC_TIME),
     TagTree::Leaf(Tag::GENERALIZED_TIME),
 ];
 
 impl DecodeChoiceByIndex for Time {
-    ghost cases = { variant (codes "utcTime") Utc (untagged ⟦<Implicit<tag::UTC_TIME, VisibleString> as AsnType>⟧.meaning)
-        ⟦<Implicit<tag::UTC_TIME, VisibleString> as PartialEq>⟧.eq ∷
-        variant (codes "generalTime") General (untagged ⟦<Implicit<tag::GENERALIZED_TIME, VisibleString> as AsnType>⟧.meaning)
-        ⟦<Implicit<tag::GENERALIZED_TIME, VisibleString> as PartialEq>⟧.eq ∷ [] };
+    ghost cases = { variant (codes "utcTime") UtcTime (untagged ⟦<UtcTime as AsnType>⟧.meaning) ⟦<UtcTime as PartialEq>⟧.eq ∷
+        variant (codes "generalTime") GeneralTime (untagged ⟦<GeneralizedTime as AsnType>⟧.meaning) ⟦<GeneralizedTime as PartialEq>⟧.eq ∷ [] };
 
-    ghost case_of = { elim [ Utc utc ↦ inl utc | General general ↦ inr (inl general) ] };
+    ghost case_of = { elim [ UtcTime x ↦ inl x | GeneralTime x ↦ inr (inl x) ] };
 
     fn decode_alternative<D: Decoder>(index: usize, decoder: &mut D) -> Result<Self, DecodeError> {
         match index {
-            0 => Ok(Time::Utc(alternative(decoder, Tagging::Untagged)?)),
-            1 => Ok(Time::General(alternative(decoder, Tagging::Untagged)?)),
+            0 => Ok(Self::UtcTime(alternative(decoder, Tagging::Untagged)?)),
+            1 => Ok(Self::GeneralTime(alternative(decoder, Tagging::Untagged)?)),
             _ => Err(DecodeError::NoValidChoice("Time")),
         }
     }
 
-    ghost made = { elim [ Utc x ↦ (refl, λ _. refl) | General x ↦ (refl, λ _. refl) ] };
+    ghost made = { elim [ UtcTime x ↦ (refl, λ _. refl) | GeneralTime x ↦ (refl, λ _. refl) ] };
 }
 
 impl Choice for Time {
@@ -80,15 +75,9 @@ impl ChoiceType for Time {
     ghost agrees = { choice_agrees };
 }
 
-/// A `Time` can be inside other types: the tags of its alternatives are distinct.
+/// A `Time` can be inside other types.
 pub fn time_is_well_tagged()
     ensures { IsWellTagged ⟦<Time as AsnType>⟧.meaning }
-{}
-
-/// Each `Time` is valid.
-pub fn time_is_valid(time: &Time)
-    ensures { (accepts : List ℕ → Bool) →
-        ⟦<Time as AsnType>⟧.meaning.IsValid accepts time.now }
 {}
 
 impl Encode for Time {
@@ -106,15 +95,15 @@ impl Encode for Time {
 impl EncodeChoice for Time {
     fn chosen_tag(&self) -> Tag {
         match self {
-            Time::Utc(_) => Tag::UTC_TIME,
-            Time::General(_) => Tag::GENERALIZED_TIME,
+            Self::UtcTime(_) => Tag::UTC_TIME,
+            Self::GeneralTime(_) => Tag::GENERALIZED_TIME,
         }
     }
 
     fn encode_alternative<E: Encoder>(&self, encoder: &mut E) -> Result<(), EncodeError> {
         match self {
-            Time::Utc(utc) => utc.encode(encoder),
-            Time::General(general) => general.encode(encoder),
+            Self::UtcTime(value) => value.encode(encoder),
+            Self::GeneralTime(value) => value.encode(encoder),
         }
     }
 }
@@ -124,13 +113,13 @@ impl Decode for Time {
         decoder: &mut D,
         tag: Tag,
         constraints: &Constraints<'_>,
-    ) -> Result<Time, DecodeError> {
+    ) -> Result<Self, DecodeError> {
         decoder.decode_choice_with_tag(tag, constraints)
     }
 }
 
 impl DecodeChoice for Time {
-    fn from_tag<D: Decoder>(decoder: &mut D, tag: Tag) -> Result<Time, DecodeError> {
+    fn from_tag<D: Decoder>(decoder: &mut D, tag: Tag) -> Result<Self, DecodeError> {
         from_tag_by_index(decoder, tag)
     }
 }

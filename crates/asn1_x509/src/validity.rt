@@ -1,18 +1,16 @@
 //! `Validity ::= SEQUENCE { notBefore Time, notAfter Time }`
-ghost use Rattle.std.specs.Prelude.{Bool, List, [], codes, ℕ, ◌∷◌};
-ghost use Rattle.asn1_slots.specs.Slots.{required_slot, sequence_of_slots};
-ghost use Rattle.asn1_types.specs.Words.{IsWellTagged, constructed_agrees, constructed_type, untagged};
+ghost use Rattle.std.specs.Prelude.{[], codes, ◌∷◌};
+ghost use Rattle.asn1_schema.specs.Words.{IsWellTagged, constructed_agrees, constructed_type, required_slot, sequence_of_slots, untagged};
 
 use crate::time::Time;
-use asn1_dec::{Decode, DecodeError, Decoder};
-use asn1_enc::{Encode, EncodeError, EncodeFields, Encoder};
-use asn1_slots::{DecodeByIndex, Decoded, Tagging, decode_sequence_naming_errors, required};
-use asn1_types::{
-    AsnType, Constraints, ConstructedType, Field, FieldTable, Identifier, Tag, TypeTable,
+use asn1_schema::{
+    AsnType, Constraints, ConstructedType, Decode, DecodeByIndex, DecodeError, Decoded, Decoder,
+    Encode, EncodeError, EncodeFields, Encoder, Field, FieldTable, Identifier, Tag, Tagging,
+    TypeTable, decode_sequence_naming_errors, required,
 };
 use std::alloc::{AllocError, Global};
 
-/// From when to when a certificate is valid.
+/// `Validity` of the module `PKIX1Explicit88`.
 #[derive(PartialEq, Eq, Debug, Drop)]
 pub struct Validity {
     /// `notBefore Time`
@@ -24,13 +22,11 @@ pub struct Validity {
 impl DecodeByIndex for Validity {
     type Slots = (Option<Time>, Option<Time>);
 
-    ghost layout = { required_slot (codes "notBefore") (λ v. v.not_before) (λ s. s.0)
-        (untagged ⟦<Time as AsnType>⟧.meaning) ⟦<Time as PartialEq>⟧.eq ∷
-        required_slot (codes "notAfter") (λ v. v.not_after) (λ s. s.1)
-        (untagged ⟦<Time as AsnType>⟧.meaning) ⟦<Time as PartialEq>⟧.eq ∷ [] };
+    ghost layout = { required_slot (codes "notBefore") (λ v. v.not_before) (λ s. s.0) (untagged ⟦<Time as AsnType>⟧.meaning) ⟦<Time as PartialEq>⟧.eq ∷
+        required_slot (codes "notAfter") (λ v. v.not_after) (λ s. s.1) (untagged ⟦<Time as AsnType>⟧.meaning) ⟦<Time as PartialEq>⟧.eq ∷ [] };
 
-    fn full(_alloc: Global, slots: Self::Slots) -> Result<Validity, AllocError> {
-        Ok(Validity {
+    fn full(_alloc: Global, slots: Self::Slots) -> Result<Self, AllocError> {
+        Ok(Self {
             not_before: slots.0.unwrap(),
             not_after: slots.1.unwrap(),
         })
@@ -86,12 +82,6 @@ pub fn validity_is_well_tagged()
     ensures { IsWellTagged ⟦<Validity as AsnType>⟧.meaning }
 {}
 
-/// Each `Validity` is valid, also one that ends before it begins.
-pub fn validity_is_valid(validity: &Validity)
-    ensures { (accepts : List ℕ → Bool) →
-        ⟦<Validity as AsnType>⟧.meaning.IsValid accepts validity.now }
-{}
-
 impl Encode for Validity {
     fn encode_with_tag_and_constraints<E: Encoder>(
         &self,
@@ -119,7 +109,7 @@ impl Decode for Validity {
         decoder: &mut D,
         tag: Tag,
         constraints: &Constraints<'_>,
-    ) -> Result<Validity, DecodeError> {
+    ) -> Result<Self, DecodeError> {
         decode_sequence_naming_errors(decoder, tag, constraints)
     }
 }

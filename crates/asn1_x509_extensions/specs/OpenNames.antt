@@ -3,16 +3,16 @@
 use Rattle.std.specs.Prelude.{ℕ, ⊤, Bool, IsTrue, List, All}
 use Rattle.asn1_x509.specs.OpenValues.{NameIsAccepted}
 use Rattle.asn1_x509_extensions.specs.declared.general_name.GeneralName.{GeneralName}
-use Rattle.asn1_x509_extensions.specs.declared.general_name.GeneralName.TheVariants.{Other, Rfc822, Dns, X400, Directory, EdiParty, Uri, IpAddress, RegisteredId}
+use Rattle.asn1_x509_extensions.specs.declared.general_name.GeneralName.TheVariants.{OtherName, Rfc822Name, DnsName, X400Address, DirectoryName, EdiPartyName, UniformResourceIdentifier, IpAddress, RegisteredId}
 
 -- a codec accepts each of these as one value
 abbrev pub GeneralNameIsAccepted : (List ℕ → Bool) → GeneralName → Type 0
-GeneralNameIsAccepted accepts (Other other) = IsTrue (accepts other.value)
-GeneralNameIsAccepted accepts (Rfc822 mailbox) = ⊤
-GeneralNameIsAccepted accepts (Dns host) = ⊤
-GeneralNameIsAccepted accepts (X400 address) = All (λ component. IsTrue (accepts component)) address.items
-GeneralNameIsAccepted accepts (Directory name) = NameIsAccepted accepts name
-GeneralNameIsAccepted accepts (EdiParty party) = ⊤
-GeneralNameIsAccepted accepts (Uri uri) = ⊤
+GeneralNameIsAccepted accepts (OtherName other) = IsTrue (accepts other.value)
+GeneralNameIsAccepted accepts (Rfc822Name mailbox) = ⊤
+GeneralNameIsAccepted accepts (DnsName host) = ⊤
+GeneralNameIsAccepted accepts (X400Address address) = All (λ component. IsTrue (accepts component)) address.items
+GeneralNameIsAccepted accepts (DirectoryName name) = NameIsAccepted accepts name
+GeneralNameIsAccepted accepts (EdiPartyName party) = ⊤
+GeneralNameIsAccepted accepts (UniformResourceIdentifier uri) = ⊤
 GeneralNameIsAccepted accepts (IpAddress octets) = ⊤
 GeneralNameIsAccepted accepts (RegisteredId identifier) = ⊤

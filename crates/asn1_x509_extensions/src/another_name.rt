@@ -1,19 +1,16 @@
 //! `AnotherName ::= SEQUENCE { type-id OBJECT IDENTIFIER, value [0] EXPLICIT ANY DEFINED BY type-id }`
-ghost use Rattle.std.specs.Prelude.{Bool, IsTrue, List, [], codes, ℕ, ◌↔◌, ◌∷◌};
-ghost use Rattle.asn1_slots.specs.Slots.{required_slot, sequence_of_slots};
-ghost use Rattle.asn1_types.specs.Words.{IsWellTagged, constructed_agrees, constructed_type, context, explicitly_tagged, untagged};
+ghost use Rattle.std.specs.Prelude.{[], codes, ◌∷◌};
+ghost use Rattle.asn1_schema.specs.Words.{IsWellTagged, constructed_agrees, constructed_type, context, explicitly_tagged, required_slot, sequence_of_slots, untagged};
 
-use asn1_dec::{Decode, DecodeError, Decoder};
-use asn1_enc::{Encode, EncodeError, EncodeFields, Encoder};
-use asn1_slots::{DecodeByIndex, Decoded, Tagging, decode_sequence_naming_errors, required};
-use asn1_tags::tag;
-use asn1_types::{
-    Any, AsnType, Constraints, ConstructedType, Field, FieldTable, Identifier, Tag, TypeTable,
+use asn1_schema::{
+    Any, AsnType, Constraints, ConstructedType, Decode, DecodeByIndex, DecodeError, Decoded,
+    Decoder, Encode, EncodeError, EncodeFields, Encoder, Field, FieldTable, Identifier,
+    ObjectIdentifier, Tag, Tagging, TypeTable, decode_sequence_naming_errors, required,
 };
-use asn1_values::ObjectIdentifier;
+use asn1_tags::tag;
 use std::alloc::{AllocError, Global};
 
-/// A name of a kind that has a name of its own.
+/// `AnotherName` of the module `PKIX1Implicit88`.
 #[derive(PartialEq, Eq, Debug, Drop)]
 pub struct AnotherName {
     /// `type-id OBJECT IDENTIFIER`
@@ -22,18 +19,14 @@ pub struct AnotherName {
     pub value: Any,
 }
 
-const VALUE: Tag = tag!(context 0);
-
 impl DecodeByIndex for AnotherName {
     type Slots = (Option<ObjectIdentifier>, Option<Any>);
 
-    ghost layout = { required_slot (codes "type-id") (λ v. v.type_id) (λ s. s.0)
-        (untagged ⟦<ObjectIdentifier as AsnType>⟧.meaning) ⟦<ObjectIdentifier as PartialEq>⟧.eq ∷
-        required_slot (codes "value") (λ v. v.value) (λ s. s.1)
-        (explicitly_tagged (context 0) ⟦<Any as AsnType>⟧.meaning) ⟦<Any as PartialEq>⟧.eq ∷ [] };
+    ghost layout = { required_slot (codes "type-id") (λ v. v.type_id) (λ s. s.0) (untagged ⟦<ObjectIdentifier as AsnType>⟧.meaning) ⟦<ObjectIdentifier as PartialEq>⟧.eq ∷
+        required_slot (codes "value") (λ v. v.value) (λ s. s.1) (explicitly_tagged (context 0) ⟦<Any as AsnType>⟧.meaning) ⟦<Any as PartialEq>⟧.eq ∷ [] };
 
-    fn full(_alloc: Global, slots: Self::Slots) -> Result<AnotherName, AllocError> {
-        Ok(AnotherName {
+    fn full(_alloc: Global, slots: Self::Slots) -> Result<Self, AllocError> {
+        Ok(Self {
             type_id: slots.0.unwrap(),
             value: slots.1.unwrap(),
         })
@@ -42,7 +35,7 @@ impl DecodeByIndex for AnotherName {
     fn decode_field<D: Decoder>(index: usize, slots: &mut Self::Slots, decoder: &mut D) -> Decoded {
         match index {
             0 => required(&mut slots.0, decoder, Tagging::Untagged),
-            1 => required(&mut slots.1, decoder, Tagging::Explicit(VALUE)),
+            1 => required(&mut slots.1, decoder, Tagging::Explicit(tag!(context 0))),
             _ => Ok(()),
         }
     }
@@ -58,7 +51,7 @@ impl FieldTable for AnotherName {
     fn field_at(index: usize) -> Option<Field<'static>> {
         match index {
             0 => Some(Field::new_required_type::<ObjectIdentifier>(0, "type-id")),
-            1 => Some(Field::new_required_explicit(1, VALUE, "value")),
+            1 => Some(Field::new_required_explicit(1, tag!(context 0), "value")),
             _ => None,
         }
     }
@@ -89,13 +82,6 @@ pub fn another_name_is_well_tagged()
     ensures { IsWellTagged ⟦<AnotherName as AsnType>⟧.meaning }
 {}
 
-/// An `AnotherName` is valid if and only if the codec accepts its value.
-pub fn another_name_is_valid(name: &AnotherName)
-    ensures { (accepts : List ℕ → Bool) →
-        ⟦<AnotherName as AsnType>⟧.meaning.IsValid accepts name.now ↔
-        IsTrue (accepts name.now.value) }
-{}
-
 impl Encode for AnotherName {
     fn encode_with_tag_and_constraints<E: Encoder>(
         &self,
@@ -112,7 +98,7 @@ impl EncodeFields for AnotherName {
     fn encode_field<E: Encoder>(&self, index: usize, encoder: &mut E) -> Result<(), EncodeError> {
         match index {
             0 => self.type_id.encode(encoder),
-            1 => encoder.encode_explicit_prefix(VALUE, &self.value, Any::identifier()),
+            1 => encoder.encode_explicit_prefix(tag!(context 0), &self.value, Any::identifier()),
             _ => Ok(()),
         }
     }
@@ -123,7 +109,7 @@ impl Decode for AnotherName {
         decoder: &mut D,
         tag: Tag,
         constraints: &Constraints<'_>,
-    ) -> Result<AnotherName, DecodeError> {
+    ) -> Result<Self, DecodeError> {
         decode_sequence_naming_errors(decoder, tag, constraints)
     }
 }

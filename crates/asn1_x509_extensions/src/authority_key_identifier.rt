@@ -1,30 +1,26 @@
-//! The key of an authority (RFC 5280, 4.2.1.1).
+//! `AuthorityKeyIdentifier` of the module `PKIX1Implicit88`.
 //!
 //! ```text
 //! AuthorityKeyIdentifier ::= SEQUENCE {
-//!     keyIdentifier             [0] KeyIdentifier OPTIONAL,
-//!     authorityCertIssuer       [1] GeneralNames OPTIONAL,
+//!     keyIdentifier [0] KeyIdentifier OPTIONAL,
+//!     authorityCertIssuer [1] GeneralNames OPTIONAL,
 //!     authorityCertSerialNumber [2] CertificateSerialNumber OPTIONAL
 //! }
 //! ```
-ghost use Rattle.std.specs.Prelude.{All, Bool, IfSome, List, [], codes, ℕ, ◌↔◌, ◌∷◌};
-ghost use Rattle.asn1_slots.specs.Slots.{optional_slot, sequence_of_slots};
-ghost use Rattle.asn1_types.specs.Words.{IsWellTagged, constructed_agrees, constructed_type, context, tagged};
-ghost use Rattle.asn1_x509_extensions.specs.OpenNames.{GeneralNameIsAccepted};
+ghost use Rattle.std.specs.Prelude.{[], codes, ◌∷◌};
+ghost use Rattle.asn1_schema.specs.Words.{IsWellTagged, constructed_agrees, constructed_type, context, optional_slot, sequence_of_slots, tagged};
 
-use crate::general_name::GeneralNames;
-use crate::key_identifier::KeyIdentifier;
-use asn1_dec::{Decode, DecodeError, Decoder};
-use asn1_enc::{Encode, EncodeError, EncodeFields, Encoder};
-use asn1_slots::{DecodeByIndex, Decoded, Tagging, decode_sequence_naming_errors, optional};
-use asn1_tags::tag;
-use asn1_types::{
-    AsnType, Constraints, ConstructedType, Field, FieldTable, Identifier, Tag, TypeTable,
+use crate::aliases::{GeneralNames, KeyIdentifier};
+use asn1_schema::{
+    AsnType, Constraints, ConstructedType, Decode, DecodeByIndex, DecodeError, Decoded, Decoder,
+    Encode, EncodeError, EncodeFields, Encoder, Field, FieldTable, Identifier, Tag, Tagging,
+    TypeTable, decode_sequence_naming_errors, optional,
 };
+use asn1_tags::tag;
 use asn1_x509::CertificateSerialNumber;
 use std::alloc::{AllocError, Global};
 
-/// The key that an authority signed with.
+/// `AuthorityKeyIdentifier` of the module `PKIX1Implicit88`.
 #[derive(PartialEq, Eq, Debug, Drop)]
 pub struct AuthorityKeyIdentifier {
     /// `keyIdentifier [0] KeyIdentifier OPTIONAL`
@@ -35,12 +31,6 @@ pub struct AuthorityKeyIdentifier {
     pub authority_cert_serial_number: Option<CertificateSerialNumber>,
 }
 
-const KEY_IDENTIFIER: Tag = tag!(context 0);
-
-const AUTHORITY_CERT_ISSUER: Tag = tag!(context 1);
-
-const AUTHORITY_CERT_SERIAL_NUMBER: Tag = tag!(context 2);
-
 impl DecodeByIndex for AuthorityKeyIdentifier {
     type Slots = (
         Option<KeyIdentifier>,
@@ -48,15 +38,12 @@ impl DecodeByIndex for AuthorityKeyIdentifier {
         Option<CertificateSerialNumber>,
     );
 
-    ghost layout = { optional_slot (codes "keyIdentifier") (λ v. v.key_identifier) (λ s. s.0)
-        (tagged (context 0) ⟦<KeyIdentifier as AsnType>⟧.meaning) ⟦<KeyIdentifier as PartialEq>⟧.eq ∷
-        optional_slot (codes "authorityCertIssuer") (λ v. v.authority_cert_issuer) (λ s. s.1)
-        (tagged (context 1) ⟦<GeneralNames as AsnType>⟧.meaning) ⟦<GeneralNames as PartialEq>⟧.eq ∷
-        optional_slot (codes "authorityCertSerialNumber") (λ v. v.authority_cert_serial_number) (λ s. s.2)
-        (tagged (context 2) ⟦<CertificateSerialNumber as AsnType>⟧.meaning) ⟦<CertificateSerialNumber as PartialEq>⟧.eq ∷ [] };
+    ghost layout = { optional_slot (codes "keyIdentifier") (λ v. v.key_identifier) (λ s. s.0) (tagged (context 0) ⟦<KeyIdentifier as AsnType>⟧.meaning) ⟦<KeyIdentifier as PartialEq>⟧.eq ∷
+        optional_slot (codes "authorityCertIssuer") (λ v. v.authority_cert_issuer) (λ s. s.1) (tagged (context 1) ⟦<GeneralNames as AsnType>⟧.meaning) ⟦<GeneralNames as PartialEq>⟧.eq ∷
+        optional_slot (codes "authorityCertSerialNumber") (λ v. v.authority_cert_serial_number) (λ s. s.2) (tagged (context 2) ⟦<CertificateSerialNumber as AsnType>⟧.meaning) ⟦<CertificateSerialNumber as PartialEq>⟧.eq ∷ [] };
 
-    fn full(_alloc: Global, slots: Self::Slots) -> Result<AuthorityKeyIdentifier, AllocError> {
-        Ok(AuthorityKeyIdentifier {
+    fn full(_alloc: Global, slots: Self::Slots) -> Result<Self, AllocError> {
+        Ok(Self {
             key_identifier: slots.0,
             authority_cert_issuer: slots.1,
             authority_cert_serial_number: slots.2,
@@ -65,17 +52,9 @@ impl DecodeByIndex for AuthorityKeyIdentifier {
 
     fn decode_field<D: Decoder>(index: usize, slots: &mut Self::Slots, decoder: &mut D) -> Decoded {
         match index {
-            0 => optional(&mut slots.0, decoder, Tagging::Tagged(KEY_IDENTIFIER)),
-            1 => optional(
-                &mut slots.1,
-                decoder,
-                Tagging::Tagged(AUTHORITY_CERT_ISSUER),
-            ),
-            2 => optional(
-                &mut slots.2,
-                decoder,
-                Tagging::Tagged(AUTHORITY_CERT_SERIAL_NUMBER),
-            ),
+            0 => optional(&mut slots.0, decoder, Tagging::Tagged(tag!(context 0))),
+            1 => optional(&mut slots.1, decoder, Tagging::Tagged(tag!(context 1))),
+            2 => optional(&mut slots.2, decoder, Tagging::Tagged(tag!(context 2))),
             _ => Ok(()),
         }
     }
@@ -92,17 +71,17 @@ impl FieldTable for AuthorityKeyIdentifier {
         match index {
             0 => Some(Field::new_optional_type_with_tag::<KeyIdentifier>(
                 0,
-                KEY_IDENTIFIER,
+                tag!(context 0),
                 "keyIdentifier",
             )),
             1 => Some(Field::new_optional_type_with_tag::<GeneralNames>(
                 1,
-                AUTHORITY_CERT_ISSUER,
+                tag!(context 1),
                 "authorityCertIssuer",
             )),
             2 => Some(Field::new_optional_type_with_tag::<CertificateSerialNumber>(
                 2,
-                AUTHORITY_CERT_SERIAL_NUMBER,
+                tag!(context 2),
                 "authorityCertSerialNumber",
             )),
             _ => None,
@@ -135,13 +114,6 @@ pub fn authority_key_identifier_is_well_tagged()
     ensures { IsWellTagged ⟦<AuthorityKeyIdentifier as AsnType>⟧.meaning }
 {}
 
-/// An `AuthorityKeyIdentifier` is valid if and only if the codec accepts what is open in the names of the issuer, if there are any.
-pub fn authority_key_identifier_is_valid(key: &AuthorityKeyIdentifier)
-    ensures { (accepts : List ℕ → Bool) →
-        ⟦<AuthorityKeyIdentifier as AsnType>⟧.meaning.IsValid accepts key.now ↔
-        IfSome key.now.authority_cert_issuer (λ n. All (GeneralNameIsAccepted accepts) n.items) }
-{}
-
 impl Encode for AuthorityKeyIdentifier {
     fn encode_with_tag_and_constraints<E: Encoder>(
         &self,
@@ -157,13 +129,15 @@ impl Encode for AuthorityKeyIdentifier {
 impl EncodeFields for AuthorityKeyIdentifier {
     fn encode_field<E: Encoder>(&self, index: usize, encoder: &mut E) -> Result<(), EncodeError> {
         match index {
-            0 => self.key_identifier.encode_with_tag(encoder, KEY_IDENTIFIER),
+            0 => self
+                .key_identifier
+                .encode_with_tag(encoder, tag!(context 0)),
             1 => self
                 .authority_cert_issuer
-                .encode_with_tag(encoder, AUTHORITY_CERT_ISSUER),
+                .encode_with_tag(encoder, tag!(context 1)),
             2 => self
                 .authority_cert_serial_number
-                .encode_with_tag(encoder, AUTHORITY_CERT_SERIAL_NUMBER),
+                .encode_with_tag(encoder, tag!(context 2)),
             _ => Ok(()),
         }
     }
@@ -174,7 +148,7 @@ impl Decode for AuthorityKeyIdentifier {
         decoder: &mut D,
         tag: Tag,
         constraints: &Constraints<'_>,
-    ) -> Result<AuthorityKeyIdentifier, DecodeError> {
+    ) -> Result<Self, DecodeError> {
         decode_sequence_naming_errors(decoder, tag, constraints)
     }
 }

@@ -1,40 +1,40 @@
-//! `BasicConstraints ::= SEQUENCE { cA BOOLEAN DEFAULT FALSE, pathLenConstraint INTEGER (0..MAX) OPTIONAL }` (RFC 5280, 4.2.1.9)
-ghost use Rattle.std.specs.Prelude.{Bool, List, [], codes, false, ℕ, ◌∷◌};
-ghost use Rattle.asn1_slots.specs.Slots.{default_slot, optional_slot, sequence_of_slots};
-ghost use Rattle.asn1_types.specs.Words.{IsWellTagged, constructed_agrees, constructed_type, untagged};
+//! `BasicConstraints` of the module `PKIX1Implicit88`.
+//!
+//! ```text
+//! BasicConstraints ::= SEQUENCE {
+//!     cA BOOLEAN DEFAULT FALSE,
+//!     pathLenConstraint INTEGER (0..MAX) OPTIONAL
+//! }
+//! ```
+ghost use Rattle.std.specs.Prelude.{[], codes, false, ◌∷◌};
+ghost use Rattle.asn1_schema.specs.Words.{IsWellTagged, constructed_agrees, constructed_type, default_slot, optional_slot, sequence_of_slots, untagged};
 
-use crate::path_length::PathLength;
-use asn1_dec::{Decode, DecodeError, Decoder};
-use asn1_enc::{Encode, EncodeError, EncodeFields, Encoder};
-use asn1_slots::{
-    DecodeByIndex, Decoded, Tagging, decode_sequence_naming_errors, optional, or_default,
-};
-use asn1_types::{
-    AsnType, Constraints, ConstructedType, Field, FieldTable, Identifier, Tag, TypeTable,
+use asn1_schema::{
+    AsnType, Constraints, ConstructedType, Decode, DecodeByIndex, DecodeError, Decoded, Decoder,
+    Encode, EncodeError, EncodeFields, Encoder, Field, FieldTable, Identifier, Integer, Tag,
+    Tagging, TypeTable, decode_sequence_naming_errors, optional, or_default,
 };
 use std::alloc::{AllocError, Global};
 
-/// Whether a certificate is that of an authority, and how many others may follow it.
+/// `BasicConstraints` of the module `PKIX1Implicit88`.
 #[derive(PartialEq, Eq, Debug, Drop)]
 pub struct BasicConstraints {
     /// `cA BOOLEAN DEFAULT FALSE`
-    pub is_authority: bool,
+    pub ca: bool,
     /// `pathLenConstraint INTEGER (0..MAX) OPTIONAL`
-    pub path_length: Option<PathLength>,
+    pub path_len_constraint: Option<Integer>,
 }
 
 impl DecodeByIndex for BasicConstraints {
-    type Slots = (Option<bool>, Option<PathLength>);
+    type Slots = (Option<bool>, Option<Integer>);
 
-    ghost layout = { default_slot (codes "cA") (λ v. v.is_authority) false (λ s. s.0)
-        (untagged ⟦<bool as AsnType>⟧.meaning) ⟦<bool as PartialEq>⟧.eq ∷
-        optional_slot (codes "pathLenConstraint") (λ v. v.path_length) (λ s. s.1)
-        (untagged ⟦<PathLength as AsnType>⟧.meaning) ⟦<PathLength as PartialEq>⟧.eq ∷ [] };
+    ghost layout = { default_slot (codes "cA") (λ v. v.ca) false (λ s. s.0) (untagged ⟦<bool as AsnType>⟧.meaning) ⟦<bool as PartialEq>⟧.eq ∷
+        optional_slot (codes "pathLenConstraint") (λ v. v.path_len_constraint) (λ s. s.1) (untagged ⟦<Integer as AsnType>⟧.meaning) ⟦<Integer as PartialEq>⟧.eq ∷ [] };
 
-    fn full(_alloc: Global, slots: Self::Slots) -> Result<BasicConstraints, AllocError> {
-        Ok(BasicConstraints {
-            is_authority: or_default(slots.0, false),
-            path_length: slots.1,
+    fn full(_alloc: Global, slots: Self::Slots) -> Result<Self, AllocError> {
+        Ok(Self {
+            ca: or_default(slots.0, false),
+            path_len_constraint: slots.1,
         })
     }
 
@@ -57,7 +57,7 @@ impl FieldTable for BasicConstraints {
     fn field_at(index: usize) -> Option<Field<'static>> {
         match index {
             0 => Some(Field::new_default_type::<bool>(0, "cA")),
-            1 => Some(Field::new_optional_type::<PathLength>(1, "pathLenConstraint")),
+            1 => Some(Field::new_optional_type::<Integer>(1, "pathLenConstraint")),
             _ => None,
         }
     }
@@ -88,12 +88,6 @@ pub fn basic_constraints_is_well_tagged()
     ensures { IsWellTagged ⟦<BasicConstraints as AsnType>⟧.meaning }
 {}
 
-/// Each `BasicConstraints` is valid.
-pub fn basic_constraints_is_valid(constraints: &BasicConstraints)
-    ensures { (accepts : List ℕ → Bool) →
-        ⟦<BasicConstraints as AsnType>⟧.meaning.IsValid accepts constraints.now }
-{}
-
 impl Encode for BasicConstraints {
     fn encode_with_tag_and_constraints<E: Encoder>(
         &self,
@@ -109,8 +103,8 @@ impl Encode for BasicConstraints {
 impl EncodeFields for BasicConstraints {
     fn encode_field<E: Encoder>(&self, index: usize, encoder: &mut E) -> Result<(), EncodeError> {
         match index {
-            0 => encoder.encode_default(&self.is_authority, |_| Ok(false), bool::identifier()),
-            1 => self.path_length.encode(encoder),
+            0 => encoder.encode_default(&self.ca, |_| Ok(false), bool::identifier()),
+            1 => self.path_len_constraint.encode(encoder),
             _ => Ok(()),
         }
     }
@@ -121,7 +115,7 @@ impl Decode for BasicConstraints {
         decoder: &mut D,
         tag: Tag,
         constraints: &Constraints<'_>,
-    ) -> Result<BasicConstraints, DecodeError> {
+    ) -> Result<Self, DecodeError> {
         decode_sequence_naming_errors(decoder, tag, constraints)
     }
 }

@@ -1,37 +1,33 @@
-//! `AttributeTypeAndValue ::= SEQUENCE { type OBJECT IDENTIFIER, value ANY DEFINED BY type }`
-ghost use Rattle.std.specs.Prelude.{Bool, IsTrue, List, [], codes, ℕ, ◌↔◌, ◌∷◌};
-ghost use Rattle.asn1_slots.specs.Slots.{required_slot, sequence_of_slots};
-ghost use Rattle.asn1_types.specs.Words.{IsWellTagged, constructed_agrees, constructed_type, untagged};
+//! `AttributeTypeAndValue ::= SEQUENCE { type AttributeType, value AttributeValue }`
+ghost use Rattle.std.specs.Prelude.{[], codes, ◌∷◌};
+ghost use Rattle.asn1_schema.specs.Words.{IsWellTagged, constructed_agrees, constructed_type, required_slot, sequence_of_slots, untagged};
 
-use asn1_dec::{Decode, DecodeError, Decoder};
-use asn1_enc::{Encode, EncodeError, EncodeFields, Encoder};
-use asn1_slots::{DecodeByIndex, Decoded, Tagging, decode_sequence_naming_errors, required};
-use asn1_types::{
-    Any, AsnType, Constraints, ConstructedType, Field, FieldTable, Identifier, Tag, TypeTable,
+use crate::aliases::{AttributeType, AttributeValue};
+use asn1_schema::{
+    AsnType, Constraints, ConstructedType, Decode, DecodeByIndex, DecodeError, Decoded, Decoder,
+    Encode, EncodeError, EncodeFields, Encoder, Field, FieldTable, Identifier, Tag, Tagging,
+    TypeTable, decode_sequence_naming_errors, required,
 };
-use asn1_values::ObjectIdentifier;
 use std::alloc::{AllocError, Global};
 
-/// One attribute of a name, as its country.
+/// `AttributeTypeAndValue` of the module `PKIX1Explicit88`.
 #[derive(PartialEq, Eq, Debug, Drop)]
 pub struct AttributeTypeAndValue {
-    /// `type OBJECT IDENTIFIER`
-    pub attribute: ObjectIdentifier,
-    /// `value ANY DEFINED BY type`
-    pub value: Any,
+    /// `type AttributeType`
+    pub type_: AttributeType,
+    /// `value AttributeValue`
+    pub value: AttributeValue,
 }
 
 impl DecodeByIndex for AttributeTypeAndValue {
-    type Slots = (Option<ObjectIdentifier>, Option<Any>);
+    type Slots = (Option<AttributeType>, Option<AttributeValue>);
 
-    ghost layout = { required_slot (codes "type") (λ v. v.attribute) (λ s. s.0)
-        (untagged ⟦<ObjectIdentifier as AsnType>⟧.meaning) ⟦<ObjectIdentifier as PartialEq>⟧.eq ∷
-        required_slot (codes "value") (λ v. v.value) (λ s. s.1)
-        (untagged ⟦<Any as AsnType>⟧.meaning) ⟦<Any as PartialEq>⟧.eq ∷ [] };
+    ghost layout = { required_slot (codes "type") (λ v. v.type_) (λ s. s.0) (untagged ⟦<AttributeType as AsnType>⟧.meaning) ⟦<AttributeType as PartialEq>⟧.eq ∷
+        required_slot (codes "value") (λ v. v.value) (λ s. s.1) (untagged ⟦<AttributeValue as AsnType>⟧.meaning) ⟦<AttributeValue as PartialEq>⟧.eq ∷ [] };
 
-    fn full(_alloc: Global, slots: Self::Slots) -> Result<AttributeTypeAndValue, AllocError> {
-        Ok(AttributeTypeAndValue {
-            attribute: slots.0.unwrap(),
+    fn full(_alloc: Global, slots: Self::Slots) -> Result<Self, AllocError> {
+        Ok(Self {
+            type_: slots.0.unwrap(),
             value: slots.1.unwrap(),
         })
     }
@@ -54,8 +50,8 @@ impl FieldTable for AttributeTypeAndValue {
 
     fn field_at(index: usize) -> Option<Field<'static>> {
         match index {
-            0 => Some(Field::new_required_type::<ObjectIdentifier>(0, "type")),
-            1 => Some(Field::new_required_type::<Any>(1, "value")),
+            0 => Some(Field::new_required_type::<AttributeType>(0, "type")),
+            1 => Some(Field::new_required_type::<AttributeValue>(1, "value")),
             _ => None,
         }
     }
@@ -86,13 +82,6 @@ pub fn attribute_type_and_value_is_well_tagged()
     ensures { IsWellTagged ⟦<AttributeTypeAndValue as AsnType>⟧.meaning }
 {}
 
-/// An `AttributeTypeAndValue` is valid if and only if the codec accepts its value.
-pub fn attribute_type_and_value_is_valid(attribute: &AttributeTypeAndValue)
-    ensures { (accepts : List ℕ → Bool) →
-        ⟦<AttributeTypeAndValue as AsnType>⟧.meaning.IsValid accepts attribute.now ↔
-        IsTrue (accepts attribute.now.value) }
-{}
-
 impl Encode for AttributeTypeAndValue {
     fn encode_with_tag_and_constraints<E: Encoder>(
         &self,
@@ -108,7 +97,7 @@ impl Encode for AttributeTypeAndValue {
 impl EncodeFields for AttributeTypeAndValue {
     fn encode_field<E: Encoder>(&self, index: usize, encoder: &mut E) -> Result<(), EncodeError> {
         match index {
-            0 => self.attribute.encode(encoder),
+            0 => self.type_.encode(encoder),
             1 => self.value.encode(encoder),
             _ => Ok(()),
         }
@@ -120,7 +109,7 @@ impl Decode for AttributeTypeAndValue {
         decoder: &mut D,
         tag: Tag,
         constraints: &Constraints<'_>,
-    ) -> Result<AttributeTypeAndValue, DecodeError> {
+    ) -> Result<Self, DecodeError> {
         decode_sequence_naming_errors(decoder, tag, constraints)
     }
 }
