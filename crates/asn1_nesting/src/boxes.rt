@@ -15,9 +15,9 @@ pub fn boxed<T: HoldsItself, D: Decoder>(
     read: Result<T, DecodeError>,
     decoder: &D,
 ) -> Result<Box<T>, DecodeError>
-    ensures read { (old : D) (tag : Tag) → T.meaning.HasDistinctTags tag → ReadsValue D.reader T.meaning T.eq tag
-        T.meaning.constraints old decoder.now read → ReadsValueOf D.reader (tagged tag (in_box T.inside))
-        (eq_in_box T.eq) old decoder.now result }
+    ensures read { (old : D) (tag : Tag) → T.meaning.HasDistinctTags tag → ReadsValue D.reader
+        T.meaning T.eq tag T.meaning.constraints old decoder.now read → ReadsValueOf D.reader
+        (tagged tag (in_box T.inside)) (eq_in_box T.eq) old decoder.now result }
     ensures same_depth { (old : D) → OnOk read (D.reader.depth_left decoder.now ≡
         D.reader.depth_left old) → OnOk result (D.reader.depth_left decoder.now ≡
         D.reader.depth_left old) }

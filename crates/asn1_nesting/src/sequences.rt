@@ -17,7 +17,8 @@ pub fn open_sequence_at<S: ConstructedType + Eq, D: Decoder>(
     tag: Tag,
 ) -> Result<(), DecodeError>
     requires kind { S.components.kind ≡ is_sequence }
-    ensures opened { OnOk result (IsOpenSequence D.reader S.components tag decoder.old decoder.new) }
+    ensures opened { OnOk result (IsOpenSequence D.reader S.components tag decoder.old
+        decoder.new) }
     ensures deeper { OnOk result (D.reader.depth_left decoder.new < D.reader.depth_left
         decoder.old) }
     ensures not_read { (c : ConstraintSet) → IfErr result (λ e. ReadsValue D.reader S.meaning S.eq
