@@ -2,6 +2,7 @@ mod Begun
 mod FlatBits
 mod FlatOctets
 pub mod Headers
+mod InFirst
 mod LooseOctets
 pub mod NormalForms
 mod Joined

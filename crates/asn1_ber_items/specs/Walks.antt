@@ -2,13 +2,15 @@
 use Rattle.std.specs.Prelude.{◌≡◌, ◌≢◌, ⊤, ℕ, suc, ◌+◌, ◌*◌, ◌<◌, Some, true, List, [], ◌∷◌, ◌++◌, length, take, drop}
 use Rattle.asn1_ber_items.specs.Headers.{end_of_contents, header_at, header_of}
 use Rattle.asn1_ber_items.specs.Segments.{IsCounted, joined, segments_of, written_in}
-use Rattle.asn1_ber_items.specs.Spellings.{Spells, SpellsOne}
+use Rattle.asn1_ber_items.specs.Spellings.{IsMissing, Spells, SpellsOne}
 use Rattle.asn1_ber_items.specs.declared.header.Header.{Header as HeaderRead}
 use Rattle.asn1_ber_items.specs.declared.open_element.Extent.{Extent}
 use Rattle.asn1_ber_items.specs.declared.open_element.Extent.TheVariants.{Definite, Indefinite}
 use Rattle.asn1_ber_items.specs.declared.open_element.OpenElement.{OpenElement}
 use Rattle.asn1_ber_items.specs.declared.walk.Walk.{Walk}
 use Rattle.asn1_der_items.specs.Elements.{IsBegun, IsElement}
+use Rattle.asn1_items.specs.declared.error.ItemError.{ItemError}
+use Rattle.asn1_items.specs.declared.error.ItemError.TheVariants.{Memory}
 use Rattle.asn1_tags.specs.declared.tags.Tag.{Tag}
 
 -- The bytes left are elements, which make these bytes of those that were written.
@@ -156,13 +158,24 @@ pub record IsElementHere (header : HeaderRead) (walk : Walk) : Type 0 where
   pub at : header_at walk.left.now ≡ Some (header_of header)
   pub is_element : header.tag ≢ end_of_contents
 
+-- The first element is still to be written: nothing was written, or it is open.
+abbrev pub IsInFirst : List OpenElement → List ℕ → Type 0
+IsInFirst [] written = written ≡ []
+IsInFirst (e ∷ es) written = e.start ≡ 0
+
 -- A step of a walk: it will have the same outcome, and less is left to do.
 pub record Goes (old new : Walk) : Type 0 where
   pub consistent : IsConsistent new
   pub ahead : (outcome : Outcome) → GoesOn old outcome → Writes old outcome → Writes new outcome
   pub behind : (outcome : Outcome) → GoesOn old outcome → Writes new outcome → Writes old outcome
   pub less : work new < work old
+  pub in_first : IsInFirst new.begun.items (written_in new.written) → IsInFirst old.begun.items (written_in old.written)
 
 -- The walk has no outcome for which it has to go on, since the bytes left are no elements.
 abbrev pub IsStuck : Walk → Type 0
 IsStuck walk = (outcome : Outcome) → GoesOn walk outcome → ¬ Writes walk outcome
+
+-- A step that fails: memory ran out, or the bytes left are no elements. Bytes are missing of the first element alone.
+pub record IsRefused (walk : Walk) (e : ItemError) : Type 0 where
+  pub stuck : e ≢ Memory → IsStuck walk
+  pub in_first : IsMissing e → IsInFirst walk.begun.items (written_in walk.written)

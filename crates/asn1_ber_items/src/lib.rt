@@ -18,6 +18,8 @@
 //!   octets if it is primitive (`only`, by `Spells`).
 //! - Bytes that are elements of BER, with tag numbers below 2^32, have one normal form, and it is the answer, unless memory runs out
 //!   (`found`).
+//! - [`ItemError::Missing`](asn1_items::ItemError::Missing), on which a reader of a stream waits, does not come where the first element
+//!   is whole (`whole_front`; `found` of [`front_element`]).
 //! - The first element of some bytes has one normal form and one end ([`laws::normal_forms_are_unique`]), whatever follows it
 //!   ([`laws::trailing_bytes_stay`]). An element of DER is its own normal form ([`laws::der_is_normal`]).
 //! - The octets of a string in pieces are those of its primitive pieces, one after another (`AreOctetPieces`). Of a bit string each piece

@@ -1,7 +1,7 @@
 //! The normal form of elements.
-ghost use Rattle.asn1_ber_items.specs.Spellings.{Spells, SpellsOne};
+ghost use Rattle.asn1_ber_items.specs.Spellings.{IsMissing, Spells, SpellsOne};
 ghost use Rattle.asn1_items.specs.declared.error.ItemError.TheVariants.{Memory};
-ghost use Rattle.std.specs.Prelude.{◌≡◌, [], IfOk, List, MatchResult, ℕ};
+ghost use Rattle.std.specs.Prelude.{◌≡◌, [], IfErr, IfOk, List, MatchResult, ℕ};
 
 use crate::walk::Walk;
 use asn1_items::ItemError;
@@ -17,6 +17,8 @@ pub fn normal_form(alloc: Global, bytes: &[u8]) -> Result<Vec<u8>, ItemError>
     ensures found { (normal : List ℕ) → Spells bytes.now normal [] →
         MatchResult result (λ own. own.items ≡ normal) (λ e. e ≡ Memory) }
     ensures only { IfOk result (λ own. Spells bytes.now own.items []) }
+    ensures whole_front { (normal rest : List ℕ) → SpellsOne bytes.now normal rest →
+        IfErr result (λ e. ¬ IsMissing e) }
 {
     let mut walk = Walk::new(alloc, bytes);
     while !walk.is_at_end() {

@@ -1,11 +1,12 @@
 //! The walk through elements of BER.
 ghost use Rattle.asn1_ber_items.specs.Headers.{end_of_contents};
 ghost use Rattle.asn1_ber_items.specs.Segments.{written_in};
-ghost use Rattle.asn1_ber_items.specs.Walks.{Goes, GoesOn, IsClosing, IsConsistent, IsCopy, IsElementHere, IsEnding, IsStuck, Outcome, Remains, Splits, Writes, bytes_after};
+ghost use Rattle.asn1_ber_items.specs.Spellings.{IsMissing};
+ghost use Rattle.asn1_ber_items.specs.Walks.{Goes, GoesOn, IsClosing, IsConsistent, IsCopy, IsElementHere, IsEnding, IsInFirst, IsRefused, Outcome, Remains, Splits, Writes, bytes_after};
 ghost use Rattle.asn1_der_items.specs.Elements.{IsElement};
 ghost use Rattle.asn1_items.specs.Numbers.{Appended};
 ghost use Rattle.asn1_items.specs.declared.error.ItemError.TheVariants.{Memory};
-ghost use Rattle.std.specs.Prelude.{◌≡◌, ◌≢◌, ◌∷◌, ◌++◌, ◌+◌, ◌<◌, ◌↔◌, [], Decides, List, MatchOption, MatchResult, Some, false, length, ℕ};
+ghost use Rattle.std.specs.Prelude.{◌≡◌, ◌≢◌, ◌∷◌, ◌++◌, ◌+◌, ◌<◌, ◌↔◌, [], Decides, List, MatchOption, MatchResult, Some, false, length, true, ℕ};
 
 use crate::header::{Header, read_header};
 use crate::open_element::{Extent, OpenElement};
@@ -67,7 +68,7 @@ impl<'a> Walk<'a> {
     /// [`ItemError::Memory`]; else the bytes left are no elements.
     pub(crate) fn step(&mut self) -> Result<(), ItemError>
         ensures { IsConsistent self.old → MatchResult result (λ _. Goes self.old self.new)
-            (λ e. e ≢ Memory → IsStuck self.old) }
+            (IsRefused self.old) }
     {
         match self.ending() {
             Some(back) => self.end_innermost(back),
@@ -112,7 +113,7 @@ impl<'a> Walk<'a> {
     fn begin_next(&mut self) -> Result<(), ItemError>
         ensures { ((back : List ℕ) → ¬ IsEnding self.old back) → IsConsistent self.old →
             MatchResult result (λ _. Goes self.old self.new)
-            (λ e. e ≢ Memory → IsStuck self.old) }
+            (IsRefused self.old) }
     {
         let header = match read_header(self.left) {
             Ok(header) => header,
@@ -133,21 +134,24 @@ impl<'a> Walk<'a> {
     /// The error where no element was read: bytes are missing only of the first element, and only if no open element has a definite
     /// length, whose bytes are all there.
     fn error_here(&self, error: ItemError) -> ItemError
-        ensures { (result ≡ Memory) ↔ (error ≡ Memory) }
+        ensures memory { (result ≡ Memory) ↔ (error ≡ Memory) }
+        ensures in_first { IsConsistent self.now → IsMissing result →
+            IsInFirst self.now.begun.items (written_in self.now.written) }
     {
-        match error {
-            ItemError::Missing(_) if self.is_behind_first() || self.is_inside_definite() => {
-                ItemError::Malformed
-            }
-            other => other,
+        if self.is_in_first() && !self.is_inside_definite() {
+            return error;
         }
+        error_of_form(error)
     }
 
-    /// Whether the first element was written.
-    fn is_behind_first(&self) -> bool {
+    /// Whether the first element is still to be written.
+    fn is_in_first(&self) -> bool
+        ensures { IsConsistent self.now → result ≡ true →
+            IsInFirst self.now.begun.items (written_in self.now.written) }
+    {
         match self.begun.first() {
-            Some(outermost) => outermost.start > 0,
-            None => !self.written.is_empty(),
+            Some(outermost) => outermost.start == 0,
+            None => self.written.is_empty(),
         }
     }
 
@@ -166,7 +170,7 @@ impl<'a> Walk<'a> {
         ensures { IsElementHere header.entry self.old → header.entry.size ≡ Some size →
             ((back : List ℕ) → ¬ IsEnding self.old back) → IsConsistent self.old →
             MatchResult result (λ _. Goes self.old self.new)
-            (λ e. e ≢ Memory → IsStuck self.old) }
+            (IsRefused self.old) }
     {
         let Some((contents, back)) = header.rest.split_at_checked(size) else {
             return Err(self.error_here(ItemError::Missing(size - header.rest.len())));
@@ -221,6 +225,18 @@ impl<'a> Walk<'a> {
         append_element(&mut self.written.last, tag, contents)?;
         self.left = back;
         Ok(())
+    }
+}
+
+/// The error where no bytes are missing.
+fn error_of_form(error: ItemError) -> ItemError
+    ensures memory { (result ≡ Memory) ↔ (error ≡ Memory) }
+    ensures not_missing { ¬ IsMissing result }
+{
+    match error {
+        ItemError::Memory => ItemError::Memory,
+        ItemError::Missing(_) => ItemError::Malformed,
+        ItemError::Malformed => ItemError::Malformed,
     }
 }
 

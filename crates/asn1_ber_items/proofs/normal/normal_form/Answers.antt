@@ -1,8 +1,9 @@
 use Rattle.std.proofs.Common.{[], append-nil, refl, sym, subst, ◌∙◌}
 use Rattle.std.proofs.lemmas.Result.{err_from_is_err_and}
 use Rattle.asn1_ber_items.specs.Segments.{written_in}
-use Rattle.asn1_ber_items.specs.Spellings.{Spells, nothing}
-use Rattle.asn1_ber_items.specs.Walks.{Comes, Remains, of_all}
+use Rattle.asn1_ber_items.specs.Spellings.{IsMissing, Spells, nothing}
+use Rattle.asn1_ber_items.specs.Walks.{Comes, Remains, of_all, of_first}
+use Rattle.asn1_ber_items.proofs.InFirst.{not_over}
 use Rattle.asn1_ber_items.proofs.Steps.{only_memory}
 use Rattle.asn1_ber_items.proofs.Walking.{at_end}
 use Rattle.asn1_ber_items.proofs.normal.normal_form.Goals as goal
@@ -11,6 +12,7 @@ pub loop-walk-init : goal.loop-walk-init
 loop-walk-init c = record {
   consistent = c.new-walk.ensures.consistent;
   ahead = λ normal spells. c.new-walk.ensures.ahead (of_all normal) (record { others = normal; spell = spells; are = refl });
+  front = λ normal rest spells first. c.new-walk.ensures.ahead (of_first normal rest) spells;
   behind = λ normal writes.
       let l = c.new-walk.ensures.behind (of_all normal) writes in
       subst (λ x. Spells c.args.bytes.now x []) (sym l.are) l.spell;
@@ -20,11 +22,23 @@ pub loop-walk-preserved : goal.loop-walk-preserved
 loop-walk-preserved c =
     let i = c.loop-walk.invariant in
     let s = c.in_ok-step.ensures i.consistent in
+    let walk = c.loop-walk.walk in
     record {
       consistent = s.consistent;
+      front = λ normal rest spells first. (let was = s.in_first first in s.ahead (of_first normal rest) (not_over walk.begun.items (written_in walk.written) was) (i.front normal rest spells was));
       ahead = λ normal spells. s.ahead (of_all normal) (λ over. (let wrong = c.loop-walk-test.ensures.1 over in cc)) (i.ahead normal spells);
       behind = λ normal writes. i.behind normal (s.behind (of_all normal) (λ over. (let wrong = c.loop-walk-test.ensures.1 over in cc)) writes);
     }
+
+pub returns-in_err-step-clause-whole_front : goal.returns-in_err-step-clause-whole_front
+returns-in_err-step-clause-whole_front c = λ normal rest spells.
+    let p = err_from_is_err_and c.from_residual.result c.from_residual.ensures.1 in
+    let i = c.loop-walk.invariant in
+    let walk = c.loop-walk.walk in
+    let refused = c.in_err-step.ensures i.consistent in
+    rw (p.1, p.2) (λ missing.
+    let first = refused.in_first missing in
+    refused.stuck (λ memory. subst IsMissing memory missing) (of_first normal rest) (not_over walk.begun.items (written_in walk.written) first) (i.front normal rest spells first))
 
 pub returns-clause-found : goal.returns-clause-found
 returns-clause-found c = λ normal spells.
@@ -47,4 +61,4 @@ returns-in_err-step-clause-found c = λ normal spells.
     let p = err_from_is_err_and c.from_residual.result c.from_residual.ensures.1 in
     let i = c.loop-walk.invariant in
     let stuck = c.in_err-step.ensures i.consistent in
-    rw (p.1, p.2) (only_memory c.in_err-step.field-0.0 (λ some. stuck some (of_all normal) (λ over. (let wrong = c.loop-walk-test.ensures.1 over in cc)) (i.ahead normal spells)))
+    rw (p.1, p.2) (only_memory c.in_err-step.field-0.0 (λ some. stuck.stuck some (of_all normal) (λ over. (let wrong = c.loop-walk-test.ensures.1 over in cc)) (i.ahead normal spells)))

@@ -1,8 +1,9 @@
-use Rattle.std.proofs.Common.{[], ◌∷◌, ◌++◌, ap, refl, sym, subst, ◌∙◌, arith}
+use Rattle.std.proofs.Common.{◌≡◌, [], ◌∷◌, ◌++◌, ap, refl, sym, subst, ◌∙◌, arith}
 use Rattle.std.specs.Bool.{⊤}
 use Rattle.asn1_ber_items.specs.Segments.{joined, octets_of_each}
-use Rattle.asn1_ber_items.specs.Walks.{AreBegun}
+use Rattle.asn1_ber_items.specs.Walks.{AreBegun, IsInFirst}
 use Rattle.asn1_ber_items.proofs.Begun.{all_opened, grow}
+use Rattle.asn1_ber_items.proofs.InFirst.{over}
 use Rattle.asn1_ber_items.proofs.Joined.{joined-more}
 use Rattle.asn1_ber_items.proofs.Steps.{steps_over}
 use Rattle.asn1_ber_items.proofs.walk.Walk.copy.Goals as goal
@@ -14,11 +15,13 @@ returns c = λ splits less consistent.
     let full = octets_of_each c.args.self.now.written.full.items in
     let last = c.args.self.now.written.last.items in
     let new = c.append_element.new.bytes.items in
-    let s = steps_over es c.args.self.now.left.now c.args.back.now (joined (full ++ last ∷ [])) a.added (joined (full ++ new ∷ [])) (splits a.added a.is)
-    (ap (λ l. joined (full ++ l ∷ [])) a.joined ∙ joined-more full [] last a.added refl) (all_opened es (full ++ last ∷ []) consistent.begun) in
+    let more : joined (full ++ new ∷ []) ≡ joined (full ++ last ∷ []) ++ a.added = ap (λ l. joined (full ++ l ∷ [])) a.joined ∙ joined-more full [] last a.added refl in
+    let s = steps_over es c.args.self.now.left.now c.args.back.now (joined (full ++ last ∷ [])) a.added (joined (full ++ new ∷ [])) (splits a.added a.is) more
+    (all_opened es (full ++ last ∷ []) consistent.begun) in
     record {
       consistent = record { begun = subst (λ l. AreBegun es (λ _. ⊤) (full ++ l ∷ [])) (sym a.joined) (grow es full [] last a.added consistent.begun); counted = consistent.counted };
       ahead = s.ahead;
       behind = s.behind;
+      in_first = λ first. over es (joined (full ++ last ∷ [])) a.added (subst (IsInFirst es) more first);
       less = omega (arith, less);
     }
