@@ -1,4 +1,3 @@
 pub mod FilterAlternatives
 pub mod FilterCases
 pub mod NestedAlternatives
-pub mod ReadingWhole

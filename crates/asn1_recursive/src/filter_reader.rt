@@ -1,9 +1,9 @@
 //! The reader of a filter: four functions that call one another.
 ghost use Rattle.asn1_laws.specs.Reading.{AfterReading, ReadsValue};
+ghost use Rattle.asn1_laws.specs.ReadingTypes.{ReadsElementsLeft};
 ghost use Rattle.asn1_model.specs.ConstraintSets.{constraint_set};
 ghost use Rattle.asn1_model.specs.TaggedTypes.{tagged};
 ghost use Rattle.asn1_recursive.specs.FilterAlternatives.{filter_meaning, inner_filter};
-ghost use Rattle.asn1_recursive.specs.ReadingWhole.{ReadsAllLeft};
 ghost use Rattle.asn1_slots.specs.Cases.{ReadsCaseAt, ReadsValueOf};
 ghost use Rattle.asn1_types.specs.Kinds.{set_of_type};
 ghost use Rattle.std.specs.Cmp.Lexicographic.{pointwise};
@@ -106,7 +106,7 @@ fn read_set<D: Decoder>(decoder: &mut D, tag: Tag) -> Result<SetOf<Filter>, Deco
 /// The filters that are left in the innermost scope, of which there are at most `bound`.
 #[cycle(filter_reader)]
 fn read_filters<D: Decoder>(decoder: &mut D, bound: usize) -> Result<Vec<Filter>, DecodeError>
-    ensures read { ReadsAllLeft D.reader filter_meaning bound
+    ensures read { ReadsElementsLeft D.reader bound filter_meaning
         (λ w. pointwise ⟦<Filter as PartialEq>⟧.eq w.items) decoder.old decoder.new result }
     ensures same_depth { OnOk result (D.reader.depth_left decoder.new ≡
         D.reader.depth_left decoder.old) }
@@ -119,7 +119,7 @@ fn read_filters<D: Decoder>(decoder: &mut D, bound: usize) -> Result<Vec<Filter>
         let filter = read_filter(decoder, Tag::CHOICE, &Constraints::NONE)?;
         match filters.push(filter) {
             Ok(()) => {}
-            Err(_) => return Err(decoder.refuse(DecodeError::Memory)),
+            Err(_) => return Err(DecodeError::Memory),
         }
     }
     Ok(filters)

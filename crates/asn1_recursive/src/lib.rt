@@ -17,7 +17,7 @@
 //!
 //! The meaning of a value is defined by recursion, and the tables are proved to agree with it. The types are read by functions
 //! that call one another, with the calls of `asn1_nesting` between them: two for [`Nested`], and four for [`Filter`], since a
-//! loop reads its sets (`specs/ReadingWhole`). Each opens a scope first, so the depth left of the decoder ends the recursion.
+//! loop reads its sets. Each opens a scope first, so the depth left of the decoder ends the recursion.
 //!
 //! The prover wants such a type, its tables, its writer and its reader in one crate. Memory is taken by a codec, and in reading
 //! for the values inside.
