@@ -1,4 +1,8 @@
 //! The input, and the pieces in which it comes.
+ghost use Rattle.std.specs.Prelude.{◌≡◌, ◌<◌, [], IfErr, OnOk, length};
+ghost use Rattle.asn1_ldap_show.specs.Showing.{Continues, EndsBy, HasNoFront, ShowsAll, StopsAt};
+ghost use Rattle.asn1_rules.specs.Iters.{state};
+ghost use Rattle.asn1_rules.specs.States.{begun};
 
 use crate::failure::Failure;
 use crate::stream::{check_end, show_whole};
@@ -16,7 +20,14 @@ pub(crate) fn show<R: Read, W: Write, F: FrontReader<LdapMessage> + Drop>(
     messages_reader: F,
     reader: &mut R,
     writer: &mut W,
-) -> Result<(), Failure> {
+) -> Result<(), Failure>
+    ensures shown { OnOk result (ShowsAll F.fronts messages_reader
+        (R.remaining reader.old) (R.remaining reader.new)
+        (W.contents writer.old) (W.contents writer.new)) }
+    ensures ended { IfErr result (EndsBy F.fronts messages_reader
+        (R.remaining reader.old) (R.remaining reader.new)
+        (W.contents writer.old) (W.contents writer.new)) }
+{
     let mut piece = vec![in alloc; 0; PIECE_LENGTH]?;
     let mut messages = Iter::new(alloc, &[], messages_reader);
     show_pieces(alloc, &mut messages, reader, &mut piece, writer)
@@ -29,7 +40,16 @@ fn show_pieces<R: Read, W: Write, F: FrontReader<LdapMessage> + Drop>(
     reader: &mut R,
     piece: &mut [u8],
     writer: &mut W,
-) -> Result<(), Failure> {
+) -> Result<(), Failure>
+    requires room { 0 < length piece.old }
+    requires begun { state messages.old ≡ begun (state messages.old).reader [] }
+    ensures shown { OnOk result (ShowsAll F.fronts (state messages.old).reader
+        (R.remaining reader.old) (R.remaining reader.new)
+        (W.contents writer.old) (W.contents writer.new)) }
+    ensures ended { IfErr result (EndsBy F.fronts (state messages.old).reader
+        (R.remaining reader.old) (R.remaining reader.new)
+        (W.contents writer.old) (W.contents writer.new)) }
+{
     for _ in 0..u64::MAX {
         match reader.read(piece) {
             Ok(0) => return check_end(messages),
@@ -50,7 +70,16 @@ fn show_piece<W: Write, F: FrontReader<LdapMessage> + Drop>(
     messages: &mut Iter<'_, LdapMessage, F>,
     piece: &[u8],
     writer: &mut W,
-) -> Result<(), Failure> {
+) -> Result<(), Failure>
+    ensures shown { OnOk result (Continues F.fronts (state messages.old).reader piece.now
+        (state messages.old) (state messages.new)
+        (W.contents writer.old) (W.contents writer.new)) }
+    ensures no_more { OnOk result
+        (HasNoFront F.fronts (state messages.old).reader (state messages.new).unread) }
+    ensures stopped { IfErr result (StopsAt F.fronts (state messages.old).reader piece.now
+        (state messages.old) (state messages.new)
+        (W.contents writer.old) (W.contents writer.new)) }
+{
     messages.append_bytes(piece)?;
     show_whole(alloc, messages, writer)
 }

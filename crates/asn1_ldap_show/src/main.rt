@@ -2,12 +2,17 @@
 //! pieces they come, and writes each to standard output as soon as it is whole, as lines for a person (`message_text` of
 //! `asn1_ldap_text`).
 //!
-//! A message that is damaged, nested in more than 64 scopes, or cut off by the end of the input, ends the program: a line on standard error has the byte of the
-//! stream at which it begins, from 0, and what came before it is shown. The messages are read as BER, in any spelling.
+//! A message that is damaged, nested in more than 64 scopes, or cut off by the end of the input, ends the program: a line on standard
+//! error tells which of these, and the byte of the stream at which the message begins, from 0. What came before it is shown. The
+//! messages are read as BER, in any spelling.
 //!
 //! The program takes no arguments. It ends with 0 if the whole input was shown, with 1 after such a message, and with 2 if memory
 //! ran out, or reading or writing failed. The stored run is two conversations of OpenLDAP's client and server (examples/ldap) and the
 //! beginning of a message, so its status is 1.
+//!
+//! The contract of `show` covers this for any reader of messages (`specs/Showing.antt`), however the input is cut into pieces. The
+//! messages are the reader's answers for the bytes of the input, one after another; their lines are written in this order, each once;
+//! and a message that is not read begins at the byte that is told, the sum of the lengths before it.
 #![tactic(auto)]
 
 mod failure;

@@ -1,7 +1,8 @@
 //! The stream of messages.
-ghost use Rattle.std.specs.Prelude.{◌≡◌, [], IfErr, OnOk, length};
+ghost use Rattle.std.specs.Prelude.{◌≡◌, ◌<◌, [], false, IfErr, IfOk, OnOk, length};
 ghost use Rattle.std.specs.Io.KnownBytes.{Appends};
 ghost use Rattle.asn1_ldap_show.specs.Failures.{IsOutside};
+ghost use Rattle.asn1_ldap_show.specs.Showing.{Continues, HasNoFront, StopsAt};
 ghost use Rattle.asn1_ldap_show.specs.declared.failure.Failure.TheVariants.{CutOff};
 ghost use Rattle.asn1_ldap_text.specs.Messages.{message_lines};
 ghost use Rattle.asn1_rules.specs.Iters.{state};
@@ -19,13 +20,23 @@ pub(crate) fn show_whole<W: Write, F: FrontReader<LdapMessage> + Drop>(
     alloc: Global,
     messages: &mut Iter<'_, LdapMessage, F>,
     writer: &mut W,
-) -> Result<(), Failure> {
+) -> Result<(), Failure>
+    ensures shown { OnOk result (Continues F.fronts (state messages.old).reader []
+        (state messages.old) (state messages.new)
+        (W.contents writer.old) (W.contents writer.new)) }
+    ensures no_more { OnOk result
+        (HasNoFront F.fronts (state messages.old).reader (state messages.new).unread) }
+    ensures stopped { IfErr result (StopsAt F.fronts (state messages.old).reader []
+        (state messages.old) (state messages.new)
+        (W.contents writer.old) (W.contents writer.new)) }
+{
     for _ in 0..u64::MAX {
         if !show_next(alloc, messages, writer)? {
             return Ok(());
         }
     }
-    Ok(())
+    // No memory holds so many messages.
+    Err(Failure::Memory)
 }
 
 /// Writes the next message, and answers whether it is whole.
@@ -33,7 +44,16 @@ fn show_next<W: Write, F: FrontReader<LdapMessage> + Drop>(
     alloc: Global,
     messages: &mut Iter<'_, LdapMessage, F>,
     writer: &mut W,
-) -> Result<bool, Failure> {
+) -> Result<bool, Failure>
+    ensures shown { OnOk result (Continues F.fronts (state messages.old).reader []
+        (state messages.old) (state messages.new)
+        (W.contents writer.old) (W.contents writer.new)) }
+    ensures no_more { IfOk result (λ is_whole. is_whole ≡ false →
+        HasNoFront F.fronts (state messages.old).reader (state messages.new).unread) }
+    ensures stopped { IfErr result (StopsAt F.fronts (state messages.old).reader []
+        (state messages.old) (state messages.new)
+        (W.contents writer.old) (W.contents writer.new)) }
+{
     match messages.next() {
         Some(Ok(message)) => {
             show_message(alloc, &message, writer)?;
@@ -41,6 +61,7 @@ fn show_next<W: Write, F: FrontReader<LdapMessage> + Drop>(
         }
         Some(Err(DecodeError::Incomplete(_))) => Ok(false),
         Some(Err(DecodeError::Memory)) => Err(Failure::Memory),
+        Some(Err(DecodeError::Depth)) => Err(Failure::TooDeep(messages.consumed())),
         Some(Err(error)) => Err(Failure::Damaged(messages.consumed(), error)),
         None => unreachable!(),
     }
@@ -77,6 +98,7 @@ pub(crate) fn check_end<F>(messages: &Iter<'_, LdapMessage, F>) -> Result<(), Fa
     ensures whole { OnOk result ((state messages.now).unread ≡ []) }
     ensures cut_off { IfErr result (λ failure. failure ≡
         CutOff (state messages.now).consumed (length (state messages.now).unread)) }
+    ensures some { IfErr result (λ _. 0 < length (state messages.now).unread) }
 {
     let unread = messages.unread();
     if unread.is_empty() {

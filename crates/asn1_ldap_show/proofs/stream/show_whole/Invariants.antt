@@ -1,0 +1,9 @@
+use Rattle.std.specs.Prelude.{[]}
+use Rattle.asn1_ldap_show.specs.Showing.{Continues}
+use Rattle.asn1_rules.specs.Iters.{state}
+use Rattle.asn1_ldap_show.proofs.stream.show_whole.Given as goal
+
+abbrev pub invariant-loop : goal.invariant-loop
+invariant-loop g l =
+    Continues g.F.FrontReader.fronts (state l.initial.messages).reader [] (state l.initial.messages) (state l.messages)
+    (g.W.Write.contents l.initial.writer) (g.W.Write.contents l.writer)
