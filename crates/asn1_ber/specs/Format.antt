@@ -43,7 +43,7 @@ written_ber = record {
   have_bytes = AreBerOf;
 }
 
--- Parts of plain records are plain, and so is what they hold.
+-- Parts of records that are normal in DER (plain, in these names) are so too, and so is what they hold.
 later_plain : (before rs : List Record) → AreNormalInDer (held (before ++ rs)) → AreNormalInDer (held rs)
 later_plain [] rs p = p
 later_plain (b ∷ before) rs p = later_plain before rs p.1

@@ -30,7 +30,7 @@ use asn1_rules::{FrontReader, Rules};
 use asn1_slots::{Tagging, optional, or_default};
 
 /// A law of the codec: octets carry the records whose BER they are, up to the order inside sets; one value of an open type is one
-/// element; and the records are rejected of which some in that order have no DER, or none that is its own normal form, and no others.
+/// element; and records are rejected if and only if, in some order inside sets, they have no DER, or none that is its own normal form.
 pub fn the_codec_reads_every_spelling(output: &Vec<u8>)
     ensures carries { (rs : List Record) →
         ⟦<BerRules as Rules>⟧.format.carries output.now rs ↔ Carries output.now.items rs }
@@ -71,8 +71,8 @@ pub fn name_of_the_encoder(encoder: &BerEncoder) -> Codec
     encoder.codec()
 }
 
-/// A law of DEFAULT (X.690, 8.9.3): a component that is there is read as its value, also if that is the default. These are the calls by
-/// which a type reads it: into its slot, of which the value is made.
+/// A law of DEFAULT (X.690, 8.9.3): a component of the root that is there is read as its value, also if that is the default. By these
+/// calls a SEQUENCE reads it by index: into its slot, of which the value is made.
 pub fn a_default_that_is_written_is_read<T: Decode>(
     decoder: &mut BerDecoder<'_>,
     tagging: Tagging,

@@ -1,4 +1,4 @@
-//! BER, the basic encoding rules of X.690: a codec that reads every spelling of a value, and writes DER.
+//! BER, the basic encoding rules of X.690: a codec that reads every spelling of the elements of a value, and writes DER.
 //!
 //! | Item | What it is | In `specs/` |
 //! |---|---|---|
@@ -16,18 +16,21 @@
 //!
 //! - [`BerRules`] keeps the laws of `Rules` of `asn1_rules`, so `round_trip` holds of it. Octets carry records if they are elements
 //!   whose normal form is the BER of these, up to the order inside sets (`carries` of [`laws`]). So each spelling of the elements of
-//!   a valid value of a well-tagged type is read as that value (docs/DIFFERENCES.md: DEFAULT, named bits, open types), unless memory runs out or the depth is too small (`read`).
+//!   a valid value of a well-tagged type is read as that value, unless memory runs out or the depth is too small (`read`;
+//!   docs/DIFFERENCES.md on DEFAULT, named bits and open types).
 //! - What is written is DER (`writes_der`), and BER. Records are rejected that have no DER, and those whose DER is not its own normal
 //!   form: with tag universal 0, or with an open type that is not in normal form (`rejects`).
 //! - [`BerReader`] takes one whole element for one value (`cut`), and is steady. For a well-tagged type it belongs to these rules
 //!   (`belongs`), so `round_trip_in_pieces` holds of it.
+//! - A component of the root of a SEQUENCE that is there though it is its DEFAULT is read as its value, where it is read by index
+//!   ([`laws::a_default_that_is_written_is_read`]).
 //!
-//! - A component with a DEFAULT that is there is read as its value, also if that is the default ([`laws::a_default_that_is_written_is_read`]).
+//! No contract covers octets that are not BER of the type, nor a whole value of which a component is there though it is its DEFAULT;
+//! it is read. An open type is read in normal form, and strings inside it stay in pieces.
 //!
-//! No contract covers octets that are not BER of the type, nor a whole value of which a component is there though it is its DEFAULT,
-//! which is read. Tests show that each of these is an error: an indefinite length of a primitive element, missing end-of-contents octets, a piece of another
-//! tag, unused bits before the last piece, a constructed content that is no string, and elements of tag numbers of 2^32 or more. An
-//! open type is read in normal form, and strings inside it stay in pieces.
+//! Tests show that each of these is an error: an indefinite length of a primitive element, missing end-of-contents octets, a piece of
+//! another tag, unused bits before the last piece, a constructed content that is no string, and elements of tag numbers of 2^32 or
+//! more.
 #![tactic(auto)]
 
 mod buffer;

@@ -13,6 +13,8 @@ use std::alloc::Global;
 /// The reader finds the first element of an input by its identifier and its length, or by its end-of-contents octets, and reads it as
 /// a whole. If the element is not complete, the error is [`DecodeError::Incomplete`]; if the input does not begin with an element, it is
 /// [`DecodeError::Custom`] with the text `bad item`.
+///
+/// Each call begins at the first octet, so an element of indefinite length that comes in many pieces is looked through for each.
 #[derive(Clone, Copy, Debug, Drop)]
 pub struct BerReader {
     alloc: Global,

@@ -14,10 +14,11 @@ use asn1_items::ItemError;
 use asn1_rules::Rules;
 use std::alloc::Global;
 
-/// The rules of BER (X.690, 8): a value has many encodings, each of which is read. Its distinguished encoding is written.
+/// The rules of BER (X.690, 8): a value has many encodings, and each spelling of its elements is read. Its distinguished encoding is
+/// written.
 ///
-/// A component that is present though it is its DEFAULT is read too; a clause says so of the call that reads the component
-/// ([`crate::laws::a_default_that_is_written_is_read`]), and none of a whole value.
+/// A component that is present though it is its DEFAULT is read too; a clause says so of the call that reads a component of the root
+/// by index ([`crate::laws::a_default_that_is_written_is_read`]), and none of a whole value.
 ///
 /// They reject the records that have no DER, those with tag universal 0, which end-of-contents octets have (8.1.5), and those with an
 /// open type that is not in normal form: one element, with definite lengths of the fewest octets at each depth. So `write_value`
@@ -26,8 +27,8 @@ use std::alloc::Global;
 ///
 /// Of octets that are not BER of a value of the type, `read_value` answers an error or a value. [`DecodeError::Incomplete`] comes
 /// where octets of the first element are missing, with how many of the part that is read; and [`DecodeError::Custom`], with the text
-/// `bad item`, where the octets are not what is asked for or some are left. An error of the type's own is answered as it is. No memory is taken by a
-/// length that the octets tell, but by those that are there.
+/// `bad item`, where the octets are not what is asked for or some are left. An error of the type's own is answered as it is. No memory
+/// is taken by a length that the octets tell, but by those that are there.
 #[derive(Clone, Copy, Debug)]
 pub struct BerRules {
     alloc: Global,

@@ -1,4 +1,4 @@
--- Octets that are written in segments.
+-- Octets that are written in segments. (A segment of X.690, 8.7.3, is a piece in this crate.)
 use Rattle.std.specs.Prelude.{◌≡◌, ℕ, true, suc, List, [], ◌∷◌, ◌++◌, IfOk, Result, Vec, length, map}
 use Rattle.std.specs.declared.alloc.Global.{Global}
 use Rattle.asn1_ber_items.specs.declared.segments.Room.{Room}

@@ -40,9 +40,9 @@ pub struct FrontElement<'a> {
 /// The element with which the bytes begin, with definite lengths of the fewest octets (X.690, 8.1.3 and 10.1).
 ///
 /// # Errors
-/// [`ItemError::Memory`]; else the bytes begin with no element of BER with such tag numbers: [`ItemError::Missing`] where they end too early,
-/// outside all elements of definite lengths, with the number of bytes that are missing of the part that is read, and otherwise
-/// [`ItemError::Malformed`].
+/// [`ItemError::Memory`]; else the bytes begin with no element of BER with tag numbers below 2^32: [`ItemError::Missing`] where they
+/// end too early, outside all elements of definite lengths, with the number of bytes that are missing of the part that is read, and
+/// otherwise [`ItemError::Malformed`].
 pub fn front_element(alloc: Global, bytes: &[u8]) -> Result<FrontElement<'_>, ItemError>
     ensures found { (normal rest : List ℕ) → SpellsOne bytes.now normal rest →
         MatchResult result (λ f. (f.normal.items ≡ normal) × (f.rest.now ≡ rest))

@@ -1,4 +1,4 @@
-//! Octets in segments.
+//! Octets in segments: the buffers in which the normal form is written. (A segment of X.690, 8.7.3, is a piece here.)
 ghost use Rattle.asn1_ber_items.specs.Segments.{IsBegunAt, IsCounted, WritesSizeIn, segments_of, written_in};
 ghost use Rattle.std.specs.Prelude.{◌≡◌, ◌++◌, ◌∷◌, [], Decides, IfOk, length};
 
@@ -53,7 +53,7 @@ impl Segments {
         self.last.is_empty()
     }
 
-    /// How many octets there are.
+    /// How many octets there are. It fails if the number does not fit.
     pub(crate) fn len(&self) -> Result<usize, AllocError>
         ensures { IsCounted self.now → IfOk result (λ n. n ≡ length (written_in self.now)) }
     {

@@ -67,7 +67,7 @@ fn read_long_size(count: usize, octets: &[u8]) -> Result<Measured<'_>, ItemError
 }
 
 /// Writes a length of this size over the octet at an index, and answers how many octets it has beyond one. Those after it are moved
-/// only where there are any.
+/// only where there are any. Without an octet there nothing is written.
 pub(crate) fn write_size(
     octets: &mut Vec<u8>,
     index: usize,
