@@ -67,7 +67,8 @@ abbrev pub HoldsOthers : ContentOrder → Element → Type 0
 HoldsOthers Chosen e = ⊤
 HoldsOthers _ e = e.constructed ≡ true
 
--- The bytes begin with an element that can be opened in this order: it has this tag, if one is asked for, and is constructed.
+-- The bytes begin with an element that can be opened in this order: it has this tag, if one is asked for, and is constructed, unless
+-- it is the alternative of a CHOICE.
 pub record BeginWithScope (order : ContentOrder) (tag : Option Tag) (bytes : List ℕ) : Type 0 where
   pub element : Element
   pub at : element_at bytes ≡ Some element

@@ -93,7 +93,7 @@ fn write_bytes<W: Write>(bytes: &[u8], writer: &mut W) -> Result<(), Failure>
     Ok(())
 }
 
-/// Whether the stream ends behind a whole message.
+/// Succeeds if and only if the stream ends behind a whole message.
 pub(crate) fn check_end<F>(messages: &Iter<'_, LdapMessage, F>) -> Result<(), Failure>
     ensures whole { OnOk result ((state messages.now).unread ≡ []) }
     ensures cut_off { IfErr result (λ failure. failure ≡

@@ -32,8 +32,8 @@
 //!   ([`laws::values_are_equal_by_their_contents`]).
 //!
 //! `specs/OpenAlternatives` has the alternatives and the meaning of a value, which is defined by recursion. Tables, meaning and
-//! writer are proved to agree. An `Open` is read by functions that call each other; each opens a scope first, so the depth left
-//! of the decoder ends the recursion. `proofs/ReadingChoices` of `asn1_laws` has the lemmas for such readers.
+//! writer are proved to agree. An `Open` is read by functions that call one another, with the calls of `asn1_nesting` between
+//! them, which open and close its scopes. The depth left of the decoder ends the recursion.
 //!
 //! A call takes memory where a codec does, and reading for the strings, the numbers and the boxes.
 #![tactic(auto, using(asn1_tags::proofs::Leaves::tree_shapes))]
