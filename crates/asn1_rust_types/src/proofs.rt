@@ -43,14 +43,33 @@ fn push_choice_proof(
 ) -> Result<(), AllocError> {
     match alternatives {
         [only] => {
-            proofs.push(only_proof(alloc, file, only)?)?;
-            Ok(())
+            if needs_answer(file, only) {
+                proofs.push(only_proof(alloc, file, only)?)?;
+                return Ok(());
+            }
+            push_arms_proof(alloc, proofs, file, alternatives)
         }
-        several => {
-            let arms = arms_of_choice(alloc, several)?;
-            push_writer_proof(alloc, proofs, file, CHOICE, arms.as_slice())
-        }
+        _ => push_arms_proof(alloc, proofs, file, alternatives),
     }
+}
+
+// Whether the check may not prove the writer of the only alternative by itself. It does of NULL and behind an explicit tag, where
+// the answer would not hold, and names that are one could not be told apart there.
+fn needs_answer(file: &TypeFile, only: &Alternative) -> bool {
+    !matches!(only.tagging, Tagging::Explicit(_))
+        && only.definition.text.as_str() != "()"
+        && only.variant.as_str() != file.name.as_str()
+}
+
+// Appends the proof of the arms of a writer of alternatives.
+fn push_arms_proof(
+    alloc: Global,
+    proofs: &mut Vec<ProofFile>,
+    file: &TypeFile,
+    alternatives: &[Alternative],
+) -> Result<(), AllocError> {
+    let arms = arms_of_choice(alloc, alternatives)?;
+    push_writer_proof(alloc, proofs, file, CHOICE, arms.as_slice())
 }
 
 // Appends the proof of the writer of components.
