@@ -52,7 +52,9 @@ fn general_name_of<R: Rules<Output = Vec<u8>>>(
             directory_characters(alloc, &party.party_name)?,
             characters_of_assigner(alloc, &party.name_assigner)?,
         )),
-        GeneralName::UniformResourceIdentifier(uri) => Ok(ShownGeneralName::Uri(ascii_characters(alloc, uri)?)),
+        GeneralName::UniformResourceIdentifier(uri) => Ok(ShownGeneralName::Uri(ascii_characters(
+            alloc, uri,
+        )?)),
         GeneralName::IpAddress(octets) => {
             Ok(ShownGeneralName::Address(Vec::from_slice(alloc, octets.as_slice())?))
         }
