@@ -1,7 +1,7 @@
 -- Definitions to which a reference can be.
-use Rattle.std.proofs.Common.{◌≡◌, ◌⊎◌, ◌<◌, ◌≤◌, ℕ, Bool, true, false, not, cond, List, [], ◌∷◌, length, get_or, Option, None, Some, IfSome, IfNone, inl, inr, refl, subst, sym, arith}
+use Rattle.std.proofs.Common.{◌≡◌, ◌<◌, ℕ, Bool, true, false, not, cond, List, [], ◌∷◌, length, get_or, Option, None, Some, IfSome, IfNone, inl, inr, refl, subst, sym, arith}
 use Rattle.std.specs.Bool.{Decides}
-use Rattle.std.specs.List.{All, Any, HoldsAt, list_any, position, position_or_len}
+use Rattle.std.specs.List.{All, Any, HoldsAt, position, position_or_len}
 use Rattle.std.proofs.lemmas.Bool.Decides.{Decides-and, Decides-like, Decides-ltb, not_from_Decides}
 use Rattle.std.proofs.lemmas.List.Quantifiers.{position-Some}
 use Rattle.std.proofs.lemmas.List.Sums.{prefix_len_passes}

@@ -1,2 +1,4 @@
 pub mod Accepted
+pub mod Indices
 pub mod References
+pub mod TypePlaces

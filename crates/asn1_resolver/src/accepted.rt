@@ -1,10 +1,13 @@
 //! Schemas that are accepted.
 ghost use Rattle.std.specs.Prelude.{◌≡◌, IfOk, IsTrue, OnOk, false};
 ghost use Rattle.asn1_resolver.specs.Accepted.{HasDistinctNames, defined_names, name_of_type, name_of_value};
+ghost use Rattle.asn1_resolver.specs.Indices.{HasKnownReferences};
 ghost use Rattle.asn1_resolver.specs.References.{AreResolved};
 ghost use Rattle.asn1_resolver.specs.Accepted as spec;
 
+use crate::indices::are_known;
 use asn1_names::{DefinedName, Names, Place, find_doubled, find_undefined};
+use asn1_notation::Span;
 use asn1_resolved::{Problem, Schema, Severity, TypeDefinition, ValueDefinition};
 use std::alloc::{AllocError, Global};
 
@@ -25,7 +28,8 @@ pub(crate) fn accepts(problems: &[Problem]) -> bool
     problems.iter().all(|problem| is_warning(problem.severity))
 }
 
-/// Adds an error if a module has a name twice, or a reference is to no definition, unless there is an error already.
+/// Adds an error if a module has a name twice, or a reference of a module or of the schema is to no definition, unless there is
+/// an error already.
 ///
 /// The names were compared before. This is the comparison on which the promises of `resolve` rest.
 pub(crate) fn require_names(
@@ -38,6 +42,8 @@ pub(crate) fn require_names(
         IsTrue (spec.accepts problems.new.items) → HasDistinctNames schema.now) }
     ensures resolved { OnOk result (
         IsTrue (spec.accepts problems.new.items) → AreResolved names.now) }
+    ensures known { OnOk result (
+        IsTrue (spec.accepts problems.new.items) → HasKnownReferences schema.now) }
 {
     if !accepts(problems.as_slice()) {
         return Ok(());
@@ -55,6 +61,11 @@ pub(crate) fn require_names(
     let undefined = find_undefined(alloc, &names.defined, &names.imported, &names.used)?;
     if let [first, ..] = undefined.as_slice() {
         return refuse(alloc, problems, first.place, b"the name is not defined");
+    }
+    if !are_known(alloc, schema)? {
+        let span = Span { start: 0, end: 0 };
+        let place = Place { text: 0, span };
+        return refuse(alloc, problems, place, b"a reference is to no definition");
     }
     Ok(())
 }

@@ -2,7 +2,6 @@
 use crate::fault::Fault;
 use crate::governed::{Governed, Scope, Written};
 use crate::resolver::Resolver;
-use crate::values::MAX_DEPTH;
 use asn1_notation::{Constraint, EndPoint, EndValue, Value};
 use asn1_resolved::{CharacterRange, ConstraintKind};
 
@@ -58,7 +57,7 @@ impl<'a> Resolver<'_, 'a> {
         scope: Scope<'a>,
         value: &'a Value,
     ) -> Result<bool, Fault> {
-        let value = self.value(base, Written { scope, value }, MAX_DEPTH)?;
+        let value = self.value(base, Written { scope, value })?;
         let asn1_resolved::Value::Text(text) = value else {
             return Ok(false);
         };
@@ -101,7 +100,7 @@ impl<'a> Resolver<'_, 'a> {
     ) -> Result<Option<u32>, Fault> {
         match &end.value {
             EndValue::Value(value) if !end.is_open => {
-                let value = self.value(base, Written { scope, value }, MAX_DEPTH)?;
+                let value = self.value(base, Written { scope, value })?;
                 Ok(single_character(&value))
             }
             _ => Ok(None),

@@ -24,7 +24,7 @@ impl<'a> Resolver<'_, 'a> {
         Ok(constraints)
     }
 
-    // Adds a constraint: each part of an intersection by itself.
+    // Adds a constraint: each part of an intersection by itself. One with an extension marker makes the others extensible, too.
     fn add_constraint(
         &mut self,
         constraints: &mut Vec<Constraint>,
@@ -33,6 +33,11 @@ impl<'a> Resolver<'_, 'a> {
     ) -> Result<(), Fault> {
         match &constraint.kind {
             asn1_notation::ConstraintKind::Intersection(parts) => {
+                let bounded = if has_marker(constraint) {
+                    bounded.with_marker()
+                } else {
+                    bounded
+                };
                 for part in parts {
                     self.add_constraint(constraints, bounded, part)?;
                 }
@@ -142,6 +147,24 @@ fn without_marker(constraint: &asn1_notation::Constraint) -> InnerRoot<'_> {
             root: constraint,
             is_extensible: false,
         },
+    }
+}
+
+// Whether an extension marker is in a constraint, or in a part of an intersection.
+fn has_marker(constraint: &asn1_notation::Constraint) -> bool {
+    match &constraint.kind {
+        asn1_notation::ConstraintKind::Extensible(_, _) => true,
+        asn1_notation::ConstraintKind::Size(inner) => has_marker(inner),
+        asn1_notation::ConstraintKind::From(inner) => has_marker(inner),
+        asn1_notation::ConstraintKind::Intersection(parts) => {
+            for part in parts {
+                if has_marker(part) {
+                    return true;
+                }
+            }
+            false
+        }
+        _ => false,
     }
 }
 

@@ -1,4 +1,9 @@
 //! The definitions of a set of modules.
+ghost use Rattle.std.specs.Prelude.{◌≡◌, ◌++◌, IfOk, OnOk, map};
+ghost use Rattle.std.specs.List.{flat_map};
+ghost use Rattle.asn1_modules.specs.Places.{place_in};
+ghost use Rattle.asn1_resolver.specs.TypePlaces.{type_places, type_defined_by, types_defined_in};
+
 use crate::governed::{Governed, Scope};
 use asn1_modules::Source;
 use asn1_names::Place;
@@ -46,7 +51,10 @@ pub(crate) struct Definitions<'a> {
 pub(crate) fn list_definitions<'a>(
     alloc: Global,
     sources: &[Source<'a>],
-) -> Result<Definitions<'a>, AllocError> {
+) -> Result<Definitions<'a>, AllocError>
+    ensures types { IfOk result (λ definitions.
+        map (λ defined. defined.place) definitions.types.items ≡ type_places sources.now) }
+{
     let mut definitions = Definitions {
         types: Vec::new(alloc),
         values: Vec::new(alloc),
@@ -63,7 +71,11 @@ fn list_source<'a>(
     definitions: &mut Definitions<'a>,
     source: Source<'a>,
     index: usize,
-) -> Result<(), AllocError> {
+) -> Result<(), AllocError>
+    ensures { OnOk result (map (λ defined. defined.place) definitions.new.types.items ≡
+        map (λ defined. defined.place) definitions.old.types.items
+        ++ flat_map (types_defined_in index) source.entry.modules.now) }
+{
     for (module_index, module) in source.modules.iter().enumerate() {
         let scope = Scope {
             text: source.text,
@@ -81,7 +93,11 @@ fn list_module<'a>(
     definitions: &mut Definitions<'a>,
     scope: Scope<'a>,
     module_index: usize,
-) -> Result<(), AllocError> {
+) -> Result<(), AllocError>
+    ensures { OnOk result (map (λ defined. defined.place) definitions.new.types.items ≡
+        map (λ defined. defined.place) definitions.old.types.items
+        ++ types_defined_in scope.entry.source scope.entry.«module».now) }
+{
     for (assignment_index, assignment) in scope.module.assignments.iter().enumerate() {
         let origin = Origin {
             source: scope.source,
@@ -99,7 +115,11 @@ fn list_assignment<'a>(
     scope: Scope<'a>,
     assignment: &'a Assignment,
     origin: Origin,
-) -> Result<(), AllocError> {
+) -> Result<(), AllocError>
+    ensures { OnOk result (map (λ defined. defined.place) definitions.new.types.items ≡
+        map (λ defined. defined.place) definitions.old.types.items
+        ++ type_defined_by scope.entry.source assignment.now) }
+{
     match &assignment.definition {
         Definition::Type(definition) => {
             let defined = define(scope, assignment, origin, definition);
@@ -120,7 +140,9 @@ fn define<'a>(
     assignment: &Assignment,
     origin: Origin,
     definition: &'a Type,
-) -> Defined<'a> {
+) -> Defined<'a>
+    ensures { result.place ≡ place_in scope.entry.source assignment.now.name }
+{
     Defined {
         scope,
         name: scope.octets(assignment.name),

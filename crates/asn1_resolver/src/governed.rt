@@ -1,4 +1,7 @@
 //! Parts of trees with the module that they are in.
+ghost use Rattle.std.specs.Prelude.{◌≡◌};
+ghost use Rattle.asn1_modules.specs.Places.{place_in};
+
 use asn1_names::Place;
 use asn1_notation::{Module, Span, Type, Value};
 
@@ -22,7 +25,9 @@ impl<'a> Scope<'a> {
     }
 
     /// The place of octets of the text.
-    pub(crate) fn place(self, span: Span) -> Place {
+    pub(crate) fn place(self, span: Span) -> Place
+        ensures { result ≡ place_in self.entry.source span }
+    {
         Place {
             text: self.source,
             span,

@@ -10,13 +10,15 @@
 //! warning with its place, at most one error at a place. A schema with an error is incomplete: a type or value that was not
 //! resolved is left out, or is NULL.
 //!
-//! The contracts promise, in the words of `specs/Accepted` and `specs/References`:
+//! The contracts promise, in the words of `specs/Accepted`, `specs/References`, `specs/Indices` and `specs/TypePlaces`:
 //!
 //! - No module of an accepted schema has a name twice (`distinct` of [`resolve`]; `HasDistinctNames`).
 //! - Every reference of accepted modules is to a definition of its own module, of one from which its module imports the name, or
 //!   of the one that it names (`resolved`; `AreResolved`). The names are all that the modules define and import (`defined`,
 //!   `imported`); which references are listed, `collect_names` of `asn1_modules` says.
 //! - The definition that a reference stands for in the schema is such a one (`find` in `references`; `IsMeant`).
+//! - Every reference of an accepted schema, at any depth, is to a definition of it (`known` of [`resolve`]; `HasKnownReferences`).
+//! - The schema has a definition for each type that a module defines, in the order of the texts (`types`; `type_places`).
 //! - A schema is accepted if and only if no problem is an error ([`Resolution::is_accepted`]).
 //!
 //! Every call returns for all modules, and fails only if memory runs out. No contract covers the rest of the schema, or the
@@ -32,12 +34,15 @@ mod constraints;
 mod definitions;
 mod distinct;
 mod enumerations;
+mod exports;
 mod fault;
 mod followed;
 mod governed;
 mod included;
+mod indices;
 mod items;
 mod literals;
+mod modules;
 mod named_numbers;
 mod numbers;
 mod ranges;

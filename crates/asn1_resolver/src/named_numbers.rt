@@ -40,6 +40,16 @@ impl<'a> Resolver<'_, 'a> {
                     &[b"bit '", bit.name, b"' has a number below 0"],
                 ));
             }
+            if u64::try_from(bit.number).is_err() {
+                return Err(self.refuse(
+                    bit.place,
+                    &[
+                        b"bit '",
+                        bit.name,
+                        b"' has a number that does not fit into 64 bits",
+                    ],
+                ));
+            }
         }
         Ok(named)
     }

@@ -2,7 +2,6 @@
 use crate::fault::Fault;
 use crate::governed::{Governed, Scope, Written};
 use crate::resolver::Resolver;
-use crate::values::MAX_DEPTH;
 use asn1_notation::{Constraint, ConstraintKind, EndPoint, EndValue, NumberName, ValueKind};
 use asn1_resolved::{Range, Value};
 
@@ -83,7 +82,7 @@ impl<'a> Resolver<'_, 'a> {
     // The whole number that a value is.
     fn bound(&mut self, base: Option<Governed<'a>>, written: Written<'a>) -> Result<i128, Fault> {
         match base {
-            Some(base) => match self.value(base, written, MAX_DEPTH)? {
+            Some(base) => match self.value(base, written)? {
                 Value::Integer(number) => Ok(number),
                 _ => Err(self.refuse_bound(written)),
             },

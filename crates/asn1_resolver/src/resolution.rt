@@ -3,7 +3,9 @@ ghost use Rattle.std.specs.Prelude.{◌≡◌, IfOk, IsTrue, map};
 ghost use Rattle.asn1_modules.specs.Places.{defined_places, imported_places};
 ghost use Rattle.asn1_resolver.specs.Accepted.{HasDistinctNames};
 ghost use Rattle.asn1_resolver.specs.Accepted as spec;
+ghost use Rattle.asn1_resolver.specs.Indices.{HasKnownReferences};
 ghost use Rattle.asn1_resolver.specs.References.{AreResolved};
+ghost use Rattle.asn1_resolver.specs.TypePlaces.{type_places};
 
 use crate::accepted::{accepts, require_names};
 use crate::definitions::{Defined, Definitions, list_definitions};
@@ -49,11 +51,17 @@ pub fn resolve<'a>(alloc: Global, sources: &[Source<'a>]) -> Result<Resolution<'
     // its module imports the name, or of the one that it names.
     ensures resolved { IfOk result (λ resolution.
         IsTrue (spec.accepts resolution.problems.items) → AreResolved resolution.names) }
+    // Every reference of an accepted schema is to a definition of it.
+    ensures known { IfOk result (λ resolution.
+        IsTrue (spec.accepts resolution.problems.items) → HasKnownReferences resolution.schema) }
     // The names are those of all definitions, and all behind IMPORTS.
     ensures defined { IfOk result (λ resolution.
         map (λ name. name.place) resolution.names.defined.items ≡ defined_places sources.now) }
     ensures imported { IfOk result (λ resolution.
         map (λ name. name.place) resolution.names.imported.items ≡ imported_places sources.now) }
+    // The schema has each type that a module defines, in the order of the texts.
+    ensures types { IfOk result (λ resolution.
+        map (λ type. type.place) resolution.schema.types.items ≡ type_places sources.now) }
 {
     let definitions = list_definitions(alloc, sources)?;
     let names = collect_names(alloc, sources)?;
@@ -62,9 +70,12 @@ pub fn resolve<'a>(alloc: Global, sources: &[Source<'a>]) -> Result<Resolution<'
         definitions: &definitions,
         names: &names,
         problems: Vec::new(alloc),
+        values_read: 0,
     };
+    resolver.report_modules(sources)?;
     let schema = resolve_schema(&mut resolver, &definitions)?;
     resolver.report_names()?;
+    resolver.report_exports(sources)?;
     let mut problems = resolver.into_problems();
     require_names(alloc, &mut problems, &schema, &names)?;
     Ok(Resolution {
@@ -78,15 +89,18 @@ pub fn resolve<'a>(alloc: Global, sources: &[Source<'a>]) -> Result<Resolution<'
 fn resolve_schema<'a>(
     resolver: &mut Resolver<'_, 'a>,
     definitions: &Definitions<'a>,
-) -> Result<Schema<'a>, AllocError> {
+) -> Result<Schema<'a>, AllocError>
+    ensures { IfOk result (λ schema. map (λ type. type.place) schema.types.items ≡
+        map (λ defined. defined.place) definitions.now.types.items) }
+{
     let mut types = Vec::new(resolver.alloc);
     for defined in &definitions.types {
         let definition = resolver.type_definition(*defined)?;
         types.push(definition)?;
     }
     let mut values = Vec::new(resolver.alloc);
-    for (defined, value) in definitions.values.iter().zip(&definitions.contents) {
-        let definition = resolver.value_definition(*defined, value)?;
+    for (named, value) in definitions.values.iter().zip(&definitions.contents) {
+        let definition = resolver.value_definition(*named, value)?;
         values.push(definition)?;
     }
     Ok(Schema { types, values })
@@ -115,7 +129,9 @@ impl<'a> Resolver<'_, 'a> {
     }
 
     // The definition of a type. One that is in error is NULL.
-    fn type_definition(&mut self, defined: Defined<'a>) -> Result<TypeDefinition<'a>, AllocError> {
+    fn type_definition(&mut self, defined: Defined<'a>) -> Result<TypeDefinition<'a>, AllocError>
+        ensures { IfOk result (λ type. type.place ≡ defined.entry.place) }
+    {
         let definition = match self.checked_type(defined) {
             Ok(definition) => definition,
             Err(Fault::Refused) => self.no_type(defined.governed().place()),
@@ -159,7 +175,7 @@ impl<'a> Resolver<'_, 'a> {
             definition,
         } = self.type_definition(defined)?;
         let scope = defined.scope;
-        let value = match self.value(defined.governed(), Written { scope, value }, MAX_DEPTH) {
+        let value = match self.value(defined.governed(), Written { scope, value }) {
             Ok(value) => value,
             Err(Fault::Refused) => Value::Null,
             Err(Fault::Memory) => return Err(AllocError),

@@ -16,6 +16,8 @@ pub(crate) struct Resolver<'r, 'a> {
     pub(crate) names: &'r Names<'a>,
     /// The problems, in the order of their places.
     pub(crate) problems: Vec<Problem>,
+    /// How many values were read inside the present one.
+    pub(crate) values_read: usize,
 }
 
 impl Resolver<'_, '_> {
@@ -45,6 +47,7 @@ impl Resolver<'_, '_> {
             definitions: _,
             names: _,
             problems,
+            values_read: _,
         } = self;
         problems
     }

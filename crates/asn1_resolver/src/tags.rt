@@ -13,6 +13,12 @@ impl<'a> Resolver<'_, 'a> {
         inner: Governed<'a>,
     ) -> Result<Tag, Fault> {
         let number = self.tag_number(tag, inner)?;
+        if tag.class == TagClass::Universal && number == 0 {
+            return Err(self.refuse(
+                inner.place(),
+                &[b"the tag [UNIVERSAL 0] is reserved for the end of contents"],
+            ));
+        }
         let has_no_tag = self.has_no_tag(inner)?;
         let is_explicit = match tag.mode {
             Some(TagMode::Explicit) => true,

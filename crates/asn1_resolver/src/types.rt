@@ -3,7 +3,6 @@ use crate::component_list::{ComponentList, Construct, Extent, Listed};
 use crate::fault::Fault;
 use crate::governed::{Governed, Scope};
 use crate::resolver::Resolver;
-use crate::values::MAX_DEPTH;
 use asn1_notation::ComponentItem;
 use asn1_resolved::{
     Addition, Alternative, Alternatives, Component, Components, Type, TypeKind, Usage,
@@ -229,7 +228,7 @@ impl<'a> Resolver<'_, 'a> {
             asn1_notation::Usage::Required => Ok(Usage::Required),
             asn1_notation::Usage::Optional => Ok(Usage::Optional),
             asn1_notation::Usage::Default(value) => {
-                match self.value(listed.governed(), listed.written(value), MAX_DEPTH) {
+                match self.value(listed.governed(), listed.written(value)) {
                     Ok(value) => Ok(Usage::Default(value)),
                     Err(Fault::Refused) => Ok(Usage::Optional),
                     Err(Fault::Memory) => Err(Fault::Memory),

@@ -11,15 +11,45 @@ use asn1_resolved::{ComponentValue, Value};
 /// How many types or values may be inside one another, or values behind names.
 pub(crate) const MAX_DEPTH: usize = 200;
 
+// How many values a value may be made of: itself and those inside it. One behind a name counts each time that it is named.
+const MAX_VALUES: usize = 100_000;
+
 impl<'a> Resolver<'_, 'a> {
-    /// The value of a type, with at most so many values inside one another.
-    #[cycle(values)]
+    /// The value of a type.
     pub(crate) fn value(
+        &mut self,
+        governed: Governed<'a>,
+        written: Written<'a>,
+    ) -> Result<Value<'a>, Fault> {
+        self.values_read = 0;
+        match self.inner_value(governed, written, MAX_DEPTH) {
+            Err(Fault::Refused) if self.values_read > MAX_VALUES => Err(self.refuse(
+                written.place(),
+                &[b"the value is made of more than 100000 values"],
+            )),
+            result => result,
+        }
+    }
+
+    // Counts a value. One too many has no error of its own: its place may be in another definition.
+    fn count_value(&mut self) -> Result<(), Fault> {
+        self.values_read = self.values_read.saturating_add(1);
+        if self.values_read > MAX_VALUES {
+            Err(Fault::Refused)
+        } else {
+            Ok(())
+        }
+    }
+
+    // A value, with at most so many values inside one another.
+    #[cycle(values)]
+    fn inner_value(
         &mut self,
         governed: Governed<'a>,
         written: Written<'a>,
         depth: usize,
     ) -> Result<Value<'a>, Fault> {
+        self.count_value()?;
         let Some(depth) = depth.checked_sub(1) else {
             return Err(self.refuse_depth(written));
         };
@@ -98,7 +128,7 @@ impl<'a> Resolver<'_, 'a> {
         let mut components = Vec::new(self.alloc);
         for item in values {
             let (listed, value) = self.named_component(&list, scope, item)?;
-            let value = self.value(listed.governed(), Written { scope, value }, depth)?;
+            let value = self.inner_value(listed.governed(), Written { scope, value }, depth)?;
             components.push(ComponentValue {
                 name: listed.name(),
                 value,
@@ -125,7 +155,7 @@ impl<'a> Resolver<'_, 'a> {
         let mut elements = Vec::new(self.alloc);
         for item in values {
             let written = self.single_value(scope, item)?;
-            let value = self.value(governed, written, depth)?;
+            let value = self.inner_value(governed, written, depth)?;
             elements.push(value)?;
         }
         Ok(Value::Elements(elements))
@@ -142,7 +172,7 @@ impl<'a> Resolver<'_, 'a> {
         depth: usize,
     ) -> Result<Value<'a>, Fault> {
         let listed = self.find_alternative(base, scope, name)?;
-        let value = self.value(listed.governed(), Written { scope, value }, depth)?;
+        let value = self.inner_value(listed.governed(), Written { scope, value }, depth)?;
         let value = Box::new(self.alloc, value)?;
         Ok(Value::Alternative(listed.name(), value))
     }
@@ -186,7 +216,7 @@ impl<'a> Resolver<'_, 'a> {
                     return Ok(());
                 }
                 let (governed, referenced) = self.find_value(written.scope, reference)?;
-                let value = self.value(governed, referenced, depth)?;
+                let value = self.inner_value(governed, referenced, depth)?;
                 self.add_referenced(arcs, written, reference.name, value)
             }
             ValueKind::Number(number) => {

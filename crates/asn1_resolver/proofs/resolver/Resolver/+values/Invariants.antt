@@ -1,8 +1,8 @@
 use Rattle.std.proofs.Common.{◌*◌, ◌+◌}
 use Rattle.asn1_resolver.proofs.resolver.Resolver.+values.Given as goal
 
-abbrev pub decreases-value : goal.decreases-value
-decreases-value l = 16 * l.depth + 0
+abbrev pub decreases-inner_value : goal.decreases-inner_value
+decreases-inner_value l = 16 * l.depth + 0
 
 abbrev pub decreases-add_arc : goal.decreases-add_arc
 decreases-add_arc l = 16 * l.depth + 3
