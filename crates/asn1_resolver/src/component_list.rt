@@ -6,6 +6,7 @@ use crate::resolver::Resolver;
 use asn1_names::Place;
 use asn1_notation::{Component, ComponentItem, TagDefault, Type, Value};
 use asn1_resolved::NamedNumber;
+use std::alloc::Global;
 
 /// What the components are of.
 #[derive(Clone, Copy, Debug, PartialEq, Eq)]
@@ -86,6 +87,8 @@ pub(crate) struct ComponentList<'a> {
     pub(crate) additions: Vec<Extent>,
     /// Whether there is an extension marker.
     pub(crate) is_extensible: bool,
+    /// How many types were included by COMPONENTS OF.
+    pub(crate) inclusions: usize,
     // Whether tags are put on.
     is_automatic: bool,
     // How many extension markers were passed.
@@ -93,6 +96,19 @@ pub(crate) struct ComponentList<'a> {
 }
 
 impl<'a> ComponentList<'a> {
+    // A list of no components.
+    fn new(alloc: Global, is_extensible: bool, is_automatic: bool) -> ComponentList<'a> {
+        ComponentList {
+            listed: Vec::new(alloc),
+            root_count: 0,
+            additions: Vec::new(alloc),
+            is_extensible,
+            inclusions: 0,
+            is_automatic,
+            markers: 0,
+        }
+    }
+
     /// Adds a component.
     pub(crate) fn add(&mut self, scope: Scope<'a>, component: &'a Component) -> Result<(), Fault> {
         self.add_included(scope, component, None)
@@ -157,22 +173,26 @@ impl<'a> Resolver<'_, 'a> {
         construct: Construct,
     ) -> Result<ComponentList<'a>, Fault> {
         let is_automatic = self.is_automatic(scope, items)?;
-        let mut list = ComponentList {
-            listed: Vec::new(self.alloc),
-            root_count: 0,
-            additions: Vec::new(self.alloc),
-            is_extensible: scope.module.is_extensible,
-            is_automatic,
-            markers: 0,
-        };
+        let mut list = ComponentList::new(self.alloc, scope.module.is_extensible, is_automatic);
+        self.list_items(&mut list, scope, items, construct)?;
+        Ok(list)
+    }
+
+    // Adds items to an empty list.
+    fn list_items(
+        &mut self,
+        list: &mut ComponentList<'a>,
+        scope: Scope<'a>,
+        items: &'a [ComponentItem],
+        construct: Construct,
+    ) -> Result<(), Fault> {
         for item in items {
-            self.list_item(&mut list, scope, item, construct)?;
+            self.list_item(list, scope, item, construct)?;
         }
         if list.markers == 0 {
             list.root_count = list.listed.len();
         }
-        self.require_distinct_names(&list)?;
-        Ok(list)
+        self.require_distinct_names(list)
     }
 
     // Adds an item to the list.

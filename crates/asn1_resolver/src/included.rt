@@ -6,7 +6,10 @@ use crate::resolver::Resolver;
 use asn1_notation::{ComponentItem, Type, TypeKind};
 
 // How many COMPONENTS OF may lead to one another.
-const MAX_INCLUSIONS: usize = 16;
+const MAX_INCLUSION_DEPTH: usize = 16;
+
+// How many types may be included in one, each as often as COMPONENTS OF leads to it.
+const MAX_INCLUSIONS: usize = 1000;
 
 // Where COMPONENTS OF is written.
 #[derive(Clone, Copy)]
@@ -35,7 +38,7 @@ impl<'a> Resolver<'_, 'a> {
             start,
             construct,
         };
-        self.include_from(list, included, inclusion, None, MAX_INCLUSIONS)
+        self.include_from(list, included, inclusion, None, MAX_INCLUSION_DEPTH)
     }
 
     // Adds the components of a type that is so many inclusions above the last. It may be part of one on which tags are put, whose
@@ -54,6 +57,7 @@ impl<'a> Resolver<'_, 'a> {
                 &[b"the type of COMPONENTS OF includes itself, or is nested too deep"],
             ));
         };
+        self.count_inclusion(list, inclusion)?;
         let base = self.base(included)?;
         let Some(items) = items_of(base, inclusion.construct) else {
             return Err(self.refuse_included(inclusion));
@@ -74,6 +78,22 @@ impl<'a> Resolver<'_, 'a> {
                 ComponentItem::Marker(_) => return Ok(()),
                 ComponentItem::Group(_, _, _) => {}
             }
+        }
+        Ok(())
+    }
+
+    // Counts a type that is included.
+    fn count_inclusion(
+        &mut self,
+        list: &mut ComponentList<'a>,
+        inclusion: Inclusion<'a>,
+    ) -> Result<(), Fault> {
+        list.inclusions = list.inclusions.saturating_add(1);
+        if list.inclusions > MAX_INCLUSIONS {
+            return Err(self.refuse(
+                inclusion.scope.place_at(inclusion.start),
+                &[b"more than 1000 types are included by COMPONENTS OF"],
+            ));
         }
         Ok(())
     }
