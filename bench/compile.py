@@ -237,8 +237,10 @@ def round_trip(name, clone):
     ran = subprocess.run(["rt", "try"], cwd=clone / "crates" / "round_trip", input=text, capture_output=True, text=True)
     if ran.returncode:
         print(ran.stderr, end="")
-    expect(f"the values of {name}", ran.stdout.splitlines(), [octets for _, octets in values])
-    print(f"{name}: {len(values)} values written again")
+    written = ran.stdout.splitlines()
+    for number, (type_name, octets) in enumerate(values):
+        expect(f"{name}: value {number + 1}, {type_name}, written again", written[number] if number < len(written) else "", octets)
+    print(f"{name}: {len(values)} values")
 
 
 WRONG = "M DEFINITIONS ::= BEGIN\nA ::= B\nC ::= SEQUENCE { a NULL, a NULL }\nEND\n"
