@@ -1,7 +1,7 @@
 #!/usr/bin/env python3
 """Compiles the modules of examples/modules with asn1_compile, and compares the crates that are made of them with what it prints.
 
-    bench/compile.py [--try] [--prove NAME]
+    bench/compile.py [--try] [--prove NAME] [--round-trip NAME]
 
 The program is the one that is built (`rt run` in crates/asn1_compile builds it), or with `--try` it is run before its proof, by
 `rt try`. Each module has to compile. Where a crate of the table is in crates/, its src/ and proofs/ have to be the files that are
@@ -9,10 +9,13 @@ printed, and those that the table has as written by hand; its lib.rt then has ea
 program is run on wrong arguments, on modules with an error, and with `--out` and `--check`.
 
 With `--prove` the types of one module, as `snmp`, are put into a clone in a temporary folder, with the libraries that are built here
-and with their line in crates.txt; `rt fmt` has to leave them as they are, and `rt check` has to prove them.
+and with their line in crates.txt; `rt fmt` has to leave them as they are, and `rt check` has to prove them. With `--round-trip` a
+program beside them in such a clone reads values of these types in DER and writes them again: each has to come back as the octets that
+were read. The values are the lines of NAME.der.txt, and for certificates those of examples/certificates. `rt try` runs the program.
 
 The status is 0 if all is as it has to be.
 """
+import contextlib
 import os
 import pathlib
 import shutil
@@ -28,12 +31,15 @@ MODULES = TOP / "examples" / "modules"
 # The types of LDAP that asn1_recursive has, since a filter holds itself.
 FILTERS = ["Filter", "AttributeValueAssertion", "SubstringFilter", "MatchingRuleAssertion"]
 
-# The types of certificates that their extensions name.
+# The types of certificates that their extensions name, and those that the Cryptographic Message Syntax names.
 NAMED = ["CertificateSerialNumber", "DirectoryString", "Name"]
+SIGNED = [*NAMED, "AlgorithmIdentifier", "Certificate", "Extensions", "PKIX1Explicit88.Time", "UniqueIdentifier", "Version"]
 
 # A file of examples/modules: the crate, what the program is told of types that exist already, and the crates of these.
 TABLE = {
     "certificates": ("certificates", [], []),
+    "cms": ("cms", [*(f"--extern={name}=asn1_x509::{name.split('.')[-1]}" for name in SIGNED),
+                    "--extern=GeneralNames=asn1_x509_extensions::GeneralNames"], ["asn1_x509", "asn1_x509_extensions"]),
     "greetings": ("greetings", [], []),
     "ldap": ("asn1_ldap", [f"--extern={name}=asn1_recursive::{name}" for name in FILTERS], ["asn1_recursive"]),
     "snmp": ("snmp", [], []),
@@ -47,6 +53,9 @@ BY_HAND = {
     "asn1_x509": ("src/laws.rt", "src/signed.rt", "src/valid.rt", "proofs/"),
     "asn1_x509_extensions": ("src/laws.rt", "src/valid.rt", "proofs/"),
 }
+
+# As many scopes as a value may nest.
+DEPTH = 64
 
 faults = 0
 
@@ -130,28 +139,108 @@ def link(source, target):
         shutil.copy2(source, target)
 
 
-def prove(name):
-    """Proves the types of a module in a clone."""
+@contextlib.contextmanager
+def clone_with(name, files):
+    """A clone in a temporary folder, with the types of a module."""
     crate, _, libraries = TABLE[name]
-    files = printed(name)
     with tempfile.TemporaryDirectory() as place:
         clone = pathlib.Path(place) / "clone"
         subprocess.run(["git", "clone", "-q", "--no-hardlinks", TOP, clone], check=True)
         for built in CRATES.glob("*/out/rlib"):
             if (clone / "crates" / built.parent.parent.name).is_dir():
                 shutil.copytree(built, clone / built.relative_to(TOP), copy_function=link)
-        folder = clone / "crates" / crate
-        shutil.rmtree(folder, ignore_errors=True)
-        lay(folder, files)
+        shutil.rmtree(clone / "crates" / crate, ignore_errors=True)
+        lay(clone / "crates" / crate, files)
         lines = [line for line in (clone / "crates.txt").read_text().splitlines() if not line.startswith(f"{crate}:")]
         lines.append(" ".join([f"{crate}: asn1_schema asn1_tags", *libraries]))
         (clone / "crates.txt").write_text("\n".join(lines) + "\n")
-        subprocess.run(["rt", "fmt"], cwd=folder, check=True, stdout=subprocess.DEVNULL)
-        for path, text in files.items():
-            expect(f"{crate}/{path} after rt fmt", (folder / path).read_text() == text, True)
-        ran = subprocess.run(["rt", "check", "--jobs", "1"], cwd=folder, stdout=subprocess.PIPE, stderr=subprocess.STDOUT, text=True)
-        print("".join(line for line in ran.stdout.splitlines(keepends=True) if "no proof" in line or line.startswith("logic=")), end="")
-        expect(f"the status of rt check on {crate}", ran.returncode, 0)
+        yield clone
+
+
+def prove(crate, files, clone):
+    """Proves the types of a module in a clone."""
+    folder = clone / "crates" / crate
+    subprocess.run(["rt", "fmt"], cwd=folder, check=True, stdout=subprocess.DEVNULL)
+    for path, text in files.items():
+        expect(f"{crate}/{path} after rt fmt", (folder / path).read_text() == text, True)
+    ran = subprocess.run(["rt", "check", "--jobs", "1"], cwd=folder, stdout=subprocess.PIPE, stderr=subprocess.STDOUT, text=True)
+    print("".join(line for line in ran.stdout.splitlines(keepends=True) if "no proof" in line or line.startswith("logic=")), end="")
+    expect(f"the status of rt check on {crate}", ran.returncode, 0)
+
+
+def values_of(name):
+    """Values of the types of a module in DER: for each the name of its type in Rust, and its octets in hexadecimal."""
+    if name in ("certificates", "x509"):
+        return [("Certificate", path.read_bytes().hex()) for path in sorted((TOP / "examples" / "certificates").glob("*.der"))]
+    text = (MODULES / f"{name}.der.txt").read_text()
+    return [tuple(line.split(" ")) for line in text.splitlines() if line and not line.startswith("#")]
+
+
+# A program that reads lines with a type and the octets of a value, and prints the octets of the same value written again.
+ROUND_TRIP = """//! Writes again each value that it reads.
+#![tactic(auto)]
+
+use asn1_der::DerRules;
+use asn1_schema::{{Decode, Encode, Rules}};
+use std::alloc::Global;
+use std::io::{{self, BufRead, BufReader}};
+
+fn main(rt: HostRuntime) -> io::Result<()> {{
+    let alloc = rt.alloc();
+    for line in BufReader::new(alloc, rt.reader())?.lines(alloc) {{
+        let line = line?;
+        let (name, digits) = match line.as_str().split_once(' ') {{
+            Some(parts) => parts,
+            None => return println!(rt; "no type and octets"),
+        }};
+        match name {{
+{arms}
+            _ => println!(rt; "no type")?,
+        }}
+    }}
+    Ok(())
+}}
+
+fn print_again<T: Encode + Decode>(rt: &impl Print, alloc: Global, digits: &str) -> io::Result<()> {{
+    let octets = match hex::decode(alloc, digits) {{
+        Ok(octets) => octets,
+        Err(error) => return println!(rt; "no octets: {{error}}"),
+    }};
+    let der = DerRules::new(alloc);
+    let value: T = match der.read_value(&octets, {depth}) {{
+        Ok(value) => value,
+        Err(error) => return println!(rt; "not read: {{error}}"),
+    }};
+    match der.write_value(&value, {depth}) {{
+        Ok(written) => println!(rt; "{{}}", hex::encode(alloc, &written)?),
+        Err(error) => println!(rt; "not written: {{error}}"),
+    }}
+}}
+"""
+
+
+def round_trip_program(name):
+    """The program for the values of a module."""
+    crate = TABLE[name][0]
+    types = sorted({type_name for type_name, _ in values_of(name)})
+    arms = "\n".join(f'            "{it}" => print_again::<{crate}::{it}>(&rt, alloc, digits)?,' for it in types)
+    return ROUND_TRIP.format(arms=arms, depth=DEPTH)
+
+
+def round_trip(name, clone):
+    """Reads values of the types of a module in a clone, and writes them again."""
+    lay(clone / "crates" / "round_trip", {"src/main.rt": round_trip_program(name)})
+    with (clone / "crates.txt").open("a") as lines:
+        lines.write(f"round_trip: asn1_schema asn1_der {TABLE[name][0]} hex\n")
+    values = values_of(name)
+    text = "".join(f"{type_name} {octets}\n" for type_name, octets in values)
+    ran = subprocess.run(["rt", "try"], cwd=clone / "crates" / "round_trip", input=text, capture_output=True, text=True)
+    if ran.returncode:
+        print(ran.stderr, end="")
+    written = ran.stdout.splitlines()
+    for number, (type_name, octets) in enumerate(values):
+        expect(f"{name}: value {number + 1}, {type_name}, written again", written[number] if number < len(written) else "", octets)
+    print(f"{name}: {len(values)} values")
 
 
 WRONG = "M DEFINITIONS ::= BEGIN\nA ::= B\nC ::= SEQUENCE { a NULL, a NULL }\nEND\n"
@@ -193,9 +282,26 @@ def try_arguments():
         expect("a file that is not there", run(["x", str(two[0]), f"{place}/none"])[2], 2)
 
 
+def named_by(option):
+    """The module that an option names, if it is there."""
+    return sys.argv[sys.argv.index(option) + 1] if option in sys.argv else None
+
+
+def prove_or_run():
+    """Proves the types of a module, and writes values of the types of one again, in a clone for each."""
+    to_prove, to_run = named_by("--prove"), named_by("--round-trip")
+    for name in dict.fromkeys(filter(None, [to_prove, to_run])):
+        files = printed(name)
+        with clone_with(name, files) as clone:
+            if name == to_prove:
+                prove(TABLE[name][0], files, clone)
+            if name == to_run:
+                round_trip(name, clone)
+
+
 def main():
-    if "--prove" in sys.argv:
-        prove(sys.argv[sys.argv.index("--prove") + 1])
+    if "--prove" in sys.argv or "--round-trip" in sys.argv:
+        prove_or_run()
     else:
         for name, (crate, _, _) in TABLE.items():
             files = printed(name)
