@@ -27,6 +27,7 @@
 
 mod accepted;
 mod alphabets;
+mod ambiguous;
 mod base;
 mod bits;
 mod component_list;

@@ -74,6 +74,7 @@ pub fn resolve<'a>(alloc: Global, sources: &[Source<'a>]) -> Result<Resolution<'
     };
     resolver.report_modules(sources)?;
     let schema = resolve_schema(&mut resolver, &definitions)?;
+    resolver.report_ambiguous()?;
     resolver.report_names()?;
     resolver.report_exports(sources)?;
     let mut problems = resolver.into_problems();
@@ -107,14 +108,14 @@ fn resolve_schema<'a>(
 }
 
 impl<'a> Resolver<'_, 'a> {
-    // Reports what is wrong with names.
+    // Reports what is wrong with names. A warning is told once.
     fn report_names(&mut self) -> Result<(), AllocError> {
         let found = check_names(self.alloc, self.names)?;
         for problem in &found {
             let mut text = Vec::new(self.alloc);
             append_problem(self.alloc, &mut text, self.names, problem)?;
-            if !self.has_text(text.as_slice()) {
-                let severity = severity_of(self.names, problem);
+            let severity = severity_of(self.names, problem);
+            if severity == Severity::Error || !self.has_text(text.as_slice()) {
                 self.report(problem.place(), severity, &[text.as_slice()])?;
             }
         }
