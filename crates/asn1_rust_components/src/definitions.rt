@@ -130,6 +130,8 @@ pub struct Alternative {
     pub tagging: Tagging,
     /// The tags with which it can begin.
     pub tree: Tree,
+    /// Whether its type is NULL, under a name of its own too.
+    pub is_null: bool,
 }
 
 /// An ENUMERATED.

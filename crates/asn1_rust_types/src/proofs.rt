@@ -57,7 +57,7 @@ fn push_choice_proof(
 // the answer would not hold, and names that are one could not be told apart there.
 fn needs_answer(file: &TypeFile, only: &Alternative) -> bool {
     !matches!(only.tagging, Tagging::Explicit(_))
-        && only.definition.text.as_str() != "()"
+        && !only.is_null
         && only.variant.as_str() != file.name.as_str()
 }
 
