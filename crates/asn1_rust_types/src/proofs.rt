@@ -29,7 +29,7 @@ pub fn proof_files(alloc: Global, file: &TypeFile) -> Result<Vec<ProofFile>, All
         TypeBody::Sequence(body) => push_component_proof(alloc, &mut proofs, file, body)?,
         TypeBody::Set(body) => push_component_proof(alloc, &mut proofs, file, body)?,
         TypeBody::Group(body) => push_component_proof(alloc, &mut proofs, file, body)?,
-        TypeBody::Enumerated(_) => {}
+        TypeBody::Enumerated(_) | TypeBody::RestrictedString(_) => {}
     }
     Ok(proofs)
 }
