@@ -1,10 +1,11 @@
 //! The alternatives of CHOICE types.
-use crate::components::tree_of;
+use crate::components::{steps_of, tree_of};
 use crate::notation::part_line;
 use crate::plan::Plan;
+use crate::tags::{Beginning, first_tags, universal};
 use crate::types::PartTexts;
 use asn1_names::Place;
-use asn1_resolved::{Alternative, Alternatives};
+use asn1_resolved::{Alternative, Alternatives, Type, TypeKind};
 use asn1_rust_code::{Tagging, TypeName};
 use asn1_rust_components::ChoiceType;
 use asn1_rust_names::{TakenNames, camel_case};
@@ -49,6 +50,7 @@ pub(crate) fn alternative_with(
         &definition,
         alternative.place,
     )?;
+    let is_null = is_null(plan, &alternative.definition);
     let camel = camel_case(alloc, alternative.name)?;
     let shown = part_line(alloc, texts.notation.as_str())?;
     let shown = shown.as_str();
@@ -60,7 +62,17 @@ pub(crate) fn alternative_with(
         definition,
         tagging,
         tree,
+        is_null,
     })
+}
+
+// Whether the type of an alternative begins with the tag of NULL, below a tag that it has there.
+fn is_null(plan: &Plan<'_, '_>, definition: &Type<'_>) -> bool {
+    let beginning = match &definition.kind {
+        TypeKind::Tagged(_, inner) => first_tags(plan.request.schema, inner, steps_of(plan)),
+        _ => first_tags(plan.request.schema, definition, steps_of(plan)),
+    };
+    beginning == Beginning::Leaf(universal(5))
 }
 
 /// The name of a variant: another, if it is a word of clauses.

@@ -1,16 +1,17 @@
 //! A resolved schema as the files of a crate of Rust types, in the form of docs/TYPES.md.
 //!
-//! [`print_crate`] makes a file for each SEQUENCE, SET, CHOICE and ENUMERATED, with its definition in ASN.1 as its comment. Types
-//! without a name get one from where they are used; a type that is another under a name is an alias. Values, named numbers and
-//! named bits are constants.
+//! [`print_crate`] makes a file for each SEQUENCE, SET, CHOICE and ENUMERATED, and for each definition of a string with a size or an
+//! alphabet, with its definition in ASN.1 as its comment. Types without a name get one from where they are used; a type that is
+//! another under a name is an alias. Values, named numbers and named bits are constants.
 //!
 //! | Item | What it is |
 //! |---|---|
 //! | [`print_crate`] | the files of a crate |
 //! | [`Request`], [`Extern`] | a schema with its texts, and the types that exist already |
 //! | [`Printed`], [`PrintedFile`] | the files, and what cannot be printed |
+//! | [`rust_name`] | the name of a type |
 //!
-//! What cannot be printed is an error with its place, and what is not carried, as the size of a string, is a warning. No contract
+//! What cannot be printed is an error with its place, and what is not carried, as the size of a SEQUENCE OF, is a warning. No contract
 //! covers the text: the check of the printed crate proves it. The call fails only if memory runs out, and ends for each schema.
 #![tactic(auto)]
 
@@ -26,9 +27,11 @@ mod plan;
 mod printing;
 mod recursion;
 mod request;
+mod strings;
 mod tags;
 mod types;
 mod values;
 
+pub use plan::rust_name;
 pub use printing::print_crate;
 pub use request::{Extern, Printed, PrintedFile, Request};

@@ -1,5 +1,6 @@
 //! The names of the definitions of a schema, and the files as far as they were made.
 use crate::request::{PrintedFile, Request};
+use crate::strings::is_restricted_string;
 use asn1_names::Place;
 use asn1_resolved::{Problem, Severity, Type, TypeDefinition, TypeKind};
 use asn1_rust_code::{Import, TagNumber, TypeName, class_word, order_of};
@@ -15,9 +16,11 @@ const RESERVED: &[&str] = &[
     "AsnType",
     "BitString",
     "BmpString",
+    "Bounded",
     "Box",
     "Choice",
     "ChoiceType",
+    "ConstraintTable",
     "Constraints",
     "ConstrainedInteger",
     "ConstructedType",
@@ -70,6 +73,7 @@ const RESERVED: &[&str] = &[
     "Rattle",
     "Result",
     "SetOf",
+    "Size",
     "Some",
     "String",
     "Syntax",
@@ -141,8 +145,8 @@ pub(crate) fn has_file(definition: &Type<'_>) -> bool {
         TypeKind::Set(_) => true,
         TypeKind::Choice(_) => true,
         TypeKind::Enumerated(_) => true,
-        TypeKind::Tagged(tag, inner) => !tag.is_explicit && is_constructed(&inner.kind),
-        _ => false,
+        TypeKind::Tagged(tag, inner) if !tag.is_explicit && is_constructed(&inner.kind) => true,
+        _ => is_restricted_string(definition),
     }
 }
 
@@ -152,6 +156,21 @@ fn is_constructed(kind: &TypeKind<'_>) -> bool {
         TypeKind::Sequence(_) => true,
         TypeKind::Set(_) => true,
         _ => false,
+    }
+}
+
+/// The name in Rust of a type with this name in ASN.1, unless another type has it.
+pub fn rust_name(alloc: Global, name: &[u8]) -> Result<String, AllocError> {
+    let camel = camel_case(alloc, name)?;
+    unreserved(alloc, camel.as_str())
+}
+
+// A name for a type that no file imports.
+fn unreserved(alloc: Global, name: &str) -> Result<String, AllocError> {
+    if RESERVED.iter().any(|reserved| *reserved == name) {
+        format!(in alloc; "{name}Type")
+    } else {
+        String::from_str(alloc, name)
     }
 }
 
@@ -224,11 +243,8 @@ impl Plan<'_, '_> {
 
     /// A name for a type that no other has.
     pub(crate) fn new_name(&mut self, name: &str) -> Result<String, AllocError> {
-        if RESERVED.iter().any(|reserved| *reserved == name) {
-            let other = format!(in self.alloc; "{name}Type")?;
-            return self.taken_names.take(other.as_str());
-        }
-        self.taken_names.take(name)
+        let wanted = unreserved(self.alloc, name)?;
+        self.taken_names.take(wanted.as_str())
     }
 
     /// A module for the type of this name that no other has.

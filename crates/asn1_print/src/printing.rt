@@ -1,15 +1,17 @@
 //! A schema as the files of a crate.
+use crate::bodies::push_file;
 use crate::lowering::{FileNames, add_file, type_name};
 use crate::notation::text_of;
 use crate::plan::{Plan, has_file, plan_of};
 use crate::recursion::report_cycles;
 use crate::request::{Extern, Printed, PrintedFile, Request};
+use crate::strings::{is_restricted_string, restricted_string};
 use crate::types::{Owner, tag_number, warn_of_constraints};
 use crate::values::{add_value, numbers_of, origin_text};
 use asn1_notation::Module;
 use asn1_resolved::{NamedNumber, Type, TypeDefinition, TypeKind};
 use asn1_rust_code::order_of;
-use asn1_rust_components::{Alias, alias_file, constant_file, marker_file};
+use asn1_rust_components::{Alias, TypeBody, alias_file, constant_file, marker_file};
 use asn1_rust_names::TakenNames;
 use asn1_rust_types::root_file;
 use std::alloc::{AllocError, Global};
@@ -80,14 +82,28 @@ fn add_definition(
         module: module.as_str(),
         tag: None,
     };
-    warn_of_constraints(plan, &definition.definition)?;
-    match &definition.definition.kind {
+    add_own_file(plan, &definition.definition, names, owner)
+}
+
+// Adds the file of a definition.
+fn add_own_file(
+    plan: &mut Plan<'_, '_>,
+    definition: &Type<'_>,
+    names: FileNames<'_>,
+    owner: Owner<'_>,
+) -> Result<(), AllocError> {
+    if is_restricted_string(definition) {
+        let body = restricted_string(plan, definition)?;
+        return push_file(plan, TypeBody::RestrictedString(body), names, owner);
+    }
+    warn_of_constraints(plan, definition)?;
+    match &definition.kind {
         TypeKind::Tagged(tag, inner) => {
             warn_of_constraints(plan, inner)?;
             let tag = Some(tag_number(*tag));
             add_file(plan, inner, FileNames { tag, ..names }, owner)
         }
-        _ => add_file(plan, &definition.definition, names, owner),
+        _ => add_file(plan, definition, names, owner),
     }
 }
 

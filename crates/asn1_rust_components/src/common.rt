@@ -16,18 +16,9 @@ pub struct Table<'a> {
 
 /// Appends `AsnType`.
 pub fn append_type(draft: &mut Draft, name: &str, table: &Table<'_>) -> Result<(), AllocError> {
-    let alloc = draft.alloc();
-    draft.use_names(&["AsnType", "Identifier", "TypeTable"])?;
-    draft.use_signs(&["codes"])?;
     let Table { meaning, call, .. } = *table;
-    draft.text(format!(in alloc;
-        "impl AsnType for {name} {{
-    ghost meaning = {{ {meaning} }};
-
-    fn table() -> TypeTable {{
-"
-    )?)?;
-    let opening = format!(in alloc; "{call}(")?;
+    append_table_head(draft, name, meaning)?;
+    let opening = format!(in draft.alloc(); "{call}(")?;
     draft.list(
         2,
         opening.as_str(),
@@ -35,7 +26,25 @@ pub fn append_type(draft: &mut Draft, name: &str, table: &Table<'_>) -> Result<(
         ")",
         ListStyle::Arguments,
     )?;
-    draft.text(format!(in alloc;
+    append_table_tail(draft)
+}
+
+/// Appends the first lines of `AsnType`: its meaning, and the signature of its table.
+pub fn append_table_head(draft: &mut Draft, name: &str, meaning: &str) -> Result<(), AllocError> {
+    draft.use_names(&["AsnType", "Identifier", "TypeTable"])?;
+    draft.use_signs(&["codes"])?;
+    draft.text(format!(in draft.alloc();
+        "impl AsnType for {name} {{
+    ghost meaning = {{ {meaning} }};
+
+    fn table() -> TypeTable {{
+"
+    )?)
+}
+
+/// Appends the lines of `AsnType` behind the code of its table.
+pub fn append_table_tail(draft: &mut Draft) -> Result<(), AllocError> {
+    draft.text(format!(in draft.alloc();
         "    }}
 
     fn is_present(&self) -> bool {{

@@ -33,6 +33,8 @@ pub enum TypeBody {
     Choice(ChoiceType),
     /// ENUMERATED.
     Enumerated(Enumeration),
+    /// A string with constraints.
+    RestrictedString(RestrictedString),
 }
 
 /// A SEQUENCE, a SET, or a group of additions.
@@ -130,6 +132,8 @@ pub struct Alternative {
     pub tagging: Tagging,
     /// The tags with which it can begin.
     pub tree: Tree,
+    /// Whether its type is NULL, under a name of its own too.
+    pub is_null: bool,
 }
 
 /// An ENUMERATED.
@@ -150,4 +154,26 @@ pub struct Item {
     pub variant: String,
     /// The number.
     pub number: i64,
+}
+
+/// A string of limited size, of chosen characters, or both.
+#[derive(Drop)]
+pub struct RestrictedString {
+    /// The string.
+    pub content: TypeName,
+    /// Its tag.
+    pub tag: TagNumber,
+    /// Its sizes, if they are limited.
+    pub sizes: Option<Sizes>,
+    /// The codes of its characters; empty if they are not limited.
+    pub characters: Vec<u32>,
+}
+
+/// The sizes of a string.
+#[derive(Clone, Copy, Debug, PartialEq, Eq)]
+pub struct Sizes {
+    /// The least.
+    pub least: u64,
+    /// The greatest, if there is one.
+    pub greatest: Option<u64>,
 }

@@ -6,13 +6,14 @@
 //!
 //! | Item | What it is |
 //! |---|---|
-//! | [`TypeFile`], [`TypeBody`] | a file with a SEQUENCE, a SET, a group of additions, a CHOICE or an ENUMERATED |
+//! | [`TypeFile`], [`TypeBody`] | a file with a SEQUENCE, a SET, a group of additions, a CHOICE, an ENUMERATED or a string |
 //! | [`Constructed`], [`Component`], [`Usage`], [`DefaultValue`] | the components of a type |
 //! | [`ChoiceType`], [`Alternative`], [`Tree`] | the alternatives of a CHOICE, and tags with which they begin |
 //! | [`Enumeration`], [`Item`] | the items of an ENUMERATED |
+//! | [`RestrictedString`], [`Sizes`] | a string with constraints |
 //! | [`Alias`], [`NamedNumbers`], [`Marker`], [`Constant`] | names for types, types that name tags, and constants |
 //! | [`append_sequence`], [`append_set`], [`append_group`] | the code of a type of components |
-//! | [`append_type`], [`append_agreement`], [`append_theorem`], [`append_encode`], [`append_decode`] | the parts of each type |
+//! | [`append_type`], [`append_table_head`], [`append_table_tail`], [`append_agreement`], [`append_theorem`], [`append_encode`], [`append_decode`] | the parts of each type |
 //! | [`append_trees`], [`tree_code`], [`constant_of`], [`append_entry`] | constants of trees, and lists in ghost members |
 //! | [`identifier_code`], [`owned`] | the call that names a type, and texts |
 //! | [`alias_file`], [`marker_file`], [`constant_file`] | files that are no type |
@@ -32,13 +33,13 @@ mod writer;
 
 pub use aliases::{Alias, Constant, Marker, NamedNumbers, alias_file, constant_file, marker_file};
 pub use common::{
-    Table, append_agreement, append_decode, append_encode, append_theorem, append_type,
-    identifier_code, owned,
+    Table, append_agreement, append_decode, append_encode, append_table_head, append_table_tail,
+    append_theorem, append_type, identifier_code, owned,
 };
 pub use constructed::{Kind, Subject, append_group, append_sequence, append_set};
 pub use definitions::{
-    Alternative, ChoiceType, Component, Constructed, DefaultValue, Enumeration, Item, Tree,
-    TypeBody, TypeFile, Usage,
+    Alternative, ChoiceType, Component, Constructed, DefaultValue, Enumeration, Item,
+    RestrictedString, Sizes, Tree, TypeBody, TypeFile, Usage,
 };
 pub use slots::append_entry;
 pub use trees::{append_trees, constant_of, tree_code};

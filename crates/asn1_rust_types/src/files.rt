@@ -1,6 +1,7 @@
 //! Files of types.
 use crate::choice::{ChoiceSubject, append_choice};
 use crate::enumeration::{EnumerationSubject, append_enumeration};
+use crate::restricted_string::{StringSubject, append_restricted_string};
 use asn1_rust_code::{Code, Draft, List, ListStyle, append_page};
 use asn1_rust_components::{
     Kind, Subject, TypeBody, TypeFile, append_group, append_sequence, append_set,
@@ -34,6 +35,9 @@ fn append_body(draft: &mut Draft, file: &TypeFile) -> Result<(), AllocError> {
         }
         TypeBody::Choice(body) => append_choice(draft, ChoiceSubject { file, body }),
         TypeBody::Enumerated(body) => append_enumeration(draft, EnumerationSubject { file, body }),
+        TypeBody::RestrictedString(body) => {
+            append_restricted_string(draft, StringSubject { file, body })
+        }
     }
 }
 

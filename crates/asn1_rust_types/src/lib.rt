@@ -14,6 +14,7 @@ mod choice;
 mod enumeration;
 mod files;
 mod proofs;
+mod restricted_string;
 mod variants;
 
 pub use files::{ModuleNames, root_file, type_file};

@@ -29,7 +29,7 @@ pub fn proof_files(alloc: Global, file: &TypeFile) -> Result<Vec<ProofFile>, All
         TypeBody::Sequence(body) => push_component_proof(alloc, &mut proofs, file, body)?,
         TypeBody::Set(body) => push_component_proof(alloc, &mut proofs, file, body)?,
         TypeBody::Group(body) => push_component_proof(alloc, &mut proofs, file, body)?,
-        TypeBody::Enumerated(_) => {}
+        TypeBody::Enumerated(_) | TypeBody::RestrictedString(_) => {}
     }
     Ok(proofs)
 }
@@ -57,7 +57,7 @@ fn push_choice_proof(
 // the answer would not hold, and names that are one could not be told apart there.
 fn needs_answer(file: &TypeFile, only: &Alternative) -> bool {
     !matches!(only.tagging, Tagging::Explicit(_))
-        && only.definition.text.as_str() != "()"
+        && !only.is_null
         && only.variant.as_str() != file.name.as_str()
 }
 

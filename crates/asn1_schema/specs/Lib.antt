@@ -1,3 +1,4 @@
+pub mod RestrictedStrings
 pub mod TaggedStrings
 pub mod Words
 -- the definitions of the crates below, each under the name of its subject

@@ -25,6 +25,8 @@ pub use Rattle.asn1_types.specs.Words.{sequence_head, set_head, sequence_of, set
 pub use Rattle.asn1_types.specs.Words.{in_root, in_additions, present, absent, group_start, group_absent, group_end}
 -- the constraints in records
 pub use Rattle.asn1_types.specs.Words.{unconstrained, values_of, size_of, characters_of, Range}
+-- a string with constraints (51.5 and 51.7)
+pub use Rattle.asn1_schema.specs.RestrictedStrings.{restricted_type, sizes_of, with_characters}
 -- a CHOICE that holds itself
 pub use Rattle.asn1_components.specs.Alternatives.{Alternatives, OneOf, MeansTheSame, ValueMeaning, all_of, chosen_meaning, means_itself, value_meaning}
 pub use Rattle.asn1_components.specs.ChoiceTypes.{alternatives_with_itself, choice_holding_itself, inside_itself, itself_agrees, itself_under, table_with_itself}
