@@ -1,4 +1,5 @@
 //! What a command line says of the crate, and of types that exist already.
+use crate::job::ExternModule;
 use crate::message::{Message, push_octets};
 use asn1_print::Extern;
 use asn1_resolved::{Schema, Severity};
@@ -43,6 +44,18 @@ pub fn extern_of(argument: &str) -> Option<Extern<'_>> {
         name: name.as_bytes(),
         path,
         rust_name,
+    })
+}
+
+/// The module that an argument names, as `PKIX1Explicit88=certificates`; `None` if it has another form.
+pub fn extern_module_of(argument: &str) -> Option<ExternModule<'_>> {
+    let (name, path) = argument.split_once('=')?;
+    if name.is_empty() || !is_path(path) {
+        return None;
+    }
+    Some(ExternModule {
+        name: name.as_bytes(),
+        path,
     })
 }
 
@@ -100,6 +113,33 @@ fn doubled_extern(alloc: Global, name: &[u8]) -> Result<Message, AllocError> {
     push_octets(&mut line, name)?;
     line.push_str("'; name one as MODULE.")?;
     push_octets(&mut line, name)?;
+    Ok(error_of(line))
+}
+
+/// The errors for modules whose types exist already, each of which has to define a type.
+pub(crate) fn extern_module_errors(
+    alloc: Global,
+    modules: &[ExternModule<'_>],
+    schema: &Schema<'_>,
+) -> Result<Vec<Message>, AllocError> {
+    let mut messages = Vec::new(alloc);
+    for known in modules {
+        if !schema
+            .types
+            .iter()
+            .any(|defined| defined.module == known.name)
+        {
+            messages.push(unknown_module(alloc, known.name)?)?;
+        }
+    }
+    Ok(messages)
+}
+
+// The error that no module of this name defines a type.
+fn unknown_module(alloc: Global, name: &[u8]) -> Result<Message, AllocError> {
+    let mut line = String::from_str(alloc, "error: no module '")?;
+    push_octets(&mut line, name)?;
+    line.push_str("' defines a type")?;
     Ok(error_of(line))
 }
 

@@ -10,6 +10,15 @@ pub struct Input {
     pub text: Vec<u8>,
 }
 
+/// A module whose types exist already.
+#[derive(Clone, Copy)]
+pub struct ExternModule<'a> {
+    /// The name of the module.
+    pub name: &'a [u8],
+    /// The crate that has the types, or the module in it, under the names that the compiler gives them.
+    pub path: &'a str,
+}
+
 /// What is compiled to a crate.
 #[derive(Clone, Copy)]
 pub struct Job<'a> {
@@ -19,4 +28,6 @@ pub struct Job<'a> {
     pub inputs: &'a [Input],
     /// Types that exist already.
     pub externs: &'a [Extern<'a>],
+    /// Modules whose other types exist already.
+    pub extern_modules: &'a [ExternModule<'a>],
 }

@@ -2,10 +2,10 @@
 //!
 //! | Item | What it is |
 //! |---|---|
-//! | [`compile`], [`Job`], [`Input`] | compiles the modules of some texts |
+//! | [`compile`], [`Job`], [`Input`], [`ExternModule`] | compiles the modules of some texts |
 //! | [`Compiled`], [`Message`] | the files, and the errors and warnings with their places |
 //! | [`listing_of`] | the files as one text |
-//! | [`extern_of`], [`is_crate_name`] | what a command line says of types that exist already, and of the name of the crate |
+//! | [`extern_of`], [`extern_module_of`], [`is_crate_name`] | what a command line says of types that exist already, and of the name of the crate |
 //!
 //! The texts go through `parse` of `asn1_grammar`, `resolve` of `asn1_resolver`, `check_tags` of `asn1_module_check` and `print_crate`
 //! of `asn1_print`. The errors of one stage are told together: those of the notation, then those of names and numbers, then those of
@@ -24,6 +24,7 @@
 mod compiled;
 mod externs;
 mod job;
+mod known_types;
 mod listing;
 mod locator;
 mod message;
@@ -31,8 +32,8 @@ mod problems;
 mod stages;
 
 pub use compiled::Compiled;
-pub use externs::{extern_of, is_crate_name};
-pub use job::{Input, Job};
+pub use externs::{extern_module_of, extern_of, is_crate_name};
+pub use job::{ExternModule, Input, Job};
 pub use listing::listing_of;
 pub use message::Message;
 pub use stages::compile;

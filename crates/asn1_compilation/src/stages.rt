@@ -3,14 +3,15 @@ ghost use Rattle.std.specs.Prelude.{◌≡◌, IfOk, is_some};
 ghost use Rattle.asn1_compilation.specs.Messages as spec;
 
 use crate::compiled::Compiled;
-use crate::externs::extern_errors;
+use crate::externs::{extern_errors, extern_module_errors};
 use crate::job::{Input, Job};
+use crate::known_types::known_types;
 use crate::message::messages_of;
 use crate::problems::syntax_problems;
 use asn1_grammar::{Parsed, parse};
 use asn1_module_check::check_tags;
 use asn1_modules::Source;
-use asn1_print::{Extern, Printed, Request, print_crate};
+use asn1_print::{Printed, Request, print_crate};
 use asn1_resolved::Schema;
 use asn1_resolver::{Resolution, resolve};
 use std::alloc::{AllocError, Global};
@@ -91,26 +92,31 @@ fn compile_sources(
         ..
     } = resolution;
     problems.append(&mut check_tags(alloc, &schema)?)?;
-    let mut printed = print_schema(alloc, job.crate_name, job.externs, sources, &schema)?;
+    let mut printed = print_schema(alloc, job, sources, &schema)?;
     problems.append(&mut printed.problems)?;
     let mut messages = messages_of(alloc, job.inputs, problems.as_slice())?;
     messages.append(&mut extern_errors(alloc, job.externs, &schema)?)?;
+    messages.append(&mut extern_module_errors(alloc, job.extern_modules, &schema)?)?;
     Ok(Compiled::new(messages, printed.files))
 }
 
 // Prints the files of a schema.
 fn print_schema<'a>(
     alloc: Global,
-    crate_name: &str,
-    externs: &[Extern<'_>],
+    job: Job<'a>,
     sources: &[Source<'a>],
     schema: &Schema<'a>,
 ) -> Result<Printed, AllocError> {
+    let known = known_types(alloc, job, schema)?;
+    let mut externs = Vec::from_slice(alloc, job.externs)?;
+    for found in &known {
+        externs.push(found.as_extern())?;
+    }
     let request = Request {
-        crate_name: &*crate_name,
+        crate_name: job.crate_name,
         sources: &*sources,
         schema: &*schema,
-        externs: &*externs,
+        externs: externs.as_slice(),
     };
     print_crate(alloc, request)
 }

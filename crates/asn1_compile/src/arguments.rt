@@ -1,6 +1,6 @@
 //! The arguments of the program.
 use crate::failure::Failure;
-use asn1_compilation::{extern_of, is_crate_name};
+use asn1_compilation::{ExternModule, extern_module_of, extern_of, is_crate_name};
 use asn1_print::Extern;
 use clap::{Arg, ArgAction, ArgMatches, Command, Error};
 use std::alloc::{AllocError, Global};
@@ -35,6 +35,11 @@ fn command<'a>(alloc: Global) -> Result<Command<'a>, AllocError> {
         .help(
             "A type that exists already, as Filter=asn1_recursive::Filter; if several modules define it, as Module.Filter=..",
         );
+    let extern_modules = Arg::new(alloc, "extern-module")
+        .long("extern-module")
+        .action(ArgAction::Append)
+        .value_name("MODULE=CRATE")
+        .help("A module that was compiled to a crate already, as PKIX1Explicit88=certificates");
     let check = Arg::new(alloc, "check")
         .long("check")
         .action(ArgAction::SetTrue)
@@ -44,6 +49,7 @@ fn command<'a>(alloc: Global) -> Result<Command<'a>, AllocError> {
         .after_help(STATUSES)
         .arg(out)?
         .arg(externs)?
+        .arg(extern_modules)?
         .arg(check)?
         .arg(name)?
         .arg(files)
@@ -78,4 +84,21 @@ pub(crate) fn externs_of<'a>(
         }
     }
     Ok(externs)
+}
+
+/// The modules whose types exist already.
+pub(crate) fn extern_modules_of<'a>(
+    alloc: Global,
+    matches: &ArgMatches<'a>,
+) -> Result<Vec<ExternModule<'a>>, Failure<'a>> {
+    let mut modules = Vec::new(alloc);
+    if let Some(arguments) = matches.get_strs("extern-module") {
+        for argument in arguments {
+            match extern_module_of(argument) {
+                Some(found) => modules.push(found)?,
+                None => return Err(Failure::ExternModule(argument)),
+            }
+        }
+    }
+    Ok(modules)
 }

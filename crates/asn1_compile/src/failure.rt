@@ -9,6 +9,8 @@ pub(crate) enum Failure<'a> {
     CrateName(&'a str),
     /// This does not name a type that exists already.
     Extern(&'a str),
+    /// This does not name a module whose types exist already.
+    ExternModule(&'a str),
     /// The file of this name was not read.
     Input(&'a str, io::Error),
     /// The files were not written.
@@ -30,6 +32,9 @@ impl Failure<'_> {
                 eprintln!(rt;
                     "error: '{argument}' is not of the form NAME=crate::Type or MODULE.NAME=crate::Type"
                 )
+            }
+            Failure::ExternModule(argument) => {
+                eprintln!(rt; "error: '{argument}' is not of the form MODULE=crate")
             }
             Failure::Input(name, error) => eprintln!(rt; "error: {name}: {error}"),
             Failure::Output(error) => eprintln!(rt; "error: {error}"),

@@ -9,6 +9,7 @@
 //! | `FILE`.. | reads these files as one set of modules, or standard input for `-` or if there is none |
 //! | `--out DIR` | writes the files into this folder; otherwise they go to standard output, each behind a line `=== PATH` |
 //! | `--extern NAME=PATH` | a type that exists already, as `Filter=asn1_recursive::Filter`, or with its module, `Module.Filter=..` |
+//! | `--extern-module MODULE=CRATE` | a module that was compiled already, as `PKIX1Explicit88=certificates` |
 //! | `--check` | writes no file |
 //! | `--help` | writes the usage |
 //!
@@ -24,7 +25,7 @@ mod failure;
 mod inputs;
 mod outputs;
 
-use arguments::{crate_name_of, externs_of, matches_of};
+use arguments::{crate_name_of, extern_modules_of, externs_of, matches_of};
 use asn1_compilation::{Compiled, Job, compile};
 use clap::ArgMatches;
 use failure::Failure;
@@ -68,11 +69,13 @@ fn main(rt: HostRuntime) -> ExitCode {
 fn run<'a>(rt: &HostRuntime, matches: &ArgMatches<'a>) -> Result<u8, Failure<'a>> {
     let crate_name = crate_name_of(matches)?;
     let externs = externs_of(rt.alloc(), matches)?;
+    let extern_modules = extern_modules_of(rt.alloc(), matches)?;
     let inputs = read_inputs(rt, matches)?;
     let job = Job {
         crate_name,
         inputs: inputs.as_slice(),
         externs: externs.as_slice(),
+        extern_modules: extern_modules.as_slice(),
     };
     let compiled = compile(rt.alloc(), job)?;
     finish(rt, matches, &compiled)
