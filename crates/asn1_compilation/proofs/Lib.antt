@@ -1,1 +1,2 @@
+mod Accepted
 mod Told

@@ -1,5 +1,5 @@
 -- The messages for problems.
-use Rattle.std.specs.Prelude.{◌≡◌, ℕ, ◌==◌, Bool, true, false, ◌||◌, if◌then◌else◌, List, ◌++◌, map}
+use Rattle.std.specs.Prelude.{◌≡◌, ℕ, ◌==◌, Bool, ◌||◌, if◌then◌else◌, List, ◌++◌, map}
 use Rattle.std.specs.Char.{is_ascii_graphic}
 use Rattle.std.specs.List.{AllZip, list_all}
 use Rattle.std.specs.List.Sorted.{IsPermutation, IsSortedBy}
@@ -7,13 +7,7 @@ use Rattle.std.specs.Ordering.{is_lt, nat_cmp, ordering_then}
 use Rattle.std.specs.String.{string_bytes}
 use Rattle.asn1_compilation.specs.declared.message.Message.{Message}
 use Rattle.asn1_resolved.specs.declared.problem.Problem.{Problem}
-use Rattle.asn1_resolved.specs.declared.problem.Severity.{Severity}
-use Rattle.asn1_resolved.specs.declared.problem.Severity.TheVariants.{Error, Warning}
-
--- whether modules with a problem of this severity can be used
-abbrev pub is_warning : Severity → Bool
-is_warning Error = false
-is_warning Warning = true
+pub use Rattle.asn1_resolver.specs.Accepted.{is_warning}
 
 -- whether no message is an error
 abbrev pub accepts : List Message → Bool

@@ -1,18 +1,21 @@
 //! From texts to files, or to errors.
-ghost use Rattle.std.specs.Prelude.{◌≡◌, IfOk, is_some};
+ghost use Rattle.std.specs.Prelude.{◌≡◌, All, IfOk, IsTrue, is_some};
 ghost use Rattle.asn1_compilation.specs.Messages as spec;
+ghost use Rattle.asn1_module_check.specs.DistinctTags.{IsFreeOfClashes};
+ghost use Rattle.asn1_resolved.specs.TypesInside.{types_of};
+ghost use Rattle.asn1_resolver.specs.Accepted as resolved;
 
 use crate::compiled::Compiled;
 use crate::externs::{extern_errors, extern_module_errors};
 use crate::job::{Input, Job};
 use crate::known_types::known_types;
-use crate::message::messages_of;
+use crate::message::{Message, messages_of};
 use crate::problems::syntax_problems;
 use asn1_grammar::{Parsed, parse};
 use asn1_module_check::check_tags;
 use asn1_modules::Source;
 use asn1_print::{Printed, Request, print_crate};
-use asn1_resolved::Schema;
+use asn1_resolved::{Problem, Schema};
 use asn1_resolver::{Resolution, resolve};
 use std::alloc::{AllocError, Global};
 
@@ -82,22 +85,99 @@ fn compile_sources(
         is_some compiled.files ≡ spec.accepts compiled.messages.items) }
 {
     let resolution = resolve(alloc, sources)?;
+    compile_resolved(alloc, job, sources, resolution)
+}
+
+// Compiles resolved modules. Errors in names and numbers are told before those in tags.
+fn compile_resolved<'a>(
+    alloc: Global,
+    job: Job<'a>,
+    sources: &[Source<'a>],
+    resolution: Resolution<'a>,
+) -> Result<Compiled, AllocError>
+    ensures complete { IfOk result (λ compiled.
+        is_some compiled.files ≡ spec.accepts compiled.messages.items) }
+    // There are files only if no name or number is in error, and no type has a clash.
+    ensures resolved { IfOk result (λ compiled. IsTrue (is_some compiled.files) →
+        IsTrue (resolved.accepts resolution.entry.problems.items)) }
+    ensures distinct { IfOk result (λ compiled. IsTrue (is_some compiled.files) →
+        All (IsFreeOfClashes resolution.entry.schema) (types_of resolution.entry.schema)) }
+{
     if !resolution.is_accepted() {
-        let messages = messages_of(alloc, job.inputs, resolution.problems.as_slice())?;
-        return Ok(Compiled::new(messages, Vec::new(alloc)));
+        return refused(alloc, job, resolution.problems.as_slice());
     }
     let Resolution {
         schema,
-        mut problems,
+        problems,
         ..
     } = resolution;
-    problems.append(&mut check_tags(alloc, &schema)?)?;
-    let mut printed = print_schema(alloc, job, sources, &schema)?;
-    problems.append(&mut printed.problems)?;
-    let mut messages = messages_of(alloc, job.inputs, problems.as_slice())?;
-    messages.append(&mut extern_errors(alloc, job.externs, &schema)?)?;
-    messages.append(&mut extern_module_errors(alloc, job.extern_modules, &schema)?)?;
+    compile_schema(alloc, job, sources, &schema, problems)
+}
+
+// The messages for problems of which one is an error.
+fn refused(alloc: Global, job: Job<'_>, problems: &[Problem]) -> Result<Compiled, AllocError>
+    ensures complete { IfOk result (λ compiled.
+        is_some compiled.files ≡ spec.accepts compiled.messages.items) }
+    ensures refused { IfOk result (λ compiled. IsTrue (is_some compiled.files) →
+        IsTrue (resolved.accepts problems.now)) }
+{
+    let messages = messages_of(alloc, job.inputs, problems)?;
+    Ok(Compiled::new(messages, Vec::new(alloc)))
+}
+
+// Compiles a schema, which has these problems already.
+fn compile_schema<'a>(
+    alloc: Global,
+    job: Job<'a>,
+    sources: &[Source<'a>],
+    schema: &Schema<'a>,
+    problems: Vec<Problem>,
+) -> Result<Compiled, AllocError>
+    ensures complete { IfOk result (λ compiled.
+        is_some compiled.files ≡ spec.accepts compiled.messages.items) }
+    ensures distinct { IfOk result (λ compiled. IsTrue (is_some compiled.files) →
+        All (IsFreeOfClashes schema.now) (types_of schema.now)) }
+{
+    let printed = print_checked(alloc, job, sources, schema, problems)?;
+    let messages = schema_messages(alloc, job, schema, printed.problems.as_slice())?;
     Ok(Compiled::new(messages, printed.files))
+}
+
+// Checks the tags of a schema and prints it. Its problems follow those that it has already.
+fn print_checked<'a>(
+    alloc: Global,
+    job: Job<'a>,
+    sources: &[Source<'a>],
+    schema: &Schema<'a>,
+    problems: Vec<Problem>,
+) -> Result<Printed, AllocError>
+    ensures { IfOk result (λ printed. IsTrue (resolved.accepts printed.problems.items) →
+        All (IsFreeOfClashes schema.now) (types_of schema.now)) }
+{
+    let mut problems = problems;
+    problems.append(&mut check_tags(alloc, schema)?)?;
+    let mut printed = print_schema(alloc, job, sources, schema)?;
+    problems.append(&mut printed.problems)?;
+    Ok(Printed {
+        files: printed.files,
+        problems,
+    })
+}
+
+// The messages for the problems of a schema, and the errors for arguments that do not fit it.
+fn schema_messages<'a>(
+    alloc: Global,
+    job: Job<'a>,
+    schema: &Schema<'a>,
+    problems: &[Problem],
+) -> Result<Vec<Message>, AllocError>
+    ensures { IfOk result (λ messages. IsTrue (spec.accepts messages.items) →
+        IsTrue (resolved.accepts problems.now)) }
+{
+    let mut messages = messages_of(alloc, job.inputs, problems)?;
+    messages.append(&mut extern_errors(alloc, job.externs, schema)?)?;
+    messages.append(&mut extern_module_errors(alloc, job.extern_modules, schema)?)?;
+    Ok(messages)
 }
 
 // Prints the files of a schema.

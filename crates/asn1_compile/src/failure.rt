@@ -13,8 +13,10 @@ pub(crate) enum Failure<'a> {
     ExternModule(&'a str),
     /// The file of this name was not read.
     Input(&'a str, io::Error),
-    /// The files were not written.
-    Output(io::Error),
+    /// The file or the folder of this path was not written.
+    Output(String, io::Error),
+    /// Standard output was not written.
+    StandardOutput(io::Error),
     /// Memory ran out.
     Memory,
 }
@@ -30,14 +32,15 @@ impl Failure<'_> {
             }
             Failure::Extern(argument) => {
                 eprintln!(rt;
-                    "error: '{argument}' is not of the form NAME=crate::Type or MODULE.NAME=crate::Type"
+                    "error: '{argument}' is not of the form NAME=some_crate::Type or MODULE.NAME=some_crate::Type"
                 )
             }
             Failure::ExternModule(argument) => {
-                eprintln!(rt; "error: '{argument}' is not of the form MODULE=crate")
+                eprintln!(rt; "error: '{argument}' is not of the form MODULE=some_crate")
             }
             Failure::Input(name, error) => eprintln!(rt; "error: {name}: {error}"),
-            Failure::Output(error) => eprintln!(rt; "error: {error}"),
+            Failure::Output(path, error) => eprintln!(rt; "error: {path}: {error}"),
+            Failure::StandardOutput(error) => eprintln!(rt; "error: standard output: {error}"),
             Failure::Memory => eprintln!(rt; "error: memory ran out"),
         };
     }

@@ -100,8 +100,6 @@ fn finish<'a>(
     if matches.get_flag("check") {
         return Ok(0);
     }
-    match write_files(rt, matches.get_str("out"), files.as_slice()) {
-        Ok(()) => Ok(0),
-        Err(error) => Err(Failure::Output(error)),
-    }
+    write_files(rt, matches.get_str("out"), files.as_slice())?;
+    Ok(0)
 }

@@ -1,3 +1,4 @@
 pub mod DistinctTags
+pub mod Errors
 pub mod FirstTags
 pub mod Tables

@@ -3,6 +3,7 @@ ghost use Rattle.std.specs.Prelude.{◌≡◌, ◌↔◌, [], IfOk, OnOk};
 ghost use Rattle.std.specs.List.{All};
 ghost use Rattle.asn1_resolved.specs.TypesInside.{types_of};
 ghost use Rattle.asn1_module_check.specs.DistinctTags.{HasDistinctTags, IsFreeOfClashes};
+ghost use Rattle.asn1_module_check.specs.Errors.{IsError};
 
 use crate::clashes::find_clash;
 use crate::constructed::{ComponentName, Constructed};
@@ -18,6 +19,8 @@ pub fn check_tags(alloc: Global, schema: &Schema<'_>) -> Result<Vec<Problem>, Al
     // There is none if and only if no type inside the schema has a clash.
     ensures accepted { IfOk result (λ problems. (problems.items ≡ []) ↔
         All (IsFreeOfClashes schema.now) (types_of schema.now)) }
+    // Each is an error.
+    ensures errors { IfOk result (λ problems. All IsError problems.items) }
 {
     let list = list_constructed(alloc, schema)?;
     check_constructed(alloc, list.as_slice())
@@ -31,6 +34,8 @@ pub fn check_constructed(
     // There is none if and only if in every type all components have distinct tags that must have them.
     ensures accepted { IfOk result (λ problems. (problems.items ≡ []) ↔
         All HasDistinctTags list.now) }
+    // Each is an error.
+    ensures errors { IfOk result (λ problems. All IsError problems.items) }
 {
     let mut problems = Vec::new(alloc);
     for constructed in list {
@@ -49,6 +54,7 @@ fn check_type(
         problems.new.items ≡ problems.old.items) }
     ensures accepted { OnOk result (problems.new.items ≡ [] →
         (problems.old.items ≡ []) × HasDistinctTags constructed.now) }
+    ensures errors { OnOk result (All IsError problems.old.items → All IsError problems.new.items) }
 {
     match find_clash(alloc, constructed)? {
         Some(clash) => {
@@ -64,8 +70,11 @@ fn check_type(
 fn problem_of(
     alloc: Global,
     constructed: &Constructed<'_>,
-    (first, second): (usize, usize),
-) -> Result<Problem, AllocError> {
+    clash: (usize, usize),
+) -> Result<Problem, AllocError>
+    ensures { IfOk result IsError }
+{
+    let (first, second) = clash;
     let names = (name_at(constructed, first), name_at(constructed, second));
     let mut text = Vec::new(alloc);
     append_names(&mut text, constructed.kind, names)?;

@@ -79,6 +79,7 @@ fn is_null(plan: &Plan<'_, '_>, definition: &Type<'_>) -> bool {
 pub(crate) fn variant_name(name: &str) -> &str {
     match name.as_bytes() {
         b"Type" => "TypeItem",
+        b"Unit" => "UnitItem",
         b"Some" => "SomeItem",
         b"None" => "NoneItem",
         b"Ok" => "OkItem",

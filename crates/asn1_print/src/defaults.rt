@@ -260,10 +260,10 @@ fn item_default(
     let variant = variant.as_str();
     Ok(Some(Usage::Default(DefaultValue {
         code: format!(in alloc; "{enum_name}::{variant}")?,
-        term: format!(in alloc; "{path}.{variant}")?,
+        term: format!(in alloc; "{path}_items.{variant}")?,
         sign: None,
         ghost_line: Some(format!(in alloc;
-            "ghost use Rattle.{crate_name}.specs.declared.{path}.{enum_name}.TheVariants as {path};"
+            "ghost use Rattle.{crate_name}.specs.declared.{path}.{enum_name}.TheVariants as {path}_items;"
         )?),
     })))
 }

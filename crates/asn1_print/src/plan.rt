@@ -90,9 +90,11 @@ const RESERVED: &[&str] = &[
     "VisibleString",
 ];
 
-/// The modules that a crate has beside those of types.
+/// The modules that a crate has beside those of types, and the libraries of each crate.
 const MODULES: &[&str] = &[
     "aliases",
+    "asn1_schema",
+    "asn1_tags",
     "lib",
     "main",
     "tags",
@@ -159,6 +161,14 @@ fn is_constructed(kind: &TypeKind<'_>) -> bool {
     }
 }
 
+// The library of a path.
+fn library_of(path: &str) -> &str {
+    match path.split_once("::") {
+        Some((library, _)) => library,
+        None => path,
+    }
+}
+
 /// The name in Rust of a type with this name in ASN.1, unless another type has it.
 pub fn rust_name(alloc: Global, name: &[u8]) -> Result<String, AllocError> {
     let camel = camel_case(alloc, name)?;
@@ -198,6 +208,7 @@ pub(crate) fn plan_of<'r, 'a>(
     }
     for external in request.externs {
         let _name = plan.taken_names.take(external.rust_name)?;
+        let _library = plan.taken_modules.take(library_of(external.path))?;
     }
     for definition in &request.schema.types {
         let planned = plan.planned(definition)?;

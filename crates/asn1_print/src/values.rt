@@ -3,7 +3,7 @@ use crate::notation::{assignment_text, text_of};
 use crate::plan::Plan;
 use asn1_notation::Assignment;
 use asn1_resolved::{NamedNumber, Origin, Value, ValueDefinition};
-use asn1_rust_components::{Constant, NamedNumbers};
+use asn1_rust_components::{Constant, ConstantValue, NamedNumbers};
 use asn1_rust_names::{TakenNames, upper_case};
 use std::alloc::AllocError;
 
@@ -35,9 +35,12 @@ pub(crate) fn add_value(
     let alloc = plan.alloc;
     let upper = upper_case(alloc, definition.name)?;
     let (kind, value) = match &definition.value {
-        Value::ObjectIdentifier(arcs) => ("&[u32]", arcs_code(plan, arcs.as_slice())?),
-        Value::Integer(number) => ("i128", format!(in alloc; "{number}")?),
-        Value::Boolean(flag) => ("bool", format!(in alloc; "{flag}")?),
+        Value::ObjectIdentifier(arcs) => ("&[u32]", arcs_value(plan, arcs.as_slice())?),
+        Value::Integer(number) => (
+            "i128",
+            ConstantValue::Literal(format!(in alloc; "{number}")?),
+        ),
+        Value::Boolean(flag) => ("bool", ConstantValue::Literal(format!(in alloc; "{flag}")?)),
         _ => {
             return plan.warn(definition.place, "this value has no constant in Rust");
         }
@@ -55,17 +58,12 @@ pub(crate) fn add_value(
 }
 
 // The arcs of an object identifier, as code has them.
-fn arcs_code(plan: &Plan<'_, '_>, arcs: &[u32]) -> Result<String, AllocError> {
-    let mut code = plan.text("&[")?;
-    for (index, arc) in arcs.iter().enumerate() {
-        if index != 0 {
-            code.push_str(", ")?;
-        }
-        let number = format!(in plan.alloc; "{arc}")?;
-        code.push_str(number.as_str())?;
+fn arcs_value(plan: &Plan<'_, '_>, arcs: &[u32]) -> Result<ConstantValue, AllocError> {
+    let mut elements = Vec::new(plan.alloc);
+    for arc in arcs {
+        elements.push(format!(in plan.alloc; "{arc}")?)?;
     }
-    code.push_str("]")?;
-    Ok(code)
+    Ok(ConstantValue::Elements(elements))
 }
 
 /// The constants of this kind for the names of an INTEGER or a BIT STRING, which the type of this name has.
@@ -90,7 +88,7 @@ pub(crate) fn numbers_of(
             name: names.take(upper.as_str())?,
             notation: format!(in alloc; "`{shown}({value})`")?,
             definition: kind,
-            value: format!(in alloc; "{value}")?,
+            value: ConstantValue::Literal(format!(in alloc; "{value}")?),
         })?;
     }
     let wanted = format!(in alloc; "{name}Names")?;

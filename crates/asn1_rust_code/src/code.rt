@@ -2,7 +2,7 @@
 use std::alloc::{AllocError, Global};
 
 /// The number of columns of a line.
-const WIDTH: usize = 100;
+pub(crate) const WIDTH: usize = 100;
 
 /// The number of columns of a line of names.
 const NAMES_WIDTH: usize = 98;

@@ -7,6 +7,7 @@
 //! |---|---|
 //! | [`Draft`] | a file as far as it was made |
 //! | [`Code`], [`List`], [`ListStyle`], [`is_in_one_line`] | lines of code, and lists in them |
+//! | [`append_typed`] | a line with a type |
 //! | [`Import`], [`TypeName`] | a name that a file imports, and a type as code names it |
 //! | [`TagNumber`], [`Tagging`] | a tag, and how a type is tagged |
 //! | [`order_of`] | the order of names |
@@ -20,6 +21,7 @@ mod imports;
 mod names;
 mod order;
 mod tags;
+mod typed;
 
 pub use code::{Code, List, ListStyle, is_in_one_line};
 pub use draft::{Draft, append_page, joined};
@@ -27,3 +29,4 @@ pub use imports::{Import, Imports};
 pub use names::TypeName;
 pub use order::order_of;
 pub use tags::{TagNumber, Tagging, class_word};
+pub use typed::append_typed;

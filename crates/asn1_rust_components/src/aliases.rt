@@ -1,5 +1,5 @@
 //! Files that are no type: names for types and tags, and constants.
-use asn1_rust_code::{Draft, TagNumber, TypeName, class_word};
+use asn1_rust_code::{Draft, ListStyle, TagNumber, TypeName, append_typed, class_word, joined};
 use std::alloc::{AllocError, Global};
 
 /// A name for a type.
@@ -34,7 +34,16 @@ pub struct Constant {
     /// The type of the constant.
     pub definition: &'static str,
     /// The value in code.
-    pub value: String,
+    pub value: ConstantValue,
+}
+
+/// The value of a constant in code.
+#[derive(Drop)]
+pub enum ConstantValue {
+    /// A literal.
+    Literal(String),
+    /// The elements of a slice.
+    Elements(Vec<String>),
 }
 
 /// A type that names a tag.
@@ -48,6 +57,9 @@ pub struct Marker {
 
 // The module with the names of types.
 const MODULE: &str = "crate::aliases";
+
+// The number of columns that elements of a slice take at most in one line.
+const ELEMENTS_WIDTH: usize = 60;
 
 /// The file with the names of types.
 pub fn alias_file(alloc: Global, page: &[String], aliases: &[Alias]) -> Result<String, AllocError> {
@@ -106,9 +118,14 @@ fn append_alias(draft: &mut Draft, alias: &Alias) -> Result<(), AllocError> {
     let name = alias.name.as_str();
     let text = alias.definition.text.as_str();
     draft.text(format!(in alloc; "/// {notation}\n")?)?;
-    let front = format!(in alloc; "pub type {name} =")?;
-    let back = format!(in alloc; "{text};")?;
-    draft.definition(0, front.as_str(), back.as_str())?;
+    if text.contains('<') {
+        let front = format!(in alloc; "pub type {name} = ")?;
+        append_typed(draft, 0, front.as_str(), text, ";")?;
+    } else {
+        let front = format!(in alloc; "pub type {name} =")?;
+        let back = format!(in alloc; "{text};")?;
+        draft.definition(0, front.as_str(), back.as_str())?;
+    }
     match &alias.numbers {
         Some(numbers) => append_numbers(draft, name, numbers),
         None => Ok(()),
@@ -124,7 +141,7 @@ fn append_numbers(
     let name = numbers.name.as_str();
     draft.text(format!(in draft.alloc();
         "
-/// The names in a `{alias}`.
+/// The names in `{alias}`.
 pub struct {name};
 
 impl {name} {{
@@ -146,9 +163,38 @@ fn append_constant(draft: &mut Draft, depth: usize, constant: &Constant) -> Resu
     let name = constant.name.as_str();
     let definition = constant.definition;
     let front = format!(in alloc; "pub const {name}: {definition} =")?;
-    let value = constant.value.as_str();
-    let back = format!(in alloc; "{value};")?;
-    draft.definition(depth, front.as_str(), back.as_str())
+    match &constant.value {
+        ConstantValue::Literal(value) => {
+            let value = value.as_str();
+            let back = format!(in alloc; "{value};")?;
+            draft.definition(depth, front.as_str(), back.as_str())
+        }
+        ConstantValue::Elements(elements) => {
+            append_elements(draft, depth, front.as_str(), elements.as_slice())
+        }
+    }
+}
+
+// Appends a constant that is a slice. Elements that are too many for one line are side by side in several.
+fn append_elements(
+    draft: &mut Draft,
+    depth: usize,
+    front: &str,
+    elements: &[String],
+) -> Result<(), AllocError> {
+    let alloc = draft.alloc();
+    let mut texts = Vec::new(alloc);
+    for element in elements {
+        texts.push(element.as_str())?;
+    }
+    let line = joined(alloc, texts.as_slice(), ", ")?;
+    let line = line.as_str();
+    if line.len() <= ELEMENTS_WIDTH {
+        let back = format!(in alloc; "&[{line}];")?;
+        return draft.definition(depth, front, back.as_str());
+    }
+    let opening = format!(in alloc; "{front} &[")?;
+    draft.list(depth, opening.as_str(), elements, "];", ListStyle::Elements)
 }
 
 // Appends a type that names a tag.

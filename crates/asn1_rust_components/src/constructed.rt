@@ -8,7 +8,7 @@ use crate::table::append_table;
 use crate::trees::{append_trees, tree_code};
 use crate::writer::append_field_writer;
 use asn1_notation::TagClass;
-use asn1_rust_code::{Draft, TagNumber};
+use asn1_rust_code::{Draft, TagNumber, append_typed};
 use std::alloc::AllocError;
 
 /// The kind of a type of components.
@@ -146,14 +146,14 @@ fn append_field(draft: &mut Draft, component: &Component) -> Result<(), AllocErr
     let comment = format!(in alloc; "/// {notation}")?;
     draft.line(1, comment.as_str())?;
     let field = component.field.as_str();
-    let front = format!(in alloc; "pub {field}:")?;
+    let front = format!(in alloc; "pub {field}: ")?;
     let text = component.definition.text.as_str();
-    let back = if has_option(component) {
-        format!(in alloc; "Option<{text}>,")?
+    if has_option(component) {
+        let text = format!(in alloc; "Option<{text}>")?;
+        append_typed(draft, 1, front.as_str(), text.as_str(), ",")
     } else {
-        format!(in alloc; "{text},")?
-    };
-    draft.definition(1, front.as_str(), back.as_str())
+        append_typed(draft, 1, front.as_str(), text, ",")
+    }
 }
 
 // Whether the field of a component is an option.

@@ -11,7 +11,7 @@
 //! | [`ChoiceType`], [`Alternative`], [`Tree`] | the alternatives of a CHOICE, and tags with which they begin |
 //! | [`Enumeration`], [`Item`] | the items of an ENUMERATED |
 //! | [`RestrictedString`], [`Sizes`] | a string with constraints |
-//! | [`Alias`], [`NamedNumbers`], [`Marker`], [`Constant`] | names for types, types that name tags, and constants |
+//! | [`Alias`], [`NamedNumbers`], [`Marker`], [`Constant`], [`ConstantValue`] | names for types, types that name tags, and constants |
 //! | [`append_sequence`], [`append_set`], [`append_group`] | the code of a type of components |
 //! | [`append_type`], [`append_table_head`], [`append_table_tail`], [`append_agreement`], [`append_theorem`], [`append_encode`], [`append_decode`] | the parts of each type |
 //! | [`append_trees`], [`tree_code`], [`constant_of`], [`append_entry`] | constants of trees, and lists in ghost members |
@@ -31,7 +31,9 @@ mod table;
 mod trees;
 mod writer;
 
-pub use aliases::{Alias, Constant, Marker, NamedNumbers, alias_file, constant_file, marker_file};
+pub use aliases::{
+    Alias, Constant, ConstantValue, Marker, NamedNumbers, alias_file, constant_file, marker_file,
+};
 pub use common::{
     Table, append_agreement, append_decode, append_encode, append_table_head, append_table_tail,
     append_theorem, append_type, identifier_code, owned,

@@ -4,7 +4,10 @@ use crate::constructed::{Kind, Subject, reading_trait};
 use crate::definitions::{Component, Usage};
 use crate::slots::{append_layout, append_slots, slot_path};
 use asn1_rust_code::{Draft, ListStyle};
-use std::alloc::AllocError;
+use std::alloc::{AllocError, Global};
+
+// The number of columns that are left of a line of a field, in front of its comma.
+const FIELD_WIDTH: usize = 87;
 
 /// Appends the trait by which a type is read.
 pub(crate) fn append_reader(draft: &mut Draft, subject: Subject<'_>) -> Result<(), AllocError> {
@@ -70,7 +73,7 @@ fn filled_field(
         Usage::Default(value) => {
             draft.use_names(&["or_default"])?;
             let code = value.code.as_str();
-            format!(in alloc; "{field}: or_default(slots.{slot}, {code})")
+            default_field(alloc, field, slot, code)
         }
         Usage::EmptyList(_) => {
             draft.use_names(&["or_empty"])?;
@@ -78,6 +81,20 @@ fn filled_field(
         }
         _ => format!(in alloc; "{field}: slots.{slot}"),
     }
+}
+
+// A field with the value of its slot, or else its default: in one line, or with a line for each argument.
+fn default_field(alloc: Global, field: &str, slot: &str, code: &str) -> Result<String, AllocError> {
+    let line = format!(in alloc; "{field}: or_default(slots.{slot}, {code})")?;
+    if line.len() <= FIELD_WIDTH {
+        return Ok(line);
+    }
+    format!(in alloc;
+        "{field}: or_default(
+                slots.{slot},
+                {code},
+            )"
+    )
 }
 
 // Appends the call that names a component of a SET that is missing.

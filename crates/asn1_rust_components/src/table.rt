@@ -5,6 +5,9 @@ use crate::definitions::{Component, Usage};
 use asn1_rust_code::{Draft, TagNumber, Tagging};
 use std::alloc::AllocError;
 
+// The number of columns that are left of a line of the table.
+const OPENING_WIDTH: usize = 88;
+
 /// Appends the table of a type.
 pub(crate) fn append_table(draft: &mut Draft, subject: Subject<'_>) -> Result<(), AllocError> {
     let alloc = draft.alloc();
@@ -79,10 +82,10 @@ fn append_arm(
     match &component.usage {
         Usage::Group(constant) => {
             let arguments = [number.as_str(), constant.as_str(), name.as_str()];
-            draft.call(3, opening.as_str(), &arguments, ")),")
+            append_call(draft, opening.as_str(), &arguments)
         }
         _ => match component.tagging {
-            Tagging::Untagged => draft.call(3, opening.as_str(), &arguments, ")),"),
+            Tagging::Untagged => append_call(draft, opening.as_str(), &arguments),
             Tagging::Implicit(tag) => {
                 append_tagged(draft, opening.as_str(), number.as_str(), tag, name.as_str())
             }
@@ -102,7 +105,23 @@ fn append_tagged(
     name: &str,
 ) -> Result<(), AllocError> {
     let tag = draft.tag_code(tag)?;
-    draft.call(3, opening, &[number, tag.as_str(), name], ")),")
+    append_call(draft, opening, &[number, tag.as_str(), name])
+}
+
+// Appends the call that makes the line of a component. A type that is too long for the line of the call has one of its own.
+fn append_call(draft: &mut Draft, opening: &str, arguments: &[&str]) -> Result<(), AllocError> {
+    match opening.split_once("::<") {
+        Some((call, rest)) if opening.len() > OPENING_WIDTH => {
+            let alloc = draft.alloc();
+            let line = format!(in alloc; "{call}::<")?;
+            draft.line(3, line.as_str())?;
+            let definition = rest.trim_end_matches(">(");
+            let line = format!(in alloc; "{definition},")?;
+            draft.line(4, line.as_str())?;
+            draft.call(3, ">(", arguments, ")),")
+        }
+        _ => draft.call(3, opening, arguments, ")),"),
+    }
 }
 
 // The call that makes the line of a component.

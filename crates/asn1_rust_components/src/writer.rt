@@ -15,18 +15,14 @@ pub(crate) fn append_field_writer(
     draft.use_names(&["Encode", "EncodeError", "EncodeFields", "Encoder"])?;
     draft.text(format!(in draft.alloc(); "impl EncodeFields for {name} {{\n")?)?;
     if components.is_empty() {
-        return draft.text(format!(in draft.alloc();
-            "    fn encode_field<E: Encoder>(
-        &self,
-        _index: usize,
-        _encoder: &mut E,
-    ) -> Result<(), EncodeError> {{
-        Ok(())
-    }}
-}}
-
-"
-        )?);
+        draft.line(
+            1,
+            "fn encode_field<E: Encoder>(&self, _index: usize, _encoder: &mut E) -> Result<(), EncodeError> {",
+        )?;
+        draft.line(2, "Ok(())")?;
+        draft.line(1, "}")?;
+        draft.line(0, "}")?;
+        return draft.blank();
     }
     draft.line(
         1,

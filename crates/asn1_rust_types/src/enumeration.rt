@@ -117,22 +117,33 @@ fn rows_of(alloc: Global, name: &str, items: &[Item]) -> Result<Vec<String>, All
     Ok(rows)
 }
 
-// Appends a constant with items, a line for each, or more.
+// Appends a constant with items, a line for each, or more. The brackets of a single item are those of the list.
 fn append_rows(
     draft: &mut Draft,
     opening: &str,
     name: &str,
     items: &[Item],
 ) -> Result<(), AllocError> {
+    if let [item] = items {
+        let opening = format!(in draft.alloc(); "{opening}(")?;
+        return append_row(draft, 0, opening.as_str(), name, item, ")];");
+    }
     draft.line(0, opening)?;
     for item in items {
-        append_row(draft, name, item)?;
+        append_row(draft, 1, "(", name, item, "),")?;
     }
     draft.line(0, "];")
 }
 
-// Appends an item of a constant.
-fn append_row(draft: &mut Draft, name: &str, item: &Item) -> Result<(), AllocError> {
+// Appends an item of a constant between these brackets.
+fn append_row(
+    draft: &mut Draft,
+    depth: usize,
+    opening: &str,
+    name: &str,
+    item: &Item,
+    closing: &str,
+) -> Result<(), AllocError> {
     let alloc = draft.alloc();
     let variant = item.variant.as_str();
     let variant = format!(in alloc; "{name}::{variant}")?;
@@ -141,7 +152,7 @@ fn append_row(draft: &mut Draft, name: &str, item: &Item) -> Result<(), AllocErr
     let asn1_name = item.name.as_str();
     let asn1_name = format!(in alloc; "\"{asn1_name}\"")?;
     let parts = [variant.as_str(), number.as_str(), asn1_name.as_str()];
-    draft.call(1, "(", &parts, "),")
+    draft.call(depth, opening, &parts, closing)
 }
 
 // Appends `EnumeratedItems`.

@@ -7,7 +7,7 @@ use asn1_schema::{Any, BitString, Integer, ObjectIdentifier, SetOf};
 /// `Version ::= INTEGER { v1(0), v2(1), v3(2) }`
 pub type Version = Integer;
 
-/// The names in a `Version`.
+/// The names in `Version`.
 pub struct VersionNames;
 
 impl VersionNames {

@@ -12,7 +12,7 @@ pub type SubjectKeyIdentifier = KeyIdentifier;
 /// `KeyUsage ::= BIT STRING { digitalSignature(0), nonRepudiation(1), keyEncipherment(2), dataEncipherment(3), keyAgreement(4), keyCertSign(5), cRLSign(6), encipherOnly(7), decipherOnly(8) }`
 pub type KeyUsage = BitString;
 
-/// The names in a `KeyUsage`.
+/// The names in `KeyUsage`.
 pub struct KeyUsageNames;
 
 impl KeyUsageNames {

@@ -16,4 +16,5 @@ returns c =
           (λ problems. (problems.items ≡ []) ↔ All (IsFreeOfClashes c.args.schema.now) (types_of c.args.schema.now))
           (λ problems accepted. (λ none. free.0 (accepted.0 none), λ all. accepted.1 (free.1 all)))
           c.check_constructed.ensures.accepted;
+      errors = c.check_constructed.ensures.errors;
     }
