@@ -207,24 +207,61 @@ pub(crate) fn definition_lines(
     Ok(lines)
 }
 
+// Where a character of a definition is.
+#[derive(Clone, Copy)]
+struct Nesting {
+    // In how many brackets of any kind.
+    depth: usize,
+    // Whether in a string of characters.
+    is_quoted: bool,
+}
+
+impl Nesting {
+    // Behind this character.
+    fn after(self, character: char) -> Nesting {
+        let Nesting { depth, is_quoted } = self;
+        match character {
+            '"' => Nesting {
+                depth,
+                is_quoted: !is_quoted,
+            },
+            '{' | '(' | '[' if !is_quoted => Nesting {
+                depth: depth.saturating_add(1),
+                is_quoted,
+            },
+            '}' | ')' | ']' if !is_quoted => Nesting {
+                depth: depth.saturating_sub(1),
+                is_quoted,
+            },
+            _ => self,
+        }
+    }
+
+    // Whether in the outermost braces alone.
+    fn is_outermost(self) -> bool {
+        self.depth == 1 && !self.is_quoted
+    }
+}
+
 // Appends the lines of a definition: a new one behind its first brace, behind each comma in its braces, and at its last brace.
 fn push_parts(alloc: Global, lines: &mut Vec<String>, definition: &str) -> Result<(), AllocError> {
     let mut line = String::new(alloc);
-    let mut depth = 0usize;
+    let mut nesting = Nesting {
+        depth: 0,
+        is_quoted: false,
+    };
     for character in definition.chars() {
-        if character == '{' {
-            depth = depth.saturating_add(1);
-        }
-        if character == '}' && depth == 1 {
+        if character == '}' && nesting.is_outermost() {
             lines.push(take_line(alloc, &mut line)?)?;
         }
-        if character == '}' {
-            depth = depth.saturating_sub(1);
-        }
+        nesting = nesting.after(character);
         if character != ' ' || !is_blank(line.as_str()) {
             line.push(character)?;
         }
-        if depth == 1 && (character == '{' || character == ',') && !is_blank(line.as_str()) {
+        if nesting.is_outermost()
+            && (character == '{' || character == ',')
+            && !is_blank(line.as_str())
+        {
             lines.push(take_line(alloc, &mut line)?)?;
             line.push_str("    ")?;
         }
