@@ -1,7 +1,7 @@
 #!/usr/bin/env python3
 """Compiles the modules of examples/modules with asn1_compile, and compares the crates that are made of them with what it prints.
 
-    bench/compile.py [--try] [--prove NAME] [--round-trip NAME]
+    bench/compile.py [--try] [--prove NAME] [--round-trip NAME] [--layout NUMBER]
 
 The program is the one that is built (`rt run` in crates/asn1_compile builds it), or with `--try` it is run before its proof, by
 `rt try`. Each module has to compile. Where a crate of the table is in crates/, its src/ and proofs/ have to be the files that are
@@ -13,11 +13,15 @@ and with their line in crates.txt; `rt fmt` has to leave them as they are, and `
 program beside them in such a clone reads values of these types in DER and writes them again: each has to come back as the octets that
 were read. The values are the lines of NAME.der.txt, and for certificates those of examples/certificates. `rt try` runs the program.
 
+With `--layout` modules of types with random names, the first from this number and three more, are printed, and `rt fmt` has to leave
+the files as they are.
+
 The status is 0 if all is as it has to be.
 """
 import contextlib
 import os
 import pathlib
+import random
 import shutil
 import subprocess
 import sys
@@ -243,8 +247,79 @@ def round_trip(name, clone):
     print(f"{name}: {len(values)} values")
 
 
+# Types that need no other.
+PLAIN = ["BOOLEAN", "INTEGER", "INTEGER (0..255)", "INTEGER (-5..70000)", "NULL", "OCTET STRING", "BIT STRING", "OBJECT IDENTIFIER",
+         "UTF8String", "PrintableString (SIZE (1..64))", "GeneralizedTime", "SEQUENCE OF INTEGER", "SET OF SEQUENCE OF INTEGER (0..100000)"]
+
+
+class Module:
+    """A module of types with random names."""
+
+    def __init__(self, number, count):
+        self.random = random.Random(number)
+        self.types, self.enumerations, lines = list(PLAIN), [], []
+        for index in range(count):
+            name = self.name(index)
+            name = name[0].upper() + name[1:]
+            lines.append(f"{name} ::= {self.definition(name)}")
+            self.types.append(name)
+        for index in range(count // 8):
+            arcs = " ".join(str(self.random.randrange(100000)) for _ in range(self.random.randrange(20)))
+            lines.append(f"{self.name(index)}Value OBJECT IDENTIFIER ::= {{ 1 2 {arcs} }}")
+        self.text = "\n".join(["Generated DEFINITIONS AUTOMATIC TAGS ::= BEGIN", *lines, "END", ""])
+
+    def name(self, index):
+        """A name that ends with a number."""
+        words = ("".join(self.random.choices("abcdefghijklmnopqrstuvwxyz", k=self.random.randrange(1, 9))) for _ in range(self.random.randrange(1, 4)))
+        return "q" + "".join(word.capitalize() for word in words) + str(index)
+
+    def definition(self, name):
+        """A type."""
+        kind = self.random.choice(["SEQUENCE", "SEQUENCE", "SET", "CHOICE", "ENUMERATED", "alias", "tag"])
+        if kind == "alias":
+            return self.random.choice(["", "SEQUENCE OF ", "SET OF "]) + self.random.choice(self.types)
+        if kind == "tag":
+            return f"[APPLICATION {self.random.randrange(99)}] EXPLICIT SEQUENCE {{ {self.name(0)} NULL }}"
+        parts = [self.part(kind, index) for index in range(self.random.randrange(1, 16))]
+        if kind == "ENUMERATED":
+            self.enumerations.append((name, parts))
+        if self.random.random() < 0.4:
+            parts = [*parts, "...", *(self.part(kind, index + 20) for index in range(self.random.randrange(3)))]
+            if kind == "SEQUENCE":
+                parts.append(f"[[ {self.part('SET', 30)}, {self.part('SET', 31)} ]]")
+        return f"{kind} {{ {', '.join(parts)} }}"
+
+    def part(self, kind, index):
+        """A component, an alternative or an item."""
+        name = self.name(index)
+        if kind == "ENUMERATED":
+            return name
+        usage = self.random.random() if kind != "CHOICE" else 1
+        if usage < 0.3 and self.enumerations:
+            enumeration, items = self.random.choice(self.enumerations)
+            return f"{name} {enumeration} DEFAULT {self.random.choice(items)}"
+        return f"{name} {self.random.choice(self.types)}{' OPTIONAL' if usage < 0.5 else ''}"
+
+
+def lay_out(number):
+    """Prints a generated module, which `rt fmt` has to leave as it is."""
+    written, told, status = run(["generated"], Module(number, 60).text)
+    expect(f"module {number}: errors and status", ([line for line in told.splitlines() if ": warning: " not in line], status), ([], 0))
+    files = files_of(written)
+    with tempfile.TemporaryDirectory() as place:
+        top = pathlib.Path(place)
+        (top / "crates.txt").write_text("generated: asn1_schema asn1_tags\n")
+        subprocess.run(["git", "init", "-q", "."], cwd=top, check=True)
+        lay(top / "crates" / "generated", files)
+        subprocess.run(["rt", "fmt"], cwd=top / "crates" / "generated", check=True, stdout=subprocess.DEVNULL)
+        for path, text in files.items():
+            expect(f"module {number}: {path} after rt fmt", (top / "crates" / "generated" / path).read_text() == text, True)
+    print(f"module {number}: {len(files)} files")
+
+
 WRONG = "M DEFINITIONS ::= BEGIN\nA ::= B\nC ::= SEQUENCE { a NULL, a NULL }\nEND\n"
 RIGHT = "M DEFINITIONS ::= BEGIN\nA ::= SEQUENCE { a NULL }\nEND\n"
+CLASH = "M DEFINITIONS ::= BEGIN\nA ::= SEQUENCE { a NULL OPTIONAL, b NULL }\nEND\n"
 
 
 def try_arguments():
@@ -254,11 +329,16 @@ def try_arguments():
         expect(f"{arguments}", (written, told != "", status), ("", True, 2))
     written, told, status = run(["x"], WRONG)
     expect("a module with errors", (written, [line[:7] for line in told.splitlines()], status), ("", ["-:2:7: ", "-:3:26:"], 1))
+    expect("components that share a tag", run(["x"], CLASH),
+           ("", "-:2:35: components 'a' and 'b' can both begin with [UNIVERSAL 5]\n", 1))
     expect("no module", run(["x"], ""), ("", "-:1:1: there is no module\n", 1))
     twice = RIGHT + RIGHT.replace("M", "N", 1)
     expect("a type of two modules that exists", run(["x", "--extern", "A=y::A"], twice),
            ("", "error: several modules define the type 'A'; name one as MODULE.A\n", 1))
     expect("one of them that exists", run(["x", "--check", "--extern", "N.A=y::A"], twice), ("", "", 0))
+    expect("a module that exists", run(["x", "--check", "--extern-module", "N=y"], twice), ("", "", 0))
+    expect("a module that is not there", run(["x", "--extern-module", "O=y"], twice),
+           ("", "error: no module 'O' defines a type\n", 1))
     many = "M DEFINITIONS AUTOMATIC TAGS ::= BEGIN\nA ::= SEQUENCE { ..., " + ", ".join(f"a{i} NULL" for i in range(145)) + " }\nEND\n"
     expect("145 additions", run(["x"], many), ("", "-:2:23: a type of more than 144 components is not supported\n", 1))
     unnamed = "M DEFINITIONS ::= BEGIN\nA ::= SEQUENCE OF SEQUENCE { a NULL }\nB ::= [1] CHOICE { a NULL }\nEND\n"
@@ -280,6 +360,8 @@ def try_arguments():
         two[1].write_text("N DEFINITIONS ::= BEGIN\nB ::= NULL\nEND\n")
         expect("two files", run(["x", "--check", *map(str, two)]), ("", "", 0))
         expect("a file that is not there", run(["x", str(two[0]), f"{place}/none"])[2], 2)
+        written, told, status = run(["x", "--out", str(two[0])], RIGHT)
+        expect("a folder that is a file", (written, told.startswith(f"error: {two[0]}/src/"), status), ("", True, 2))
 
 
 def named_by(option):
@@ -300,7 +382,11 @@ def prove_or_run():
 
 
 def main():
-    if "--prove" in sys.argv or "--round-trip" in sys.argv:
+    if "--layout" in sys.argv:
+        first = int(named_by("--layout"))
+        for number in range(first, first + 4):
+            lay_out(number)
+    elif "--prove" in sys.argv or "--round-trip" in sys.argv:
         prove_or_run()
     else:
         for name, (crate, _, _) in TABLE.items():
