@@ -1,8 +1,8 @@
 //! The alternatives of CHOICE types.
 use crate::components::{steps_of, tree_of};
+use crate::defaults::last_index;
 use crate::notation::part_line;
 use crate::plan::Plan;
-use crate::tags::{Beginning, first_tags, universal};
 use crate::types::PartTexts;
 use asn1_names::Place;
 use asn1_resolved::{Alternative, Alternatives, Type, TypeKind};
@@ -66,13 +66,26 @@ pub(crate) fn alternative_with(
     })
 }
 
-// Whether the type of an alternative begins with the tag of NULL, below a tag that it has there.
+// Whether a type is NULL, by references and below tags too.
 fn is_null(plan: &Plan<'_, '_>, definition: &Type<'_>) -> bool {
-    let beginning = match &definition.kind {
-        TypeKind::Tagged(_, inner) => first_tags(plan.request.schema, inner, steps_of(plan)),
-        _ => first_tags(plan.request.schema, definition, steps_of(plan)),
-    };
-    beginning == Beginning::Leaf(universal(5))
+    let schema = plan.request.schema;
+    match last_index(schema, definition, steps_of(plan)) {
+        Some(index) => match schema.types.get(index) {
+            Some(referred) => is_null_below_tags(&referred.definition),
+            None => false,
+        },
+        None => is_null_below_tags(definition),
+    }
+}
+
+// Whether a type is NULL below its tags.
+#[cycle(null)]
+fn is_null_below_tags(definition: &Type<'_>) -> bool {
+    match &definition.kind {
+        TypeKind::Tagged(_, inner) => is_null_below_tags(inner),
+        TypeKind::Null => true,
+        _ => false,
+    }
 }
 
 /// The name of a variant: another, if it is a word of clauses.

@@ -141,8 +141,12 @@ fn next_of(definition: &Type<'_>) -> Option<usize> {
     }
 }
 
-// The index of the definition that a type is, with references followed at most so many times; `None` if it is no reference.
-fn last_index(schema: &Schema<'_>, definition: &Type<'_>, steps: usize) -> Option<usize> {
+/// The index of the definition that a type is, with references followed at most so many times; `None` if it is no reference.
+pub(crate) fn last_index(
+    schema: &Schema<'_>,
+    definition: &Type<'_>,
+    steps: usize,
+) -> Option<usize> {
     let mut last = next_of(definition)?;
     for _ in 0..steps {
         let next = match schema.types.get(last) {

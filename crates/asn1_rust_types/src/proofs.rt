@@ -42,23 +42,20 @@ fn push_choice_proof(
     alternatives: &[Alternative],
 ) -> Result<(), AllocError> {
     match alternatives {
-        [only] => {
-            if needs_answer(file, only) {
-                proofs.push(only_proof(alloc, file, only)?)?;
-                return Ok(());
-            }
-            push_arms_proof(alloc, proofs, file, alternatives)
+        // No answer holds of NULL, and the check needs none.
+        [only] if only.is_null => Ok(()),
+        [only] if needs_answer(file, only) => {
+            proofs.push(only_proof(alloc, file, only)?)?;
+            Ok(())
         }
         _ => push_arms_proof(alloc, proofs, file, alternatives),
     }
 }
 
-// Whether the check may not prove the writer of the only alternative by itself. It does of NULL and behind an explicit tag, where
-// the answer would not hold, and names that are one could not be told apart there.
+// Whether the check may not prove the writer of the only alternative by itself. It does behind an explicit tag, where the answer
+// would not hold, and names that are one could not be told apart there.
 fn needs_answer(file: &TypeFile, only: &Alternative) -> bool {
-    !matches!(only.tagging, Tagging::Explicit(_))
-        && !only.is_null
-        && only.variant.as_str() != file.name.as_str()
+    !matches!(only.tagging, Tagging::Explicit(_)) && only.variant.as_str() != file.name.as_str()
 }
 
 // Appends the proof of the arms of a writer of alternatives.
