@@ -2,12 +2,14 @@
 use Rattle.std.proofs.Common.{◌≡◌, Bool, true, false, ◌&&◌, List, [], ◌∷◌, ◌++◌, refl, sym, ◌∙◌, ap}
 use Rattle.std.specs.List.{All, AllZip, list_all}
 use Rattle.std.specs.List.Sorted.{IsPermutation}
+use Rattle.std.proofs.lemmas.List.Elements.{All-cons, All-head, All-nil, All-tail}
 use Rattle.std.proofs.lemmas.List.Folds.{list_all-append}
 use Rattle.std.proofs.lemmas.List.Sorted.{All-permutation, IsPermutation-sym}
 use Rattle.asn1_compilation.specs.Messages.{AreMessagesOf, IsMessageOf, is_warning, accepts}
 use Rattle.asn1_compilation.specs.declared.message.Message.{Message}
 use Rattle.asn1_module_check.specs.Errors.{IsError}
 use Rattle.asn1_resolved.specs.declared.problem.Problem.{Problem}
+use Rattle.asn1_resolved.specs.declared.problem.Severity.TheVariants.{Error}
 use Rattle.asn1_resolver.specs.Accepted as resolved
 
 -- The problem is a warning.
@@ -31,17 +33,16 @@ both_parts false b first second = cc
 pub all_warnings : (problems : List Problem) → All IsWarning problems → resolved.accepts problems ≡ true
 all_warnings [] warnings = refl
 all_warnings (p ∷ ps) warnings =
-    both_parts (is_warning p.severity) (resolved.accepts ps) warnings.0 (all_warnings ps warnings.1)
+    both_parts (is_warning p.severity) (resolved.accepts ps) (All-head IsWarning p ps warnings) (all_warnings ps (All-tail IsWarning p ps warnings))
 
 -- each problem of messages without an error is a warning
 pub told_warnings : (problems : List Problem) (messages : List Message) → AllZip IsMessageOf problems messages →
     accepts messages ≡ true → All IsWarning problems
-told_warnings [] messages told accepted = tt
+told_warnings [] messages told accepted = All-nil IsWarning
 told_warnings (p ∷ ps) [] told accepted = absurd told
-told_warnings (p ∷ ps) (m ∷ ms) told accepted = (
-  ap is_warning (sym told.0.severity) ∙ first_part (is_warning m.severity) (accepts ms) accepted,
-  told_warnings ps ms told.1 (second_part (is_warning m.severity) (accepts ms) accepted),
-)
+told_warnings (p ∷ ps) (m ∷ ms) told accepted =
+    All-cons IsWarning p ps (ap is_warning (sym told.0.severity) ∙ first_part (is_warning m.severity) (accepts ms) accepted)
+    (told_warnings ps ms told.1 (second_part (is_warning m.severity) (accepts ms) accepted))
 
 pub accepted_if_told : (problems : List Problem) (messages : List Message) → AreMessagesOf problems messages →
     accepts messages ≡ true → resolved.accepts problems ≡ true
@@ -59,7 +60,8 @@ pub no_errors : (errors : List Problem) → All IsError errors → resolved.acce
 no_errors [] all accepted = refl
 no_errors (p ∷ ps) all accepted =
     let warning : is_warning p.severity ≡ true = first_part (is_warning p.severity) (resolved.accepts ps) accepted in
-    let severity = all.0 in cc
+    let severity : p.severity ≡ Error = All-head IsError p ps all in
+    let no_warning : is_warning p.severity ≡ false = ap is_warning severity in cc
 
 pub none_between : (front errors rest : List Problem) → All IsError errors → resolved.accepts (front ++ errors ++ rest) ≡ true → errors ≡ []
 none_between front errors rest all accepted =

@@ -17,7 +17,8 @@ pub struct Compiled {
 impl Compiled {
     /// These messages, and these files if no message is an error.
     pub(crate) fn new(messages: Vec<Message>, files: Vec<PrintedFile>) -> Compiled
-        ensures { is_some result.files ≡ spec.accepts result.messages.items }
+        ensures complete { is_some result.files ≡ spec.accepts result.messages.items }
+        ensures told { result.messages.items ≡ messages.items }
     {
         let files = if accepts(messages.as_slice()) {
             Some(files)

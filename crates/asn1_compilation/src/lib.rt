@@ -15,6 +15,8 @@
 //!
 //! - There are files if and only if no message is an error (`complete` of [`compile`]), so nothing is left to write after an
 //!   error.
+//! - There are files only of modules whose names and numbers are resolved, and of types without a clash (`resolved` and `distinct`
+//!   of `compile_resolved` in `stages`).
 //! - The messages for the problems of a stage are one for each, with its severity and its text, in the order of the places
 //!   (`messages_of` in `message`; `AreMessagesOf` in `specs/Messages`).
 //!

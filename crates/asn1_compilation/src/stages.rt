@@ -14,7 +14,7 @@ use crate::problems::syntax_problems;
 use asn1_grammar::{Parsed, parse};
 use asn1_module_check::check_tags;
 use asn1_modules::Source;
-use asn1_print::{Printed, Request, print_crate};
+use asn1_print::{Extern, Printed, Request, print_crate};
 use asn1_resolved::{Problem, Schema};
 use asn1_resolver::{Resolution, resolve};
 use std::alloc::{AllocError, Global};
@@ -91,7 +91,7 @@ fn compile_sources(
 // Compiles resolved modules. Errors in names and numbers are told before those in tags.
 fn compile_resolved<'a>(
     alloc: Global,
-    job: Job<'a>,
+    job: Job<'_>,
     sources: &[Source<'a>],
     resolution: Resolution<'a>,
 ) -> Result<Compiled, AllocError>
@@ -128,7 +128,7 @@ fn refused(alloc: Global, job: Job<'_>, problems: &[Problem]) -> Result<Compiled
 // Compiles a schema, which has these problems already.
 fn compile_schema<'a>(
     alloc: Global,
-    job: Job<'a>,
+    job: Job<'_>,
     sources: &[Source<'a>],
     schema: &Schema<'a>,
     problems: Vec<Problem>,
@@ -146,7 +146,7 @@ fn compile_schema<'a>(
 // Checks the tags of a schema and prints it. Its problems follow those that it has already.
 fn print_checked<'a>(
     alloc: Global,
-    job: Job<'a>,
+    job: Job<'_>,
     sources: &[Source<'a>],
     schema: &Schema<'a>,
     problems: Vec<Problem>,
@@ -165,10 +165,10 @@ fn print_checked<'a>(
 }
 
 // The messages for the problems of a schema, and the errors for arguments that do not fit it.
-fn schema_messages<'a>(
+fn schema_messages(
     alloc: Global,
-    job: Job<'a>,
-    schema: &Schema<'a>,
+    job: Job<'_>,
+    schema: &Schema<'_>,
     problems: &[Problem],
 ) -> Result<Vec<Message>, AllocError>
     ensures { IfOk result (λ messages. IsTrue (spec.accepts messages.items) →
@@ -183,20 +183,31 @@ fn schema_messages<'a>(
 // Prints the files of a schema.
 fn print_schema<'a>(
     alloc: Global,
-    job: Job<'a>,
+    job: Job<'_>,
     sources: &[Source<'a>],
     schema: &Schema<'a>,
 ) -> Result<Printed, AllocError> {
     let known = known_types(alloc, job, schema)?;
-    let mut externs = Vec::from_slice(alloc, job.externs)?;
+    let mut externs = Vec::new(alloc);
     for found in &known {
         externs.push(found.as_extern())?;
     }
+    print_with(alloc, job.crate_name, externs.as_slice(), sources, schema)
+}
+
+// Prints the files of a schema, of which these types exist already.
+fn print_with<'a>(
+    alloc: Global,
+    crate_name: &str,
+    externs: &[Extern<'_>],
+    sources: &[Source<'a>],
+    schema: &Schema<'a>,
+) -> Result<Printed, AllocError> {
     let request = Request {
-        crate_name: job.crate_name,
+        crate_name: &*crate_name,
         sources: &*sources,
         schema: &*schema,
-        externs: externs.as_slice(),
+        externs: &*externs,
     };
     print_crate(alloc, request)
 }
