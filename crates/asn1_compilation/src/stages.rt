@@ -88,7 +88,7 @@ fn compile_sources(
     compile_resolved(alloc, job, sources, resolution)
 }
 
-// Compiles resolved modules. Errors in names and numbers are told before those in tags.
+// Compiles resolved modules. Errors in names and numbers come before those in tags.
 fn compile_resolved<'a>(
     alloc: Global,
     job: Job<'_>,
