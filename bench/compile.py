@@ -1,7 +1,7 @@
 #!/usr/bin/env python3
 """Compiles the modules of examples/modules with asn1_compile, and compares the crates that are made of them with what it prints.
 
-    bench/compile.py [--try] [--prove NAME] [--round-trip NAME] [--layout NUMBER]
+    bench/compile.py [--try] [--prove NAME] [--round-trip NAME] [--layout NUMBER] [--refuse]
 
 The program is the one that is built (`rt run` in crates/asn1_compile builds it), or with `--try` it is run before its proof, by
 `rt try`. Each module has to compile. Where a crate of the table is in crates/, its src/ and proofs/ have to be the files that are
@@ -16,9 +16,13 @@ were read. The values are the lines of NAME.der.txt, and for certificates those 
 With `--layout` modules of types with random names, the first from this number and three more, are printed, and `rt fmt` has to leave
 the files as they are.
 
+With `--refuse` each growth of memory of one run is refused in turn (bench/refuse.rs): the program has to end with the status 2 and
+without a file, or with all of them.
+
 The status is 0 if all is as it has to be.
 """
 import contextlib
+import itertools
 import os
 import pathlib
 import random
@@ -317,6 +321,25 @@ def lay_out(number):
     print(f"module {number}: {len(files)} files")
 
 
+def refuse_growths():
+    """Refuses each growth of a run."""
+    text = (MODULES / "greetings.asn1").read_text()
+    whole = len(files_of(run(["greetings"], text)[0]))
+    with tempfile.TemporaryDirectory() as place:
+        library, folder = pathlib.Path(place) / "librefuse.so", pathlib.Path(place) / "greetings"
+        subprocess.run(["rustc", "-O", "--edition", "2024", "--crate-type", "cdylib", TOP / "bench" / "refuse.rs", "-o", library], check=True)
+        for number in itertools.count(1):
+            shutil.rmtree(folder, ignore_errors=True)
+            ran = subprocess.run([PROGRAM / "out" / "asn1_compile", "greetings", "--out", folder], input=text, capture_output=True,
+                                 text=True, env={"LD_PRELOAD": str(library), "REFUSED": str(number)})
+            files = sum(path.is_file() for path in folder.rglob("*"))
+            if "a growth is refused" not in ran.stderr:
+                expect("no growth refused: status and files", (ran.returncode, files), (0, whole))
+                break
+            expect(f"growth {number}: status and files", (ran.returncode, files) in ((2, 0), (0, whole)), True)
+    print(f"{number - 1} growths refused")
+
+
 WRONG = "M DEFINITIONS ::= BEGIN\nA ::= B\nC ::= SEQUENCE { a NULL, a NULL }\nEND\n"
 RIGHT = "M DEFINITIONS ::= BEGIN\nA ::= SEQUENCE { a NULL }\nEND\n"
 CLASH = "M DEFINITIONS ::= BEGIN\nA ::= SEQUENCE { a NULL OPTIONAL, b NULL }\nEND\n"
@@ -382,7 +405,9 @@ def prove_or_run():
 
 
 def main():
-    if "--layout" in sys.argv:
+    if "--refuse" in sys.argv:
+        refuse_growths()
+    elif "--layout" in sys.argv:
         first = int(named_by("--layout"))
         for number in range(first, first + 4):
             lay_out(number)
