@@ -43,6 +43,9 @@ FILTERS = ["Filter", "AttributeValueAssertion", "SubstringFilter", "MatchingRule
 NAMED = ["CertificateSerialNumber", "DirectoryString", "Name"]
 SIGNED = [*NAMED, "AlgorithmIdentifier", "Certificate", "Extensions", "PKIX1Explicit88.Time", "UniqueIdentifier", "Version"]
 
+# The types of certificates that the modules of their status name.
+ASKED = [*NAMED, "AlgorithmIdentifier", "Certificate", "Extensions"]
+
 # A file of examples/modules: the crate, what the program is told of types that exist already, and the crates of these.
 TABLE = {
     "certificates": ("certificates", [], []),
@@ -51,6 +54,8 @@ TABLE = {
     "greetings": ("greetings", [], []),
     "ldap": ("asn1_ldap", [f"--extern={name}=asn1_recursive::{name}" for name in FILTERS], ["asn1_recursive"]),
     "snmp": ("snmp", [], []),
+    "status": ("status", [*(f"--extern={name}=asn1_x509::{name}" for name in ASKED),
+                          "--extern=GeneralName=asn1_x509_extensions::GeneralName"], ["asn1_x509", "asn1_x509_extensions"]),
     "tickets": ("tickets", [], []),
     "x509": ("asn1_x509", [], []),
     "x509_extensions": ("asn1_x509_extensions", [f"--extern={name}=asn1_x509::{name}" for name in NAMED], ["asn1_x509"]),
