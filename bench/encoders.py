@@ -1,7 +1,7 @@
 #!/usr/bin/env python3
-"""Lines of test_vectors by other programs: what Erlang's asn1ct, asn1c and OpenSSL write in BER, and what they read.
+"""Lines of test_vectors and test_module_types by other programs: what Erlang's asn1ct, asn1c and OpenSSL write in BER, and what they read.
 
-    bench/encoders.py            compares with crates/test_vectors/stdout
+    bench/encoders.py            compares with crates/test_vectors/stdout and crates/test_module_types/stdout
     bench/encoders.py --lines    prints the requests
 
 Types are those of bench/samples.asn1 and examples/modules/ldap.asn1. asn1ct writes sets in the order of their definition or value,
@@ -20,11 +20,11 @@ import sys
 import tempfile
 
 ROOT = pathlib.Path(__file__).resolve().parent.parent
-LINES = ROOT / "crates" / "test_vectors" / "stdout"
+LINES = [ROOT / "crates" / name / "stdout" for name in ("test_vectors", "test_module_types")]
 SAMPLES, LDAP = "Samples", "Lightweight-Directory-Access-Protocol-V3"
 MODULES = {SAMPLES: ROOT / "bench" / "samples.asn1", LDAP: ROOT / "examples" / "modules" / "ldap.asn1"}
 
-# The types of test_vectors that have another name in the modules (an open type has none), and those that have the same.
+# The types of the lines that have another name in the modules (an open type has none), and those that have the same.
 NAMES = {
     "bool": "Flag", "()": "Nothing", "ObjectIdentifier": "Arcs", "BitString": "Bits", "OctetString": "Octets", "String": "Utf8",
     "VisibleString": "Visible", "Plate": "Visible", "PrintableString": "Printable", "NumericString": "Numeric",
@@ -125,7 +125,7 @@ def compiled(folder, *options):
 
 
 def asn1ct(folder, verb, rows):
-    """What asn1ct answers to rows of a type of test_vectors and a term: a value to encode, or octets to decode."""
+    """What asn1ct answers to rows of a type and a term: a value to encode, or octets to decode."""
     tuples = [f"{{{verb}, '{LDAP if name == 'LdapMessage' else SAMPLES}', '{NAMES[name]}', {term}}}" for name, term in rows]
     script = folder / "rows.escript"
     script.write_text(SCRIPT.format(folder, ",\n".join(tuples)))
@@ -180,7 +180,7 @@ def request(line):
 
 def stored():
     """The lines in BER that stand: the request with its source, the type, the octets, and the DER, if they are read."""
-    for line in LINES.read_text().splitlines():
+    for line in (line for lines in LINES for line in lines.read_text().splitlines()):
         asked, _, rest = line.partition(" -> ")
         words, (answer, _, source) = asked.split(" ", 5), rest.partition(" ; ")
         if words[0] == "ber" and words[3:5] == ["read", "der"]:

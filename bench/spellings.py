@@ -4,11 +4,12 @@
     bench/spellings.py --lines COUNT [SEED]
     bench/spellings.py --run COUNT [SEED]
 
-Each value that a line of crates/test_vectors/stdout reads and has in DER is spelled anew, at random, by X.690, 8: lengths in more
-octets than they need, or indefinite; of elements with universal tags also a BOOLEAN that is TRUE by any octet but zero, unused bits of any
-value, strings in pieces, nested, and the elements of sets in another order. The first call prints lines for test_vectors. The second gives lines to the built program
-(`rt run` in crates/test_vectors builds it), whose answer has to be the DER of the value, and damages each line once more: the answer to
-that is an error or a value, and the program ends. The status is 0 if all is as it has to be.
+Each value that a line of crates/test_vectors/stdout reads and has in DER, of a type with lines in BER, is spelled anew, at random, by
+X.690, 8: lengths in more octets than they need, or indefinite; of elements with universal tags also a BOOLEAN that is TRUE by any octet
+but zero, unused bits of any value, strings in pieces, nested, and the elements of sets in another order. The first call prints lines for
+test_vectors. The second gives lines to the built program (`rt run` in crates/test_vectors builds it), whose answer has to be the DER of
+the value, and damages each line once more: the answer to that is an error or a value, and the program ends. The status is 0 if all is
+as it has to be.
 """
 import pathlib
 import random
@@ -24,9 +25,10 @@ OPEN_TYPES = {"Any", "Envelope", "Open", "Notice", "RdnSequence", "Certificate"}
 
 
 def samples():
-    """The types, depths and DER of the values that lines read."""
-    found = {}
-    for line in (CRATE / "stdout").read_text().splitlines():
+    """The types, depths and DER of the values that lines read, of the types with lines in BER."""
+    found, asked = {}, (CRATE / "stdout").read_text().splitlines()
+    kinds = {line.split(" ", 2)[1] for line in asked if line.startswith("ber ")}
+    for line in asked:
         request, _, answer = line.partition(" -> ")
         words, answer = request.split(), answer.partition(" ;")[0].strip()
         if len(words) < 5 or words[3:5] != ["read", "der"] or not answer:
@@ -35,7 +37,7 @@ def samples():
             data = bytes.fromhex(answer)
         except ValueError:
             continue
-        if data:
+        if data and words[1] in kinds:
             found.setdefault((words[1], data), int(words[2]))
     return [(kind, depth, data) for (kind, data), depth in found.items()]
 

@@ -1,20 +1,20 @@
 #!/usr/bin/env python3
-"""Checks lines of test_vectors by another program than the codecs.
+"""Checks lines of test_vectors and test_module_types by another program than the codecs.
 
     python3 bench/vectors.py
 
-goes through crates/test_vectors/stdout. Where a line has a value in two forms, of the packed form, the tag form and DER, one of them is
-made here of the items of the other alone, by the layout that asn1_items defines and by X.690, and compared. A line that was refused as
-not canonical names the bytes as which its value is written: these have to be read by another line, and the position has to be that of
-the first byte in which the two differ. It stops at the first line that is otherwise, and prints how many lines were checked. Left out
-are other refusals, open types by themselves, lines of one form, the lines that read a component that is its DEFAULT, which is
-not written again, and those of BER, which bench/spellings.py and bench/encoders.py make.
+goes through the stored answers of the two programs. Where a line has a value in two forms, of the packed form, the tag form and DER,
+one of them is made here of the items of the other alone, by the layout that asn1_items defines and by X.690, and compared. A line that
+was refused as not canonical names the bytes as which its value is written: these have to be read by another line, and the position has
+to be that of the first byte in which the two differ. It stops at the first line that is otherwise, and prints how many lines were
+checked. Left out are other refusals, open types by themselves, lines of one form, the lines that read a component that is its DEFAULT,
+which is not written again, and those of BER, which bench/spellings.py and bench/encoders.py make.
 """
 import os
 import sys
 
 ROOT = os.path.dirname(os.path.dirname(os.path.abspath(__file__)))
-LINES = os.path.join(ROOT, "crates", "test_vectors", "stdout")
+LINES = [os.path.join(ROOT, "crates", name, "stdout") for name in ("test_vectors", "test_module_types")]
 
 CONTENT, SET, SET_OF, ALTERNATIVE = 1, 3, 5, 7
 SCOPES = range(2, 8)
@@ -194,8 +194,10 @@ def main():
     if len(sys.argv) > 1:
         return print(__doc__.strip())
     checked = left = 0
-    with open(LINES) as file:
-        lines = [(number, line.rstrip("\n")) for number, line in enumerate(file, 1) if line.strip() and line[0] != "#"]
+    lines = []
+    for name in LINES:
+        with open(name) as file:
+            lines += [(number, line.rstrip("\n")) for number, line in enumerate(file, 1) if line.strip() and line[0] != "#"]
     others = [line for _, line in lines if line.startswith("ber ") and line.split()[3] != "canonical"]
     lines = [(number, line) for number, line in lines if line not in others]
     left += len(others)

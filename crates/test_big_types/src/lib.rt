@@ -7,41 +7,27 @@
 //! | [`Member`], [`Reach`], [`Home`], [`Standing`] | a SEQUENCE with three groups of additions, and another addition |
 //! | [`Measurement`] | a CHOICE of 25 alternatives |
 //! | [`Element`] | an ENUMERATED of 46 items |
-//! | [`SignedMessage`], [`Signature`], [`Signer`], [`Person`], [`Method`] | a SEQUENCE with lists of sets, of SEQUENCEs and of a CHOICE, which have lists of sets inside |
-//! | [`Agreement`] | a SEQUENCE with a CHOICE after an explicit tag, an explicit tag that may be absent, and a list |
 //! | [`Dossier`], [`Seal`] | a SEQUENCE with a SET under a tag, which may be absent |
 #![tactic(auto, using(asn1_schema::proofs::Trees::tree_shapes))]
 
 mod address;
-mod agreement;
 mod consignment;
 mod dossier;
 mod element;
 mod home;
 mod measurement;
 mod member;
-mod method;
-mod person;
 mod reach;
 mod seal;
-mod signature;
-mod signed_message;
-mod signer;
 mod standing;
 
 pub use address::{Address, address_is_well_tagged};
-pub use agreement::{Agreement, agreement_is_well_tagged};
 pub use consignment::{Consignment, Strings, consignment_is_well_tagged};
 pub use dossier::{Dossier, dossier_is_well_tagged};
 pub use element::{Element, element_is_well_tagged};
 pub use home::Home;
 pub use measurement::{Measurement, measurement_is_well_tagged};
 pub use member::{Member, member_is_well_tagged};
-pub use method::{Method, Methods, method_is_well_tagged};
-pub use person::{Person, person_is_well_tagged};
 pub use reach::Reach;
 pub use seal::{Seal, seal_is_well_tagged};
-pub use signature::{Signature, SignatureList, Signatures, signature_is_well_tagged};
-pub use signed_message::{SignedMessage, signed_message_is_well_tagged};
-pub use signer::{Signer, Signers, signer_is_well_tagged};
 pub use standing::Standing;

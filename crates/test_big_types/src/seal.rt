@@ -1,23 +1,25 @@
-//! `Seal ::= SET { year INTEGER OPTIONAL, place UTF8String, methods SET OF Method }`
+//! `Seal ::= SET { year INTEGER OPTIONAL, place UTF8String, methods SET OF OBJECT IDENTIFIER }`
 ghost use Rattle.std.specs.Prelude.{[], codes, ◌∷◌};
 ghost use Rattle.asn1_schema.specs.Words.{IsWellTagged, constructed_agrees, constructed_type, optional_slot, required_slot, set_of_slots, untagged};
 
-use crate::method::Methods;
 use asn1_schema::{
     AsnType, Constraints, ConstructedType, Decode, DecodeError, DecodeSetByIndex, Decoded, Decoder,
-    Field, FieldTable, Identifier, Integer, Tag, Tagging, TypeTable, Utf8String,
-    decode_set_by_index, decode_unique, missing,
+    Field, FieldTable, Identifier, Integer, ObjectIdentifier, SetOf, Tag, Tagging, TypeTable,
+    Utf8String, decode_set_by_index, decode_unique, missing,
 };
 use std::alloc::{AllocError, Global};
 
-/// A seal: a SET with a list of sets.
+/// `SET OF OBJECT IDENTIFIER`
+pub type Methods = SetOf<ObjectIdentifier>;
+
+/// A seal: a SET with a SET OF inside.
 #[derive(PartialEq, Eq, Debug, Drop)]
 pub struct Seal {
     /// `year INTEGER OPTIONAL`
     pub year: Option<Integer>,
     /// `place UTF8String`
     pub place: Utf8String,
-    /// `methods SET OF Method`
+    /// `methods SET OF OBJECT IDENTIFIER`
     pub methods: Methods,
 }
 

@@ -1,25 +1,6 @@
-//! The types of requests, by their names.
-use crate::hollow::Hollow;
-use crate::marker_tags::{ApplicationTag, ContextTag, PrivateTag};
+//! Types by their names, in lists.
 use asn1_dec::Decode;
 use asn1_enc::Encode;
-use asn1_ldap::LdapMessage;
-use asn1_open::Open;
-use asn1_recursive::{Filter, Nested};
-use asn1_samples::personnel::PersonnelRecord;
-use asn1_samples::{
-    Badge, Color, Corner, Envelope, Gauge, Labelled, Node, Notice, Pair, Person, Plate, Profile,
-    Settings, Shape, Ticket, Visit,
-};
-use asn1_types::{Any, Array, Explicit, Implicit, InstanceOf, SetOf, tag};
-use asn1_user_types::Price;
-use asn1_values::{
-    BitString, BmpString, ConstrainedInteger, GeneralString, GraphicString, Ia5String, Integer,
-    NumericString, ObjectIdentifier, OctetString, PrintableString, TeletexString, VisibleString,
-};
-use asn1_x509::RdnSequence;
-use std::borrow::Cow;
-use std::marker::PhantomData;
 
 /// A case of many types.
 pub trait TypeCase {
@@ -30,162 +11,18 @@ pub trait TypeCase {
     fn try_type<T: Encode + Decode>(&self) -> Self::Answer;
 }
 
-type OneToTen = ConstrainedInteger<1, 10>;
-
-/// `[0] IMPLICIT T`
-type Tagged<T> = Implicit<ContextTag<0>, T>;
-
-/// `[APPLICATION 3] IMPLICIT VisibleString`
-type Type2 = Implicit<ApplicationTag<3>, VisibleString>;
-
-/// The answer of the type of this name, if there is one.
-pub fn try_named<C: TypeCase>(case: &C, name: &str) -> Option<C::Answer> {
-    number(case, name)
+/// A list of types. A case is compiled for each type of its list, so a list has no more types than are asked for.
+pub trait TypeNames {
+    /// The answer of the type of this name, if it is in the list.
+    fn try_named<C: TypeCase>(&self, case: &C, name: &str) -> Option<C::Answer>;
 }
 
-/// Those whose values are numbers.
-fn number<C: TypeCase>(case: &C, name: &str) -> Option<C::Answer> {
-    match name {
-        "bool" => Some(case.try_type::<bool>()),
-        "()" => Some(case.try_type::<()>()),
-        "u8" => Some(case.try_type::<u8>()),
-        "u16" => Some(case.try_type::<u16>()),
-        "u32" => Some(case.try_type::<u32>()),
-        "u64" => Some(case.try_type::<u64>()),
-        "usize" => Some(case.try_type::<usize>()),
-        "i8" => Some(case.try_type::<i8>()),
-        "i16" => Some(case.try_type::<i16>()),
-        "i32" => Some(case.try_type::<i32>()),
-        "i64" => Some(case.try_type::<i64>()),
-        "i128" => Some(case.try_type::<i128>()),
-        "isize" => Some(case.try_type::<isize>()),
-        "Integer" => Some(case.try_type::<Integer>()),
-        "1..10" => Some(case.try_type::<OneToTen>()),
-        "ObjectIdentifier" => Some(case.try_type::<ObjectIdentifier>()),
-        _ => string(case, name),
-    }
-}
-
-/// Strings, and open types.
-fn string<C: TypeCase>(case: &C, name: &str) -> Option<C::Answer> {
-    match name {
-        "BitString" => Some(case.try_type::<BitString>()),
-        "OctetString" => Some(case.try_type::<OctetString>()),
-        "String" => Some(case.try_type::<String>()),
-        "VisibleString" => Some(case.try_type::<VisibleString>()),
-        "GeneralString" => Some(case.try_type::<GeneralString>()),
-        "GraphicString" => Some(case.try_type::<GraphicString>()),
-        "Ia5String" => Some(case.try_type::<Ia5String>()),
-        "PrintableString" => Some(case.try_type::<PrintableString>()),
-        "NumericString" => Some(case.try_type::<NumericString>()),
-        "TeletexString" => Some(case.try_type::<TeletexString>()),
-        "BmpString" => Some(case.try_type::<BmpString>()),
-        "Any" => Some(case.try_type::<Any>()),
-        _ => list(case, name),
-    }
-}
-
-/// Lists and sets of values.
-fn list<C: TypeCase>(case: &C, name: &str) -> Option<C::Answer> {
-    match name {
-        "Vec<bool>" => Some(case.try_type::<Vec<bool>>()),
-        "Vec<u8>" => Some(case.try_type::<Vec<u8>>()),
-        "[u8;2]" => Some(case.try_type::<[u8; 2]>()),
-        "Array<bool,2>" => Some(case.try_type::<Array<bool, 2>>()),
-        "Vec<1..10>" => Some(case.try_type::<Vec<OneToTen>>()),
-        "Vec<()>" => Some(case.try_type::<Vec<()>>()),
-        "Vec<OctetString>" => Some(case.try_type::<Vec<OctetString>>()),
-        "Vec<PhantomData>" => Some(case.try_type::<Vec<PhantomData<u8>>>()),
-        "Vec<Vec<bool>>" => Some(case.try_type::<Vec<Vec<bool>>>()),
-        "Vec<Person>" => Some(case.try_type::<Vec<Person>>()),
-        "SetOf<u16>" => Some(case.try_type::<SetOf<u16>>()),
-        "SetOf<u8>" => Some(case.try_type::<SetOf<u8>>()),
-        "SetOf<i32>" => Some(case.try_type::<SetOf<i32>>()),
-        _ => wrapper(case, name),
-    }
-}
-
-/// Types that hold a value, or put it under a tag.
-fn wrapper<C: TypeCase>(case: &C, name: &str) -> Option<C::Answer> {
-    match name {
-        "Option<bool>" => Some(case.try_type::<Option<bool>>()),
-        "PhantomData" => Some(case.try_type::<PhantomData<u8>>()),
-        "Box<u8>" => Some(case.try_type::<Box<u8>>()),
-        "Cow<u8>" => Some(case.try_type::<Cow<'static, u8>>()),
-        "InstanceOf<u8>" => Some(case.try_type::<InstanceOf<u8>>()),
-        "[1]bool" => Some(case.try_type::<Explicit<ContextTag<1>, bool>>()),
-        "[30]bool" => Some(case.try_type::<Implicit<ContextTag<30>, bool>>()),
-        "[31]bool" => Some(case.try_type::<Implicit<ContextTag<31>, bool>>()),
-        "[201]String" => Some(case.try_type::<Explicit<ApplicationTag<201>, String>>()),
-        "[31]()" => Some(case.try_type::<Implicit<PrivateTag<31>, ()>>()),
-        "[28]String" => Some(case.try_type::<Implicit<tag::UNIVERSAL_STRING, String>>()),
-        _ => tagged(case, name),
-    }
-}
-
-/// A type of each kind under the tag of a component.
-fn tagged<C: TypeCase>(case: &C, name: &str) -> Option<C::Answer> {
-    match name {
-        "[0]Integer" => Some(case.try_type::<Tagged<Integer>>()),
-        "[0]ObjectIdentifier" => Some(case.try_type::<Tagged<ObjectIdentifier>>()),
-        "[0]BitString" => Some(case.try_type::<Tagged<BitString>>()),
-        "[0]TeletexString" => Some(case.try_type::<Tagged<TeletexString>>()),
-        "[0]BmpString" => Some(case.try_type::<Tagged<BmpString>>()),
-        "[0]Vec<u8>" => Some(case.try_type::<Tagged<Vec<u8>>>()),
-        "[0]SetOf<u8>" => Some(case.try_type::<Tagged<SetOf<u8>>>()),
-        "[0]InstanceOf<u8>" => Some(case.try_type::<Tagged<InstanceOf<u8>>>()),
-        _ => type_of_x690(case, name),
-    }
-}
-
-/// The types of X.690, 8.14.3 and annex A, those of names in RFC 5280, and the messages of LDAP.
-fn type_of_x690<C: TypeCase>(case: &C, name: &str) -> Option<C::Answer> {
-    match name {
-        "Type2" => Some(case.try_type::<Type2>()),
-        "Type3" => Some(case.try_type::<Explicit<ContextTag<2>, Type2>>()),
-        "Type4" => Some(case.try_type::<Explicit<ApplicationTag<7>, Type2>>()),
-        "Type5" => Some(case.try_type::<Implicit<ContextTag<2>, VisibleString>>()),
-        "PersonnelRecord" => Some(case.try_type::<PersonnelRecord>()),
-        "RdnSequence" => Some(case.try_type::<RdnSequence>()),
-        "LdapMessage" => Some(case.try_type::<LdapMessage>()),
-        _ => sequence(case, name),
-    }
-}
-
-/// The sample types that are a SEQUENCE.
-fn sequence<C: TypeCase>(case: &C, name: &str) -> Option<C::Answer> {
-    match name {
-        "Person" => Some(case.try_type::<Person>()),
-        "Profile" => Some(case.try_type::<Profile>()),
-        "Visit" => Some(case.try_type::<Visit>()),
-        "Gauge" => Some(case.try_type::<Gauge>()),
-        "Pair" => Some(case.try_type::<Pair<bool, bool>>()),
-        "Pair<u8,u8>" => Some(case.try_type::<Pair<u8, u8>>()),
-        "Pair<1..10,u8>" => Some(case.try_type::<Pair<OneToTen, u8>>()),
-        "Pair<u8,1..10>" => Some(case.try_type::<Pair<u8, OneToTen>>()),
-        "Notice" => Some(case.try_type::<Notice>()),
-        "Settings" => Some(case.try_type::<Settings>()),
-        "Labelled" => Some(case.try_type::<Labelled>()),
-        "Node" => Some(case.try_type::<Node>()),
-        "Envelope" => Some(case.try_type::<Envelope>()),
-        "Price" => Some(case.try_type::<Price>()),
-        _ => other(case, name),
-    }
-}
-
-/// The other sample types.
-fn other<C: TypeCase>(case: &C, name: &str) -> Option<C::Answer> {
-    match name {
-        "Plate" => Some(case.try_type::<Plate>()),
-        "Badge" => Some(case.try_type::<Badge>()),
-        "Ticket" => Some(case.try_type::<Ticket>()),
-        "Hollow" => Some(case.try_type::<Hollow>()),
-        "Shape" => Some(case.try_type::<Shape>()),
-        "Corner" => Some(case.try_type::<Corner>()),
-        "Color" => Some(case.try_type::<Color>()),
-        "Open" => Some(case.try_type::<Open>()),
-        "Filter" => Some(case.try_type::<Filter>()),
-        "Nested" => Some(case.try_type::<Nested>()),
-        _ => None,
+/// The types of two lists.
+impl<A: TypeNames, B: TypeNames> TypeNames for (A, B) {
+    fn try_named<C: TypeCase>(&self, case: &C, name: &str) -> Option<C::Answer> {
+        match self.0.try_named(case, name) {
+            Some(answer) => Some(answer),
+            None => self.1.try_named(case, name),
+        }
     }
 }

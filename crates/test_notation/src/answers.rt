@@ -1,5 +1,6 @@
 //! The answers to a text.
 use crate::errors::{append_errors, append_position, append_problems};
+use crate::rust_names::{append_forms, append_taken};
 use crate::work::{Text, Work};
 use asn1_grammar::{Parsed, parse};
 use asn1_module_check::check_tags;
@@ -20,6 +21,8 @@ pub(crate) fn answer(alloc: Global, out: &mut Vec<u8>, text: &Text<'_>) -> io::R
         Work::Module => answer_module(alloc, out, text.text),
         Work::Names => answer_names(alloc, out, text.text),
         Work::Schema => answer_schema(alloc, out, text.text),
+        Work::Rust => append_forms(alloc, out, text.text),
+        Work::Taken => append_taken(alloc, out, text.text),
     }
 }
 

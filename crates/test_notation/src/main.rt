@@ -1,4 +1,4 @@
-//! Asks the front end of the compiler of texts, which it reads from standard input, and writes the answers to standard output.
+//! Asks the compiler's parts of texts, which it reads from standard input, and writes the answers to standard output.
 //!
 //! A text begins after a line `# WORK: title`, and ends before the next such line. The title says what the text is about:
 //!
@@ -8,13 +8,16 @@
 //! | `module` | each error with its position, and the text of the trees that were read, with a line if that text is read as other trees |
 //! | `names` | each error with its position, and each name that is undefined or defined twice |
 //! | `schema` | each error with its position, then each problem with the modules; then `accepted` if no tags clash either |
+//! | `rust` | each line, and this name in Rust: as a type, a field and a constant |
+//! | `taken` | each line's name, as a scope of Rust takes them one after another |
 //!
 //! A position is a line and a column, both counted from 1. The stored run is the test: its texts and answers were written by
-//! hand, after X.680.
+//! hand, after X.680; the names of Rust after its naming conventions (RFC 430).
 #![tactic(auto)]
 
 mod answers;
 mod errors;
+mod rust_names;
 mod work;
 
 use answers::answer;

@@ -12,6 +12,10 @@ pub(crate) enum Work {
     Names,
     /// Its types and values.
     Schema,
+    /// Its names in Rust.
+    Rust,
+    /// Its names in Rust, in one scope.
+    Taken,
 }
 
 impl Work {
@@ -25,6 +29,10 @@ impl Work {
             Some(Work::Names)
         } else if line.starts_with(b"# schema: ") {
             Some(Work::Schema)
+        } else if line.starts_with(b"# rust: ") {
+            Some(Work::Rust)
+        } else if line.starts_with(b"# taken: ") {
+            Some(Work::Taken)
         } else {
             None
         }

@@ -7,7 +7,9 @@ use crate::report::{Answer, Report};
 use asn1_dec::{Decode, DecodeError};
 use asn1_enc::Encode;
 use std::alloc::Global;
-use test_calls::{Codec, Failure, Request, TypeCase, is_same, try_named};
+use test_calls::type_kinds::{Samples, Sequences};
+use test_calls::type_lists::TriedTypes;
+use test_calls::{Codec, Failure, Request, TypeCase, TypeNames, is_same};
 
 /// The answer to what is not asked of a codec.
 pub(crate) const NOT_ASKED: DecodeError = DecodeError::Custom("not asked of this codec");
@@ -67,7 +69,7 @@ pub(crate) fn answer_to(alloc: Global, request: &Request<'_>) -> Option<Answer> 
         bytes: &request.bytes,
         action: Action::of_name(request.action, request.word)?,
     };
-    try_named(&trial, request.type_name)
+    (TriedTypes, (Sequences, Samples)).try_named(&trial, request.type_name)
 }
 
 impl TypeCase for Trial<'_> {

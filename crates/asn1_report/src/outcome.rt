@@ -5,7 +5,8 @@ ghost use Rattle.std.specs.Option.{option_map_or};
 ghost use Rattle.asn1_report.specs.Errors.{error_text};
 ghost use Rattle.asn1_report.specs.Report.{all_understood};
 
-use asn1_report::{CheckError, check};
+use crate::error::CheckError;
+use crate::input::check;
 use std::alloc::Global;
 use std::fmt;
 use std::io::{BufWriter, Eprint, Read, Write};
@@ -13,15 +14,15 @@ use std::process::{ExitCode, Termination};
 
 /// The end of the program: its status, and the text that `{}` prints on standard error.
 #[derive(Clone, Copy)]
-pub(crate) struct Outcome {
+pub struct Outcome {
     /// 0 if all was understood, 1 if not, 2 after an error.
-    pub(crate) status: u8,
+    pub status: u8,
     error: Option<CheckError>,
 }
 
 impl Outcome {
     /// How the program ends after a check with that answer.
-    pub(crate) fn of(answer: Result<bool, CheckError>) -> Self
+    pub fn of(answer: Result<bool, CheckError>) -> Self
         ensures understood { (result.status ≡ 0) ↔ (answer ≡ Ok true) }
         ensures not_understood { (result.status ≡ 1) ↔ (answer ≡ Ok false) }
         ensures failed { (result.status ≡ 2) ↔ IsErr answer }
@@ -81,7 +82,7 @@ impl Termination for Outcome {
 
 /// Checks what the reader gives, through a buffer before the writer, and gives the answer of [`check`]. If there is no
 /// memory for the buffer, nothing is read, and the answer is [`CheckError::Memory`].
-pub(crate) fn run<R: Read, W: Write + Drop>(
+fn run<R: Read, W: Write + Drop>(
     alloc: Global,
     reader: &mut R,
     writer: W,
@@ -103,7 +104,7 @@ pub(crate) fn run<R: Read, W: Write + Drop>(
 }
 
 /// Checks what the reader gives, as `run` does, and answers how the program then ends.
-pub(crate) fn checked<R: Read, W: Write + Drop>(alloc: Global, reader: &mut R, writer: W) -> Outcome
+pub fn checked<R: Read, W: Write + Drop>(alloc: Global, reader: &mut R, writer: W) -> Outcome
     ensures understood { result.status ≡ 0 →
         IfSome (R.remaining reader.old) (λ input. all_understood input ≡ true) }
     ensures not_understood { result.status ≡ 1 →
