@@ -2,219 +2,261 @@
 use asn1_notation::Span;
 use asn1_tokens::Refusal;
 use std::alloc::{AllocError, AllocFailed};
-use thiserror::Error;
+use std::fmt;
 
 /// What was expected at a place.
-#[derive(Clone, Copy, Debug, PartialEq, Eq, Error)]
+#[derive(Clone, Copy, Debug, PartialEq, Eq)]
 pub enum Expected {
     /// A value.
-    #[error("a value")]
     Value,
     /// A type.
-    #[error("a type")]
     Type,
     /// A number.
-    #[error("a number")]
     Number,
     /// The name of a value.
-    #[error("the name of a value")]
     ValueName,
     /// The name of a type.
-    #[error("the name of a type")]
     TypeName,
     /// The name of a module.
-    #[error("the name of a module")]
     ModuleName,
     /// The name of an alternative.
-    #[error("the name of an alternative")]
     AlternativeName,
     /// The name of a component.
-    #[error("the name of a component")]
     ComponentName,
     /// The name of the elements.
-    #[error("the name of the elements")]
     ElementName,
     /// The name of an item, or '...'.
-    #[error("the name of an item, or '...'")]
     ItemName,
     /// The name of an arc.
-    #[error("the name of an arc")]
     ArcName,
     /// The name of a number.
-    #[error("the name of a number")]
     NumberName,
     /// The name of a type or of a value.
-    #[error("the name of a type or of a value")]
     AnyName,
     /// A definition, or END.
-    #[error("a definition, or END")]
     Definition,
     /// '::='.
-    #[error("'::='")]
     Assignment,
     /// '{'.
-    #[error("'{{'")]
     OpenBrace,
     /// '{' or OF.
-    #[error("'{{' or OF")]
     OpenBraceOrOf,
     /// '}'.
-    #[error("'}}'")]
     CloseBrace,
     /// '}' or ','.
-    #[error("'}}' or ','")]
     CloseBraceOrComma,
     /// '('.
-    #[error("'('")]
     OpenParenthesis,
     /// ')'.
-    #[error("')'")]
     CloseParenthesis,
     /// ']'.
-    #[error("']'")]
     CloseBracket,
     /// ']]'.
-    #[error("']]'")]
     CloseVersion,
     /// ']]' or ','.
-    #[error("']]' or ','")]
     CloseVersionOrComma,
     /// ':'.
-    #[error("':'")]
     Colon,
     /// ','.
-    #[error("','")]
     Comma,
     /// ',' or FROM.
-    #[error("',' or FROM")]
     CommaOrFrom,
     /// '.'.
-    #[error("'.'")]
     Dot,
     /// '..'.
-    #[error("'..'")]
     Range,
     /// '...'.
-    #[error("'...'")]
     Ellipsis,
     /// ';'.
-    #[error("';'")]
     Semicolon,
     /// ';' or ','.
-    #[error("';' or ','")]
     SemicolonOrComma,
     /// BEGIN.
-    #[error("BEGIN")]
     Begin,
     /// BY.
-    #[error("BY")]
     By,
     /// COMPONENT or COMPONENTS.
-    #[error("COMPONENT or COMPONENTS")]
     Components,
     /// DEFINITIONS.
-    #[error("DEFINITIONS")]
     Definitions,
     /// EXCEPT.
-    #[error("EXCEPT")]
     Except,
     /// IDENTIFIER.
-    #[error("IDENTIFIER")]
     Identifier,
     /// IMPLIED.
-    #[error("IMPLIED")]
     Implied,
     /// OF.
-    #[error("OF")]
     Of,
     /// STRING.
-    #[error("STRING")]
     String,
     /// TAGS.
-    #[error("TAGS")]
     Tags,
 }
 
+impl Expected {
+    // The words for it in a message.
+    fn words(self) -> &'static str {
+        match self {
+            Expected::Value => "a value",
+            Expected::Type => "a type",
+            Expected::Number => "a number",
+            Expected::ValueName => "the name of a value",
+            Expected::TypeName => "the name of a type",
+            Expected::ModuleName => "the name of a module",
+            Expected::AlternativeName => "the name of an alternative",
+            Expected::ComponentName => "the name of a component",
+            Expected::ElementName => "the name of the elements",
+            Expected::ItemName => "the name of an item, or '...'",
+            Expected::ArcName => "the name of an arc",
+            Expected::NumberName => "the name of a number",
+            Expected::AnyName => "the name of a type or of a value",
+            Expected::Definition => "a definition, or END",
+            Expected::Assignment => "'::='",
+            Expected::OpenBrace => "'{'",
+            Expected::OpenBraceOrOf => "'{' or OF",
+            Expected::CloseBrace => "'}'",
+            Expected::CloseBraceOrComma => "'}' or ','",
+            Expected::OpenParenthesis => "'('",
+            Expected::CloseParenthesis => "')'",
+            Expected::CloseBracket => "']'",
+            Expected::CloseVersion => "']]'",
+            Expected::CloseVersionOrComma => "']]' or ','",
+            Expected::Colon => "':'",
+            Expected::Comma => "','",
+            Expected::CommaOrFrom => "',' or FROM",
+            Expected::Dot => "'.'",
+            Expected::Range => "'..'",
+            Expected::Ellipsis => "'...'",
+            Expected::Semicolon => "';'",
+            Expected::SemicolonOrComma => "';' or ','",
+            Expected::Begin => "BEGIN",
+            Expected::By => "BY",
+            Expected::Components => "COMPONENT or COMPONENTS",
+            Expected::Definitions => "DEFINITIONS",
+            Expected::Except => "EXCEPT",
+            Expected::Identifier => "IDENTIFIER",
+            Expected::Implied => "IMPLIED",
+            Expected::Of => "OF",
+            Expected::String => "STRING",
+            Expected::Tags => "TAGS",
+        }
+    }
+}
+
+impl fmt::Display for Expected {
+    fn fmt<W: fmt::Write>(&self, f: &mut fmt::Formatter<W>) -> fmt::Result {
+        f.write_str(self.words())
+    }
+}
+
 /// What has the name behind which something was expected.
-#[derive(Clone, Copy, Debug, PartialEq, Eq, Error)]
+#[derive(Clone, Copy, Debug, PartialEq, Eq)]
 pub enum Owner {
     /// Module.
-    #[error("module")]
     Module,
     /// The name.
-    #[error("the name")]
     Name,
     /// Component.
-    #[error("component")]
     Component,
     /// Item.
-    #[error("item")]
     Item,
     /// Number.
-    #[error("number")]
     Number,
     /// The type of value.
-    #[error("the type of value")]
     Value,
 }
 
+impl Owner {
+    // The words for it in a message.
+    fn words(self) -> &'static str {
+        match self {
+            Owner::Module => "module",
+            Owner::Name => "the name",
+            Owner::Component => "component",
+            Owner::Item => "item",
+            Owner::Number => "number",
+            Owner::Value => "the type of value",
+        }
+    }
+}
+
+impl fmt::Display for Owner {
+    fn fmt<W: fmt::Write>(&self, f: &mut fmt::Formatter<W>) -> fmt::Result {
+        f.write_str(self.words())
+    }
+}
+
 /// A construct of X.680 to X.683 that is not taken.
-#[derive(Clone, Copy, Debug, PartialEq, Eq, Error)]
+#[derive(Clone, Copy, Debug, PartialEq, Eq)]
 pub enum Construct {
     /// REAL.
-    #[error("REAL")]
     Real,
     /// A value of REAL.
-    #[error("a value of REAL")]
     RealValue,
     /// EXTERNAL.
-    #[error("EXTERNAL")]
     External,
     /// EMBEDDED PDV.
-    #[error("EMBEDDED PDV")]
     EmbeddedPdv,
     /// CHARACTER STRING.
-    #[error("CHARACTER STRING")]
     CharacterString,
     /// RELATIVE-OID.
-    #[error("RELATIVE-OID")]
     RelativeOid,
     /// OID-IRI.
-    #[error("OID-IRI")]
     OidIri,
     /// RELATIVE-OID-IRI.
-    #[error("RELATIVE-OID-IRI")]
     RelativeOidIri,
     /// INSTANCE OF.
-    #[error("INSTANCE OF")]
     InstanceOf,
     /// A type of the standard ISO 8601.
-    #[error("a type of the standard ISO 8601")]
     Time,
     /// An information object class.
-    #[error("an information object class")]
     Class,
     /// A field of an information object class.
-    #[error("a field of an information object class")]
     ClassField,
     /// A set of values or of information objects.
-    #[error("a set of values or of information objects")]
     Set,
     /// A constraint by an information object set.
-    #[error("a constraint by an information object set")]
     ObjectSetConstraint,
     /// CONSTRAINED BY.
-    #[error("CONSTRAINED BY")]
     ConstrainedBy,
     /// A parameterized definition.
-    #[error("a parameterized definition")]
     ParameterizedDefinition,
     /// A parameterized type.
-    #[error("a parameterized type")]
     ParameterizedType,
     /// A macro.
-    #[error("a macro")]
     Macro,
+}
+
+impl Construct {
+    // The words for it in a message.
+    fn words(self) -> &'static str {
+        match self {
+            Construct::Real => "REAL",
+            Construct::RealValue => "a value of REAL",
+            Construct::External => "EXTERNAL",
+            Construct::EmbeddedPdv => "EMBEDDED PDV",
+            Construct::CharacterString => "CHARACTER STRING",
+            Construct::RelativeOid => "RELATIVE-OID",
+            Construct::OidIri => "OID-IRI",
+            Construct::RelativeOidIri => "RELATIVE-OID-IRI",
+            Construct::InstanceOf => "INSTANCE OF",
+            Construct::Time => "a type of the standard ISO 8601",
+            Construct::Class => "an information object class",
+            Construct::ClassField => "a field of an information object class",
+            Construct::Set => "a set of values or of information objects",
+            Construct::ObjectSetConstraint => "a constraint by an information object set",
+            Construct::ConstrainedBy => "CONSTRAINED BY",
+            Construct::ParameterizedDefinition => "a parameterized definition",
+            Construct::ParameterizedType => "a parameterized type",
+            Construct::Macro => "a macro",
+        }
+    }
+}
+
+impl fmt::Display for Construct {
+    fn fmt<W: fmt::Write>(&self, f: &mut fmt::Formatter<W>) -> fmt::Result {
+        f.write_str(self.words())
+    }
 }
 
 /// What was not read as it should be.
