@@ -4,9 +4,10 @@ use asn1_resolved::NamedNumber;
 /// The first whose name an earlier one has.
 pub(crate) fn find_same_name<'a>(named: &[NamedNumber<'a>]) -> Option<NamedNumber<'a>> {
     for (index, candidate) in named.iter().enumerate() {
-        let mut earlier = named.iter().take(index);
-        if earlier.any(|other| other.name == candidate.name) {
-            return Some(*candidate);
+        for other in named.iter().take(index) {
+            if other.name == candidate.name {
+                return Some(*candidate);
+            }
         }
     }
     None

@@ -222,10 +222,20 @@ fn written_numbers<'a>(
 fn first_free(taken: &[NamedNumber<'_>], from: i128) -> i128 {
     let mut candidate = from;
     for _ in taken {
-        if taken.iter().all(|item| item.number != candidate) {
+        if !is_taken(taken, candidate) {
             return candidate;
         }
         candidate = candidate.saturating_add(1);
     }
     candidate
+}
+
+// Whether one of these items has a number.
+fn is_taken(taken: &[NamedNumber<'_>], number: i128) -> bool {
+    for item in taken {
+        if item.number == number {
+            return true;
+        }
+    }
+    false
 }

@@ -2,7 +2,7 @@
 use crate::resolver::Resolver;
 use asn1_modules::Source;
 use asn1_names::is_defined;
-use asn1_notation::{Exports, Module};
+use asn1_notation::{Exports, Module, Span};
 use asn1_resolved::Severity;
 use std::alloc::AllocError;
 
@@ -33,22 +33,38 @@ impl<'a> Resolver<'_, 'a> {
 
 // Whether each module of this name exports a name.
 fn is_exported(sources: &[Source<'_>], module: &[u8], name: &[u8]) -> bool {
-    sources
-        .iter()
-        .all(|source| is_exported_in(*source, module, name))
+    for source in sources {
+        if !is_exported_in(*source, module, name) {
+            return false;
+        }
+    }
+    true
 }
 
 // Whether each module of this name in a text exports a name.
 fn is_exported_in(source: Source<'_>, module: &[u8], name: &[u8]) -> bool {
-    source.modules.iter().all(|candidate| {
-        candidate.name.octets(source.text) != module || exports(source.text, candidate, name)
-    })
+    for candidate in source.modules {
+        if candidate.name.octets(source.text) == module && !exports(source.text, candidate, name) {
+            return false;
+        }
+    }
+    true
 }
 
 // Whether a module exports a name.
 fn exports(text: &[u8], module: &Module, name: &[u8]) -> bool {
     match &module.exports {
         Exports::All => true,
-        Exports::Names(names) => names.iter().any(|exported| exported.octets(text) == name),
+        Exports::Names(names) => has_name(text, names.as_slice(), name),
     }
+}
+
+// Whether a name is one of these.
+fn has_name(text: &[u8], names: &[Span], name: &[u8]) -> bool {
+    for known in names {
+        if known.octets(text) == name {
+            return true;
+        }
+    }
+    false
 }

@@ -124,9 +124,12 @@ impl<'a> Resolver<'_, 'a> {
 
     // Whether a problem has this text.
     fn has_text(&self, text: &[u8]) -> bool {
-        self.problems
-            .iter()
-            .any(|problem| problem.text.as_slice() == text)
+        for problem in &self.problems {
+            if problem.text.as_slice() == text {
+                return true;
+            }
+        }
+        false
     }
 
     // The definition of a type. One that is in error is NULL.
@@ -202,5 +205,10 @@ fn severity_of(names: &Names<'_>, problem: &NameProblem<'_>) -> Severity {
 
 // Whether a definition is in a module of this name.
 fn has_module(names: &Names<'_>, module: &[u8]) -> bool {
-    names.defined.iter().any(|defined| defined.module == module)
+    for defined in &names.defined {
+        if defined.module == module {
+            return true;
+        }
+    }
+    false
 }

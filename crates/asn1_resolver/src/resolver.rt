@@ -1,4 +1,6 @@
 //! The state of a run.
+ghost use Rattle.std.specs.Prelude.{◌≤◌, length};
+
 use crate::definitions::Definitions;
 use crate::fault::Fault;
 use asn1_names::{Names, Place};
@@ -63,7 +65,12 @@ impl Resolver<'_, '_> {
 
 // Whether there is a problem of this severity at the place.
 fn is_reported(problems: &[Problem], place: Place, severity: Severity) -> bool {
-    problems.iter().any(|problem| begins_at(problem.place, place) && problem.severity == severity)
+    for problem in problems {
+        if begins_at(problem.place, place) && problem.severity == severity {
+            return true;
+        }
+    }
+    false
 }
 
 // Whether two places begin at the same octet.
@@ -73,15 +80,21 @@ fn begins_at(place: Place, other: Place) -> bool {
 
 // Inserts a problem before those at later places.
 fn insert(problems: &mut Vec<Problem>, problem: Problem) -> Result<(), AllocError> {
-    let place = problem.place;
-    match problems
-        .iter()
-        .position(|other| is_before(place, other.place))
-    {
-        Some(index) => problems.insert(index, problem)?,
-        None => problems.push(problem)?,
-    }
+    let index = index_for(problems.as_slice(), problem.place);
+    problems.insert(index, problem)?;
     Ok(())
+}
+
+// The index of the first problem at a place behind this one, or else how many problems there are.
+fn index_for(problems: &[Problem], place: Place) -> usize
+    ensures { result ≤ length problems.now }
+{
+    for (index, problem) in problems.iter().enumerate() {
+        if is_before(place, problem.place) {
+            return index;
+        }
+    }
+    problems.len()
 }
 
 // Whether a place is before another.

@@ -292,13 +292,16 @@ fn is_required(listed: Listed<'_>) -> bool {
 
 // Whether an item of a list has this name.
 fn is_named(scope: Scope<'_>, values: &[ListItem], name: &[u8]) -> bool {
-    values.iter().any(|item| match item.values.as_slice() {
-        [first, ..] => match &first.kind {
-            ValueKind::Reference(reference) => scope.octets(reference.name) == name,
-            _ => false,
-        },
-        [] => false,
-    })
+    for item in values {
+        if let [first, ..] = item.values.as_slice() {
+            if let ValueKind::Reference(reference) = &first.kind {
+                if scope.octets(reference.name) == name {
+                    return true;
+                }
+            }
+        }
+    }
+    false
 }
 
 // Whether a value is of this kind of type.
