@@ -15,32 +15,56 @@ pub(crate) fn push_file(
     names: FileNames<'_>,
     owner: Owner<'_>,
 ) -> Result<(), AllocError> {
-    let alloc = plan.alloc;
-    let FileNames { name, module, .. } = names;
-    let is_group = match &body {
-        TypeBody::Group(_) => true,
-        _ => false,
-    };
-    let file = TypeFile {
-        crate_name: plan.text(plan.request.crate_name)?,
-        page: definition_lines(alloc, owner.summary, owner.notation)?,
-        module: plan.text(module)?,
-        name: plan.text(name)?,
-        asn1_name: plan.text(owner.asn1_name)?,
-        summary: plan.text(owner.summary)?,
-        body,
-    };
-    let text = type_file(alloc, &file)?;
-    let path = format!(in alloc; "src/{module}.rt")?;
-    plan.files.push(PrintedFile { path, text })?;
-    for proof in proof_files(alloc, &file)? {
+    let file = type_file_of(plan, body, names, owner)?;
+    let text = type_file(plan.alloc, &file)?;
+    plan.add_source(names.module, text)?;
+    for proof in proof_files(plan.alloc, &file)? {
         let ProofFile { path, text } = proof;
         plan.files.push(PrintedFile { path, text })?;
     }
-    let mut exported = Vec::new(alloc);
-    exported.push(plan.text(name)?)?;
-    if !is_group {
-        exported.push(format!(in alloc; "{module}_is_well_tagged")?)?;
+    let exported = exported_names(plan, &file.body, names)?;
+    plan.add_module(names.module, false, exported)
+}
+
+// A file that was not printed.
+fn type_file_of(
+    plan: &Plan<'_, '_>,
+    body: TypeBody,
+    names: FileNames<'_>,
+    owner: Owner<'_>,
+) -> Result<TypeFile, AllocError> {
+    Ok(TypeFile {
+        crate_name: plan.text(plan.request.crate_name)?,
+        page: definition_lines(plan.alloc, owner.summary, owner.notation)?,
+        module: plan.text(names.module)?,
+        name: plan.text(names.name)?,
+        asn1_name: plan.text(owner.asn1_name)?,
+        summary: plan.text(owner.summary)?,
+        body,
+    })
+}
+
+// The names that the crate passes on of a file.
+fn exported_names(
+    plan: &Plan<'_, '_>,
+    body: &TypeBody,
+    names: FileNames<'_>,
+) -> Result<Vec<String>, AllocError> {
+    let mut exported = Vec::new(plan.alloc);
+    let name = plan.text(names.name)?;
+    exported.push(name)?;
+    if !is_group(body) {
+        let module = names.module;
+        let tagging = format!(in plan.alloc; "{module}_is_well_tagged")?;
+        exported.push(tagging)?;
     }
-    plan.add_module(module, false, exported)
+    Ok(exported)
+}
+
+// Whether a type is a group of additions.
+fn is_group(body: &TypeBody) -> bool {
+    match body {
+        TypeBody::Group(_) => true,
+        _ => false,
+    }
 }

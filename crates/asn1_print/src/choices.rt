@@ -1,7 +1,7 @@
 //! The alternatives of CHOICE types.
 use crate::components::{steps_of, tree_of};
 use crate::defaults::last_index;
-use crate::notation::part_line;
+use crate::notation::quoted_part;
 use crate::plan::Plan;
 use crate::types::PartTexts;
 use asn1_names::Place;
@@ -9,7 +9,7 @@ use asn1_resolved::{Alternative, Alternatives, Type, TypeKind};
 use asn1_rust_code::{Tagging, TypeName};
 use asn1_rust_components::ChoiceType;
 use asn1_rust_names::{TakenNames, camel_case};
-use std::alloc::AllocError;
+use std::alloc::{AllocError, Global};
 
 /// A CHOICE of alternatives that were lowered.
 pub(crate) fn choice_with(
@@ -38,12 +38,11 @@ pub(crate) fn choice_with(
 pub(crate) fn alternative_with(
     plan: &mut Plan<'_, '_>,
     alternative: &Alternative<'_>,
-    texts: PartTexts,
+    texts: &PartTexts,
     tagging: Tagging,
     definition: TypeName,
     variants: &mut TakenNames,
 ) -> Result<asn1_rust_components::Alternative, AllocError> {
-    let alloc = plan.alloc;
     let tree = tree_of(
         plan,
         &alternative.definition,
@@ -51,14 +50,10 @@ pub(crate) fn alternative_with(
         alternative.place,
     )?;
     let is_null = is_null(plan, &alternative.definition);
-    let camel = camel_case(alloc, alternative.name)?;
-    let shown = part_line(alloc, texts.notation.as_str())?;
-    let shown = shown.as_str();
-    let notation = format!(in alloc; "`{shown}`")?;
     Ok(asn1_rust_components::Alternative {
         name: plan.text(texts.name.as_str())?,
-        variant: variants.take(variant_name(camel.as_str()))?,
-        notation,
+        variant: new_variant(plan.alloc, alternative.name, variants)?,
+        notation: quoted_part(plan.alloc, texts.notation.as_str())?,
         definition,
         tagging,
         tree,
@@ -88,8 +83,18 @@ fn is_null_below_tags(definition: &Type<'_>) -> bool {
     }
 }
 
-/// The name of a variant: another, if it is a word of clauses.
-pub(crate) fn variant_name(name: &str) -> &str {
+/// A name that no other has for the variant of this name in ASN.1.
+pub(crate) fn new_variant(
+    alloc: Global,
+    name: &[u8],
+    variants: &mut TakenNames,
+) -> Result<String, AllocError> {
+    let camel = camel_case(alloc, name)?;
+    variants.take(variant_name(camel.as_str()))
+}
+
+// The name of a variant: another, if it is a word of clauses.
+fn variant_name(name: &str) -> &str {
     match name.as_bytes() {
         b"Type" => "TypeItem",
         b"Unit" => "UnitItem",

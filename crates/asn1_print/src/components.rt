@@ -1,9 +1,9 @@
 //! The components of SEQUENCE and SET types.
 use crate::defaults::default_of;
-use crate::notation::{component_text, part_line};
+use crate::notation::{component_text, quoted_part};
 use crate::plan::Plan;
 use crate::tags::{Beginning, first_tags, least_rank, universal};
-use crate::types::PartTexts;
+use crate::types::{PartTexts, push_imports};
 use asn1_names::Place;
 use asn1_resolved::{Addition, Component, Components, Type, Usage};
 use asn1_rust_code::{Import, TagNumber, Tagging, TypeName};
@@ -114,27 +114,32 @@ pub(crate) fn group_with(
 pub(crate) fn component_with(
     plan: &mut Plan<'_, '_>,
     component: &Component<'_>,
-    texts: PartTexts,
+    texts: &PartTexts,
     tagging: Tagging,
     definition: TypeName,
     fields: &mut TakenNames,
     is_addition: bool,
 ) -> Result<asn1_rust_components::Component, AllocError> {
-    let alloc = plan.alloc;
-    let snake = snake_case(alloc, component.name)?;
     let usage = usage_of(plan, component, &definition, is_addition)?;
-    let shown = part_line(alloc, texts.notation.as_str())?;
-    let shown = shown.as_str();
-    let notation = format!(in alloc; "`{shown}`")?;
     Ok(asn1_rust_components::Component {
         name: plan.text(texts.name.as_str())?,
-        field: fields.take(snake.as_str())?,
-        notation,
+        field: field_name(plan.alloc, component, fields)?,
+        notation: quoted_part(plan.alloc, texts.notation.as_str())?,
         definition,
         tagging,
         usage,
         is_addition,
     })
+}
+
+// The name of the field of a component.
+fn field_name(
+    alloc: Global,
+    component: &Component<'_>,
+    fields: &mut TakenNames,
+) -> Result<String, AllocError> {
+    let snake = snake_case(alloc, component.name)?;
+    fields.take(snake.as_str())
 }
 
 // Whether a component may be absent in Rust.
@@ -168,13 +173,9 @@ pub(crate) fn group_component(
     summary: String,
     fields: &mut TakenNames,
 ) -> Result<asn1_rust_components::Component, AllocError> {
-    let field = fields.take("additions")?;
     let constant = constant_name(plan, module)?;
-    let mut definition = plan.local_type(module, name)?;
-    let trees = plan.local_type(module, constant.as_str())?;
-    for import in &trees.imports {
-        definition.imports.push(import.copy(plan.alloc)?)?;
-    }
+    let definition = group_type(plan, module, name, constant.as_str())?;
+    let field = fields.take("additions")?;
     Ok(asn1_rust_components::Component {
         name: plan.text(field.as_str())?,
         field,
@@ -184,6 +185,19 @@ pub(crate) fn group_component(
         usage: asn1_rust_components::Usage::Group(constant),
         is_addition: true,
     })
+}
+
+// The type of a group, imported with the constant of its trees.
+fn group_type(
+    plan: &Plan<'_, '_>,
+    module: &str,
+    name: &str,
+    constant: &str,
+) -> Result<TypeName, AllocError> {
+    let mut definition = plan.local_type(module, name)?;
+    let trees = plan.local_type(module, constant)?;
+    push_imports(plan.alloc, &mut definition, &trees)?;
+    Ok(definition)
 }
 
 /// The definition of a group in ASN.1.
@@ -222,26 +236,8 @@ pub(crate) fn tree_of(
     let steps = steps_of(plan);
     match first_tags(plan.request.schema, definition, steps) {
         Beginning::Leaf(tag) => Ok(Tree::Leaf(tag)),
-        Beginning::Choice(index) => {
-            let module = match plan.types.get(index) {
-                Some(planned) if planned.external.is_none() => plan.text(planned.module.as_str())?,
-                _ => {
-                    plan.error(
-                        place,
-                        "a CHOICE of another crate has no tag of its own here",
-                    )?;
-                    plan.text("aliases")?
-                }
-            };
-            choice_tree(plan, module.as_str())
-        }
-        Beginning::Inline => {
-            let mut module = plan.text("aliases")?;
-            if let Some(import) = name.imports.as_slice().first() {
-                module = plan.text(import.path.as_str().trim_start_matches("crate::"))?;
-            }
-            choice_tree(plan, module.as_str())
-        }
+        Beginning::Choice(index) => defined_choice_tree(plan, index, place),
+        Beginning::Inline => choice_tree(plan, module_of(name)),
         Beginning::Any => {
             plan.error(
                 place,
@@ -249,6 +245,32 @@ pub(crate) fn tree_of(
             )?;
             Ok(Tree::Leaf(universal(0)))
         }
+    }
+}
+
+// The trees of the CHOICE with an index in the schema.
+fn defined_choice_tree(
+    plan: &mut Plan<'_, '_>,
+    index: usize,
+    place: Place,
+) -> Result<Tree, AllocError> {
+    match plan.types.get(index) {
+        Some(planned) if planned.external.is_none() => choice_tree(plan, planned.module.as_str()),
+        _ => {
+            plan.error(
+                place,
+                "a CHOICE of another crate has no tag of its own here",
+            )?;
+            choice_tree(plan, "aliases")
+        }
+    }
+}
+
+// The module of the type of this name.
+fn module_of(name: &TypeName) -> &str {
+    match name.imports.as_slice().first() {
+        Some(import) => import.path.as_str().trim_start_matches("crate::"),
+        None => "aliases",
     }
 }
 

@@ -102,7 +102,7 @@ fn carried_default(
     match value {
         Value::Boolean(flag) => {
             let word = if *flag { "true" } else { "false" };
-            plain_default(plan, plan.text(word)?, plan.text(word)?, Some(word))
+            plain_default(plan, word, word, Some(word))
         }
         Value::Integer(number) => integer_default(plan, *number, definition, name),
         Value::Item(item) => item_default(plan, item, definition, name),
@@ -118,14 +118,14 @@ fn carried_default(
 
 // A default that needs no names but a sign.
 fn plain_default(
-    _plan: &Plan<'_, '_>,
-    code: String,
-    term: String,
+    plan: &Plan<'_, '_>,
+    code: &str,
+    term: &str,
     sign: Option<&'static str>,
 ) -> Result<Option<Usage>, AllocError> {
     Ok(Some(Usage::Default(DefaultValue {
-        code,
-        term,
+        code: plan.text(code)?,
+        term: plan.text(term)?,
         sign,
         ghost_line: None,
     })))
@@ -228,8 +228,7 @@ fn integer_default(
                 return Ok(None);
             }
             let text = format!(in alloc; "{number}")?;
-            let term = plan.text(text.as_str())?;
-            plain_default(plan, text, term, None)
+            plain_default(plan, text.as_str(), text.as_str(), None)
         }
         None => {
             if has_limits(range).is_some() || number < 0 {
@@ -238,7 +237,7 @@ fn integer_default(
             let type_name = name.text.as_str();
             let code = format!(in alloc; "{type_name}::from_i128({number})")?;
             let term = format!(in alloc; "(pos {number})")?;
-            plain_default(plan, code, term, Some("pos"))
+            plain_default(plan, code.as_str(), term.as_str(), Some("pos"))
         }
     }
 }
@@ -272,14 +271,14 @@ fn item_default(
     })))
 }
 
+// The type of the elements of a list.
+fn element_of(list: &str) -> Option<&str> {
+    list.strip_prefix("Vec<")?.strip_suffix(">")
+}
+
 // A default that is an empty list.
 fn empty_list(plan: &Plan<'_, '_>, name: &TypeName) -> Result<Option<Usage>, AllocError> {
-    let inner = name
-        .text
-        .as_str()
-        .strip_prefix("Vec<")
-        .and_then(|rest| rest.strip_suffix(">"));
-    match inner {
+    match element_of(name.text.as_str()) {
         Some(element) => Ok(Some(Usage::EmptyList(plan.plain_type(element)?))),
         None => Ok(None),
     }

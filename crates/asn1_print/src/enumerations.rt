@@ -1,11 +1,11 @@
 //! The items of ENUMERATED types.
-use crate::choices::variant_name;
+use crate::choices::new_variant;
 use crate::notation::text_of;
 use crate::plan::Plan;
 use asn1_names::Place;
 use asn1_resolved::{Enumeration, EnumerationItem};
 use asn1_rust_components::Item;
-use asn1_rust_names::{TakenNames, camel_case};
+use asn1_rust_names::TakenNames;
 use std::alloc::AllocError;
 
 /// An ENUMERATED.
@@ -44,10 +44,9 @@ fn item_of(
     item: &EnumerationItem<'_>,
     variants: &mut TakenNames,
 ) -> Result<Item, AllocError> {
-    let camel = camel_case(plan.alloc, item.name)?;
     Ok(Item {
         name: text_of(plan.alloc, item.name)?,
-        variant: variants.take(variant_name(camel.as_str()))?,
+        variant: new_variant(plan.alloc, item.name, variants)?,
         number: item.number,
     })
 }
@@ -60,9 +59,9 @@ pub(crate) fn variant_of(
 ) -> Result<Option<String>, AllocError> {
     let mut variants = TakenNames::new(plan.alloc);
     for item in &enumeration.root {
-        let found = item_of(plan, item, &mut variants)?;
+        let variant = new_variant(plan.alloc, item.name, &mut variants)?;
         if item.name == name {
-            return Ok(Some(found.variant));
+            return Ok(Some(variant));
         }
     }
     Ok(None)

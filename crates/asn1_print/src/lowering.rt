@@ -182,7 +182,7 @@ fn component_of(
     component_with(
         plan,
         component,
-        texts,
+        &texts,
         tagging,
         definition,
         fields,
@@ -197,12 +197,7 @@ fn part_of(
     definition: &Type<'_>,
     texts: &PartTexts,
 ) -> Result<(Tagging, TypeName), AllocError> {
-    let owner = Owner {
-        name: texts.type_name.as_str(),
-        asn1_name: texts.name.as_str(),
-        summary: texts.summary.as_str(),
-        notation: texts.notation.as_str(),
-    };
+    let owner = texts.owner();
     warn_of_names(plan, definition)?;
     match &definition.kind {
         TypeKind::Tagged(tag, inner) => {
@@ -293,5 +288,5 @@ fn alternative_of(
     let notation = component_text(plan.alloc, plan.request.sources, alternative.place)?;
     let texts = part_texts(plan, owner_name, name.as_str(), notation.as_str())?;
     let (tagging, definition) = part_of(plan, &alternative.definition, &texts)?;
-    alternative_with(plan, alternative, texts, tagging, definition, variants)
+    alternative_with(plan, alternative, &texts, tagging, definition, variants)
 }

@@ -2,7 +2,7 @@
 use asn1_modules::Source;
 use asn1_names::Place;
 use asn1_notation::{
-    Assignment, Component, ComponentItem, Definition, Module, Type, TypeKind, Usage,
+    Assignment, Component, ComponentItem, Definition, Module, Type, TypeKind, Usage, Value,
 };
 use asn1_notation_text::{Printer, print_type, print_value};
 use std::alloc::{AllocError, Global};
@@ -34,6 +34,14 @@ fn type_text(alloc: Global, source: &[u8], definition: &Type) -> Result<String, 
     text_of(alloc, octets.as_slice())
 }
 
+// The text of a value.
+fn value_text(alloc: Global, source: &[u8], value: &Value) -> Result<String, AllocError> {
+    let mut printer = Printer::new(alloc, source);
+    print_value(&mut printer, value)?;
+    let octets = printer.into_text();
+    text_of(alloc, octets.as_slice())
+}
+
 /// The text of an assignment.
 pub(crate) fn assignment_text(
     alloc: Global,
@@ -51,10 +59,7 @@ pub(crate) fn assignment_text(
         Definition::Value(definition, value) => {
             let text = type_text(alloc, source, definition)?;
             let text = text.as_str();
-            let mut printer = Printer::new(alloc, source);
-            print_value(&mut printer, value)?;
-            let octets = printer.into_text();
-            let value = text_of(alloc, octets.as_slice())?;
+            let value = value_text(alloc, source, value)?;
             let value = value.as_str();
             format!(in alloc; "{name} {text} ::= {value}")
         }
@@ -76,10 +81,8 @@ fn text_of_component(
         Usage::Optional => text.push_str(" OPTIONAL")?,
         Usage::Default(value) => {
             text.push_str(" DEFAULT ")?;
-            let mut printer = Printer::new(alloc, source);
-            print_value(&mut printer, value)?;
-            let octets = printer.into_text();
-            push_octets(&mut text, octets.as_slice())?;
+            let value = value_text(alloc, source, value)?;
+            text.push_str(value.as_str())?;
         }
     }
     Ok(text)
@@ -270,8 +273,8 @@ fn push_parts(alloc: Global, lines: &mut Vec<String>, definition: &str) -> Resul
     Ok(())
 }
 
-/// A part of a definition in one line: of one that is too long, the braces have two dots in them.
-pub(crate) fn part_line(alloc: Global, part: &str) -> Result<String, AllocError> {
+// A part of a definition in one line: of one that is too long, the braces have two dots in them.
+fn part_line(alloc: Global, part: &str) -> Result<String, AllocError> {
     if part.len() <= WIDTH {
         return String::from_str(alloc, part);
     }
@@ -294,9 +297,21 @@ pub(crate) fn part_line(alloc: Global, part: &str) -> Result<String, AllocError>
     Ok(line)
 }
 
+/// A part of a definition in one line, as code in a comment.
+pub(crate) fn quoted_part(alloc: Global, part: &str) -> Result<String, AllocError> {
+    let line = part_line(alloc, part)?;
+    let line = line.as_str();
+    format!(in alloc; "`{line}`")
+}
+
 // Whether a line has nothing but spaces.
 fn is_blank(line: &str) -> bool {
-    line.bytes().all(|octet| octet == b' ')
+    for octet in line.as_bytes() {
+        if *octet != b' ' {
+            return false;
+        }
+    }
+    true
 }
 
 // The line without spaces at its end, with what is in its braces if it is short; it is empty afterwards.

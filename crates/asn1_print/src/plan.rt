@@ -1,5 +1,5 @@
 //! The names of the definitions of a schema, and the files as far as they were made.
-use crate::request::{PrintedFile, Request};
+use crate::request::{Extern, PrintedFile, Request};
 use crate::strings::is_restricted_string;
 use asn1_names::Place;
 use asn1_resolved::{Problem, Severity, Type, TypeDefinition, TypeKind};
@@ -177,11 +177,34 @@ pub fn rust_name(alloc: Global, name: &[u8]) -> Result<String, AllocError> {
 
 // A name for a type that no file imports.
 fn unreserved(alloc: Global, name: &str) -> Result<String, AllocError> {
-    if RESERVED.iter().any(|reserved| *reserved == name) {
+    if is_reserved(name) {
         format!(in alloc; "{name}Type")
     } else {
         String::from_str(alloc, name)
     }
+}
+
+// Whether a file of a type imports or brings in this name.
+fn is_reserved(name: &str) -> bool {
+    for reserved in RESERVED {
+        if *reserved == name {
+            return true;
+        }
+    }
+    false
+}
+
+// The type that exists already for a definition, with its place in the list of these.
+fn extern_for<'r>(
+    externs: &'r [Extern<'r>],
+    definition: &TypeDefinition<'_>,
+) -> Option<(usize, &'r Extern<'r>)> {
+    for (index, external) in externs.iter().enumerate() {
+        if external.is_for(definition.module, definition.name) {
+            return Some((index, external));
+        }
+    }
+    None
 }
 
 /// The plan of a schema, with the names of its types.
@@ -189,7 +212,15 @@ pub(crate) fn plan_of<'r, 'a>(
     alloc: Global,
     request: Request<'r, 'a>,
 ) -> Result<Plan<'r, 'a>, AllocError> {
-    let mut plan = Plan {
+    let mut plan = empty_plan(alloc, request);
+    plan.reserve_names()?;
+    plan.name_types()?;
+    Ok(plan)
+}
+
+// A plan without a name.
+fn empty_plan<'r, 'a>(alloc: Global, request: Request<'r, 'a>) -> Plan<'r, 'a> {
+    Plan {
         alloc,
         request,
         types: Vec::new(alloc),
@@ -202,37 +233,46 @@ pub(crate) fn plan_of<'r, 'a>(
         markers: Vec::new(alloc),
         constants: Vec::new(alloc),
         problems: Vec::new(alloc),
-    };
-    for module in MODULES {
-        let _module = plan.taken_modules.take(module)?;
     }
-    for external in request.externs {
-        let _name = plan.taken_names.take(external.rust_name)?;
-        let _library = plan.taken_modules.take(library_of(external.path))?;
-    }
-    for definition in &request.schema.types {
-        let planned = plan.planned(definition)?;
-        plan.types.push(planned)?;
-    }
-    Ok(plan)
 }
 
 impl Plan<'_, '_> {
+    // Takes the names that no type of the schema may have.
+    fn reserve_names(&mut self) -> Result<(), AllocError> {
+        for module in MODULES {
+            let _module = self.taken_modules.take(module)?;
+        }
+        for external in self.request.externs {
+            let _name = self.taken_names.take(external.rust_name)?;
+            let _library = self.taken_modules.take(library_of(external.path))?;
+        }
+        Ok(())
+    }
+
+    // Names the types of the schema.
+    fn name_types(&mut self) -> Result<(), AllocError> {
+        let schema = self.request.schema;
+        for definition in &schema.types {
+            let planned = self.planned(definition)?;
+            self.types.push(planned)?;
+        }
+        Ok(())
+    }
+
     // The names of a definition.
     fn planned(&mut self, definition: &TypeDefinition<'_>) -> Result<PlannedType, AllocError> {
-        let external = self.request.externs.iter().position(|external| external.is_for(
-            definition.module,
-            definition.name,
-        ));
-        if let Some(index) = external {
-            if let Some(found) = self.request.externs.get(index) {
-                return Ok(PlannedType {
-                    name: self.text(found.rust_name)?,
-                    module: self.text(found.path)?,
-                    external,
-                });
-            }
+        match extern_for(self.request.externs, definition) {
+            Some((index, found)) => Ok(PlannedType {
+                name: self.text(found.rust_name)?,
+                module: self.text(found.path)?,
+                external: Some(index),
+            }),
+            None => self.planned_here(definition),
         }
+    }
+
+    // The names of a definition whose type does not exist already.
+    fn planned_here(&mut self, definition: &TypeDefinition<'_>) -> Result<PlannedType, AllocError> {
         let camel = camel_case(self.alloc, definition.name)?;
         let name = self.new_name(camel.as_str())?;
         let module = if has_file(&definition.definition) {
@@ -290,6 +330,13 @@ impl Plan<'_, '_> {
         };
         self.unnamed_types.push(kept)?;
         Ok(answer)
+    }
+
+    /// Adds the source of a module.
+    pub(crate) fn add_source(&mut self, module: &str, text: String) -> Result<(), AllocError> {
+        let path = format!(in self.alloc; "src/{module}.rt")?;
+        self.files.push(PrintedFile { path, text })?;
+        Ok(())
     }
 
     /// Adds a module, with the names that the crate passes on.
@@ -350,12 +397,13 @@ impl Plan<'_, '_> {
         path: &str,
         name: &str,
     ) -> Result<TypeName, AllocError> {
-        let mut imports = Vec::new(self.alloc);
-        imports.push(Import {
+        let import = Import {
             is_foreign,
             path: self.text(path)?,
             name: self.text(name)?,
-        })?;
+        };
+        let mut imports = Vec::new(self.alloc);
+        imports.push(import)?;
         Ok(TypeName {
             text: self.text(name)?,
             imports,
@@ -418,13 +466,23 @@ impl Plan<'_, '_> {
                 return self.local_type("tags", marker.name.as_str());
             }
         }
+        self.new_marker(tag)
+    }
+
+    // Adds a type that names a tag.
+    fn new_marker(&mut self, tag: TagNumber) -> Result<TypeName, AllocError> {
+        let name = self.marker_name(tag)?;
+        let answer = self.local_type("tags", name.as_str())?;
+        self.markers.push(Marker { name, tag })?;
+        Ok(answer)
+    }
+
+    // A name for the type that names a tag.
+    fn marker_name(&mut self, tag: TagNumber) -> Result<String, AllocError> {
         let class = class_word(tag.class);
         let number = tag.number;
         let wanted = format!(in self.alloc; "{class}{number}")?;
         let camel = camel_case(self.alloc, wanted.as_bytes())?;
-        let name = self.new_name(camel.as_str())?;
-        let answer = self.local_type("tags", name.as_str())?;
-        self.markers.push(Marker { name, tag })?;
-        Ok(answer)
+        self.new_name(camel.as_str())
     }
 }

@@ -6,7 +6,7 @@ use crate::plan::{Plan, has_file, plan_of};
 use crate::recursion::report_cycles;
 use crate::request::{Extern, Printed, PrintedFile, Request};
 use crate::strings::{is_restricted_string, restricted_string};
-use crate::types::{Owner, tag_number, warn_of_constraints};
+use crate::types::{Owner, PartTexts, tag_number, warn_of_constraints};
 use crate::values::{add_value, numbers_of, origin_text};
 use asn1_notation::Module;
 use asn1_resolved::{NamedNumber, Type, TypeDefinition, TypeKind};
@@ -47,42 +47,70 @@ fn add_definition(
     index: usize,
     definition: &TypeDefinition<'_>,
 ) -> Result<(), AllocError> {
-    let alloc = plan.alloc;
-    let (name, module) = match plan.types.get(index) {
-        Some(planned) if planned.external.is_none() => (
-            plan.text(planned.name.as_str())?,
-            plan.text(planned.module.as_str())?,
-        ),
-        _ => return Ok(()),
+    match plan.types.get(index) {
+        Some(planned) if planned.external.is_none() => {
+            let name = plan.text(planned.name.as_str())?;
+            let module = plan.text(planned.module.as_str())?;
+            add_named(plan, definition, name, module.as_str())
+        }
+        _ => Ok(()),
+    }
+}
+
+// Adds a definition under its name in Rust: as a file of its own in a module, or as a name for another type.
+fn add_named(
+    plan: &mut Plan<'_, '_>,
+    definition: &TypeDefinition<'_>,
+    name: String,
+    module: &str,
+) -> Result<(), AllocError> {
+    let texts = definition_texts(plan, definition, name.as_str())?;
+    if !has_file(&definition.definition) {
+        return add_alias(plan, &definition.definition, name, texts.owner());
+    }
+    let names = FileNames {
+        name: name.as_str(),
+        module,
+        tag: None,
     };
-    let asn1_name = text_of(alloc, definition.name)?;
-    let asn1_module = text_of(alloc, definition.module)?;
-    let notation = origin_text(plan, definition.origin)?;
-    let shown = asn1_name.as_str();
-    let shown_module = asn1_module.as_str();
-    let summary = format!(in alloc; "`{shown}` of the module `{shown_module}`.")?;
-    let content = if has_file(&definition.definition) || !holds_file(&definition.definition) {
+    add_own_file(plan, &definition.definition, names, texts.owner())
+}
+
+// The texts for a definition with a name in Rust.
+fn definition_texts(
+    plan: &Plan<'_, '_>,
+    definition: &TypeDefinition<'_>,
+    rust_name: &str,
+) -> Result<PartTexts, AllocError> {
+    let alloc = plan.alloc;
+    let content = content_suffix(&definition.definition);
+    Ok(PartTexts {
+        name: text_of(alloc, definition.name)?,
+        notation: origin_text(plan, definition.origin)?,
+        type_name: format!(in alloc; "{rust_name}{content}")?,
+        summary: definition_summary(alloc, definition)?,
+    })
+}
+
+// What follows the name of an alias in that of the type that it is, if that has no name.
+fn content_suffix(definition: &Type<'_>) -> &'static str {
+    if has_file(definition) || !holds_file(definition) {
         ""
     } else {
         "Content"
-    };
-    let rust_name = name.as_str();
-    let inner_name = format!(in alloc; "{rust_name}{content}")?;
-    let owner = Owner {
-        name: inner_name.as_str(),
-        asn1_name: shown,
-        summary: summary.as_str(),
-        notation: notation.as_str(),
-    };
-    if !has_file(&definition.definition) {
-        return add_alias(plan, &definition.definition, name, owner);
     }
-    let names = FileNames {
-        name: rust_name,
-        module: module.as_str(),
-        tag: None,
-    };
-    add_own_file(plan, &definition.definition, names, owner)
+}
+
+// What a definition is.
+fn definition_summary(
+    alloc: Global,
+    definition: &TypeDefinition<'_>,
+) -> Result<String, AllocError> {
+    let name = text_of(alloc, definition.name)?;
+    let module = text_of(alloc, definition.module)?;
+    let name = name.as_str();
+    let module = module.as_str();
+    format!(in alloc; "`{name}` of the module `{module}`.")
 }
 
 // Adds the file of a definition.
@@ -158,8 +186,7 @@ fn add_other(
     is_public: bool,
     names: Vec<String>,
 ) -> Result<(), AllocError> {
-    let path = format!(in plan.alloc; "src/{module}.rt")?;
-    plan.files.push(PrintedFile { path, text })?;
+    plan.add_source(module, text)?;
     plan.add_module(module, is_public, names)
 }
 
@@ -179,8 +206,9 @@ fn in_order(plan: &Plan<'_, '_>, names: Vec<String>) -> Result<Vec<String>, Allo
 
 // A page of one line.
 fn page(plan: &Plan<'_, '_>, line: &str) -> Result<Vec<String>, AllocError> {
+    let line = plan.text(line)?;
     let mut lines = Vec::new(plan.alloc);
-    lines.push(plan.text(line)?)?;
+    lines.push(line)?;
     Ok(lines)
 }
 
@@ -191,15 +219,22 @@ fn add_aliases(plan: &mut Plan<'_, '_>) -> Result<(), AllocError> {
     }
     let page = page(plan, "Types that are other types under names of their own.")?;
     let text = alias_file(plan.alloc, page.as_slice(), plan.aliases.as_slice())?;
+    let names = in_order(plan, alias_names(plan)?)?;
+    add_other(plan, "aliases", text, false, names)
+}
+
+// The names of types that are other types, with those of their constants.
+fn alias_names(plan: &Plan<'_, '_>) -> Result<Vec<String>, AllocError> {
     let mut names = Vec::new(plan.alloc);
     for alias in &plan.aliases {
-        names.push(plan.text(alias.name.as_str())?)?;
+        let name = plan.text(alias.name.as_str())?;
+        names.push(name)?;
         if let Some(numbers) = &alias.numbers {
-            names.push(plan.text(numbers.name.as_str())?)?;
+            let name = plan.text(numbers.name.as_str())?;
+            names.push(name)?;
         }
     }
-    let names = in_order(plan, names)?;
-    add_other(plan, "aliases", text, false, names)
+    Ok(names)
 }
 
 // Adds the file with the types that name tags.
@@ -226,21 +261,25 @@ fn add_constants(plan: &mut Plan<'_, '_>) -> Result<(), AllocError> {
 
 // Adds the root file.
 fn add_root(plan: &mut Plan<'_, '_>) -> Result<(), AllocError> {
-    let alloc = plan.alloc;
     plan.modules.sort()?;
-    let mut lines = Vec::new(alloc);
-    lines.push(plan.text(
+    let page = root_page(plan)?;
+    let text = root_file(plan.alloc, page.as_slice(), plan.modules.as_slice())?;
+    plan.add_source("lib", text)
+}
+
+// The page of the root file.
+fn root_page(plan: &Plan<'_, '_>) -> Result<Vec<String>, AllocError> {
+    let alloc = plan.alloc;
+    let mut lines = page(
+        plan,
         "The types of these modules of ASN.1, in files made by `asn1_compile`:",
-    )?)?;
+    )?;
     lines.push(String::new(alloc))?;
     for source in plan.request.sources {
         push_module_names(alloc, &mut lines, source.text, source.modules)?;
     }
     push_externs(alloc, &mut lines, plan.request.externs)?;
-    let text = root_file(alloc, lines.as_slice(), plan.modules.as_slice())?;
-    let path = plan.text("src/lib.rt")?;
-    plan.files.push(PrintedFile { path, text })?;
-    Ok(())
+    Ok(lines)
 }
 
 // Appends the names of modules, a line each.

@@ -6,7 +6,7 @@ use asn1_notation::StringKind;
 use asn1_resolved::{Constraint, ConstraintKind, Tag, Type, TypeKind};
 use asn1_rust_code::{TagNumber, Tagging, TypeName};
 use asn1_rust_names::camel_case;
-use std::alloc::AllocError;
+use std::alloc::{AllocError, Global};
 
 /// Where a type is used: what a type without a name is called there.
 #[derive(Clone, Copy)]
@@ -32,6 +32,18 @@ pub(crate) struct PartTexts {
     pub(crate) type_name: String,
     /// What its type is.
     pub(crate) summary: String,
+}
+
+impl PartTexts {
+    /// The names for the type of the part.
+    pub(crate) fn owner(&self) -> Owner<'_> {
+        Owner {
+            name: self.type_name.as_str(),
+            asn1_name: self.name.as_str(),
+            summary: self.summary.as_str(),
+            notation: self.notation.as_str(),
+        }
+    }
 }
 
 /// The texts for a part of the type of this name.
@@ -97,31 +109,34 @@ pub(crate) fn under_tag(
     } else {
         "Implicit"
     };
-    let wrapper = plan.library_type(former)?;
+    let mut name = plan.library_type(former)?;
+    push_imports(plan.alloc, &mut name, &marker)?;
+    push_imports(plan.alloc, &mut name, &inner)?;
     let argument = inner.text.as_str();
     let marker_name = marker.text.as_str();
-    let text = format!(in plan.alloc; "{former}<{marker_name}, {argument}>")?;
-    let mut imports = wrapper.imports;
-    for import in &marker.imports {
-        imports.push(import.copy(plan.alloc)?)?;
+    name.text = format!(in plan.alloc; "{former}<{marker_name}, {argument}>")?;
+    name.is_explicit = tag.is_explicit;
+    Ok(name)
+}
+
+/// Adds the imports of one type to those of another.
+pub(crate) fn push_imports(
+    alloc: Global,
+    name: &mut TypeName,
+    other: &TypeName,
+) -> Result<(), AllocError> {
+    for import in &other.imports {
+        let import = import.copy(alloc)?;
+        name.imports.push(import)?;
     }
-    for import in &inner.imports {
-        imports.push(import.copy(plan.alloc)?)?;
-    }
-    Ok(TypeName {
-        text,
-        imports,
-        is_explicit: tag.is_explicit,
-    })
+    Ok(())
 }
 
 /// A SET OF elements of a type.
 pub(crate) fn set_of(plan: &Plan<'_, '_>, element: TypeName) -> Result<TypeName, AllocError> {
     let mut name = wrapped(plan, "SetOf", element)?;
     let set_of = plan.library_type("SetOf")?;
-    for import in &set_of.imports {
-        name.imports.push(import.copy(plan.alloc)?)?;
-    }
+    push_imports(plan.alloc, &mut name, &set_of)?;
     Ok(name)
 }
 

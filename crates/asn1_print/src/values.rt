@@ -5,7 +5,7 @@ use asn1_notation::Assignment;
 use asn1_resolved::{NamedNumber, Origin, Value, ValueDefinition};
 use asn1_rust_components::{Constant, ConstantValue, NamedNumbers};
 use asn1_rust_names::{TakenNames, upper_case};
-use std::alloc::AllocError;
+use std::alloc::{AllocError, Global};
 
 /// The text of a definition in the trees.
 pub(crate) fn origin_text(plan: &Plan<'_, '_>, origin: Origin) -> Result<String, AllocError> {
@@ -32,29 +32,52 @@ pub(crate) fn add_value(
     definition: &ValueDefinition<'_>,
     names: &mut TakenNames,
 ) -> Result<(), AllocError> {
-    let alloc = plan.alloc;
-    let upper = upper_case(alloc, definition.name)?;
-    let (kind, value) = match &definition.value {
-        Value::ObjectIdentifier(arcs) => ("&[u32]", arcs_value(plan, arcs.as_slice())?),
-        Value::Integer(number) => (
-            "i128",
-            ConstantValue::Literal(format!(in alloc; "{number}")?),
-        ),
-        Value::Boolean(flag) => ("bool", ConstantValue::Literal(format!(in alloc; "{flag}")?)),
-        _ => {
-            return plan.warn(definition.place, "this value has no constant in Rust");
-        }
+    let Some((kind, value)) = constant_value(plan, &definition.value)? else {
+        return plan.warn(definition.place, "this value has no constant in Rust");
     };
-    let notation = origin_text(plan, definition.origin)?;
-    let notation = notation.as_str();
     let constant = Constant {
-        name: names.take(upper.as_str())?,
-        notation: format!(in alloc; "`{notation}`")?,
+        name: constant_name(plan.alloc, definition.name, names)?,
+        notation: quoted_origin(plan, definition.origin)?,
         definition: kind,
         value,
     };
     plan.constants.push(constant)?;
     Ok(())
+}
+
+// A value as code has it, with the type of its constant; `None` if it has none.
+fn constant_value(
+    plan: &Plan<'_, '_>,
+    value: &Value<'_>,
+) -> Result<Option<(&'static str, ConstantValue)>, AllocError> {
+    match value {
+        Value::ObjectIdentifier(arcs) => {
+            let value = arcs_value(plan, arcs.as_slice())?;
+            Ok(Some(("&[u32]", value)))
+        }
+        Value::Integer(number) => {
+            let text = format!(in plan.alloc; "{number}")?;
+            Ok(Some(("i128", ConstantValue::Literal(text))))
+        }
+        Value::Boolean(flag) => {
+            let text = format!(in plan.alloc; "{flag}")?;
+            Ok(Some(("bool", ConstantValue::Literal(text))))
+        }
+        _ => Ok(None),
+    }
+}
+
+// A name that no other constant has.
+fn constant_name(alloc: Global, name: &[u8], names: &mut TakenNames) -> Result<String, AllocError> {
+    let upper = upper_case(alloc, name)?;
+    names.take(upper.as_str())
+}
+
+// The text of a definition in the trees, as code in a comment.
+fn quoted_origin(plan: &Plan<'_, '_>, origin: Origin) -> Result<String, AllocError> {
+    let notation = origin_text(plan, origin)?;
+    let notation = notation.as_str();
+    format!(in plan.alloc; "`{notation}`")
 }
 
 // The arcs of an object identifier, as code has them.
@@ -80,20 +103,36 @@ pub(crate) fn numbers_of(
     let mut names = TakenNames::new(alloc);
     let mut constants = Vec::new(alloc);
     for number in numbers {
-        let upper = upper_case(alloc, number.name)?;
-        let shown = text_of(alloc, number.name)?;
-        let shown = shown.as_str();
-        let value = number.number;
-        constants.push(Constant {
-            name: names.take(upper.as_str())?,
-            notation: format!(in alloc; "`{shown}({value})`")?,
-            definition: kind,
-            value: ConstantValue::Literal(format!(in alloc; "{value}")?),
-        })?;
+        let constant = number_constant(alloc, number, kind, &mut names)?;
+        constants.push(constant)?;
     }
     let wanted = format!(in alloc; "{name}Names")?;
     Ok(Some(NamedNumbers {
         name: plan.new_name(wanted.as_str())?,
         constants,
     }))
+}
+
+// The constant of this kind for a named number or a named bit.
+fn number_constant(
+    alloc: Global,
+    number: &NamedNumber<'_>,
+    kind: &'static str,
+    names: &mut TakenNames,
+) -> Result<Constant, AllocError> {
+    let value = number.number;
+    Ok(Constant {
+        name: constant_name(alloc, number.name, names)?,
+        notation: number_text(alloc, number)?,
+        definition: kind,
+        value: ConstantValue::Literal(format!(in alloc; "{value}")?),
+    })
+}
+
+// A named number or a named bit, as code in a comment.
+fn number_text(alloc: Global, number: &NamedNumber<'_>) -> Result<String, AllocError> {
+    let name = text_of(alloc, number.name)?;
+    let name = name.as_str();
+    let value = number.number;
+    format!(in alloc; "`{name}({value})`")
 }
