@@ -2,9 +2,9 @@
 //! pieces they come, and writes each to standard output as soon as it is whole, as lines for a person (`message_text` of
 //! `asn1_ldap_text`).
 //!
-//! A message that is damaged, nested in more than 64 scopes, or cut off by the end of the input, ends the program: a line on standard
-//! error tells which of these, and the byte of the stream at which the message begins, from 0. What came before it is shown. The
-//! messages are read as BER, in any spelling.
+//! A message that is damaged, with filters that are nested more than 64 deep, or cut off by the end of the input, ends the program: a
+//! line on standard error tells which of these, and the byte of the stream at which the message begins, from 0. What came before it
+//! is shown. The messages are read as BER, in any spelling.
 //!
 //! The program takes no arguments. It ends with 0 if the whole input was shown, with 1 after such a message, and with 2 if memory
 //! ran out, or reading or writing failed. The stored run is two conversations of OpenLDAP's client and server (examples/ldap) and the
@@ -26,8 +26,13 @@ use std::process::ExitCode;
 /// The reader of messages.
 type MessageReader = BerReader;
 
-/// How many scopes of a message may nest, so how deep a filter may be.
-const DEPTH: usize = 64;
+/// How many filters may nest: the ANDs, ORs and NOTs around a filter that holds no other.
+const NESTED_FILTERS: usize = 64;
+
+/// How many scopes of a message may nest: 3 above the filter of a search (the message, the CHOICE of its operation and the request), 2
+/// for each filter that holds others (its CHOICE, and its SET or its tag), and 4 in the deepest that holds none, of substrings (its
+/// CHOICE, its SEQUENCE, the SEQUENCE OF its substrings, and the CHOICE of each).
+const DEPTH: usize = 3 + 2 * NESTED_FILTERS + 4;
 
 fn main(rt: HostRuntime) -> ExitCode {
     let messages_reader = MessageReader::new(rt.alloc(), DEPTH);
