@@ -12,8 +12,8 @@
 //! | `--help` | writes the usage |
 //!
 //! The program ends with 0 if the whole input was shown, with 1 after such a message, and with 2 if the arguments are none of these,
-//! the file was not opened, memory ran out, or reading or writing failed. The stored run is two conversations of OpenLDAP's client and
-//! server (examples/ldap) and the beginning of a message, so its status is 1.
+//! the file was not opened, memory ran out, or reading or writing failed. The stored run is three conversations of examples/ldap and
+//! the beginning of a message, so its status is 1.
 //!
 //! The contract of `show` covers this for any reader of messages (`specs/Showing.antt`), however the input is cut into pieces. The
 //! messages are the reader's answers for the bytes of the input, one after another; their lines are written in this order, each once;
