@@ -41,12 +41,25 @@
 //!     objectClassModsProhibited(69),
 //!     affectsMultipleDSAs(71),
 //!     other(80),
-//!     ...
+//!     ...,
+//!     lcupResourcesExhausted(113),
+//!     lcupSecurityViolation(114),
+//!     lcupInvalidData(115),
+//!     lcupUnsupportedScheme(116),
+//!     lcupReloadRequired(117),
+//!     canceled(118),
+//!     noSuchOperation(119),
+//!     tooLate(120),
+//!     cannotCancel(121),
+//!     assertionFailed(122),
+//!     authorizationDenied(123),
+//!     e-syncRefreshRequired(4096),
+//!     noOperation(16654)
 //! }
 //! ```
 ghost use Rattle.std.specs.Prelude.{codes, refl};
 ghost use Rattle.asn1_schema.specs.Words.{IsWellTagged, by_test, enumeration_agrees, enumeration_type, extensible_enumeration, items_of};
-ghost use Rattle.asn1_ldap.specs.declared.ldap_result_result_code.LdapResultResultCode.TheVariants.{Success, OperationsError, ProtocolError, TimeLimitExceeded, SizeLimitExceeded, CompareFalse, CompareTrue, AuthMethodNotSupported, StrongerAuthRequired, Referral, AdminLimitExceeded, UnavailableCriticalExtension, ConfidentialityRequired, SaslBindInProgress, NoSuchAttribute, UndefinedAttributeType, InappropriateMatching, ConstraintViolation, AttributeOrValueExists, InvalidAttributeSyntax, NoSuchObject, AliasProblem, InvalidDnSyntax, AliasDereferencingProblem, InappropriateAuthentication, InvalidCredentials, InsufficientAccessRights, Busy, Unavailable, UnwillingToPerform, LoopDetect, NamingViolation, ObjectClassViolation, NotAllowedOnNonLeaf, NotAllowedOnRdn, EntryAlreadyExists, ObjectClassModsProhibited, AffectsMultipleDsas, Other};
+ghost use Rattle.asn1_ldap.specs.declared.ldap_result_result_code.LdapResultResultCode.TheVariants.{Success, OperationsError, ProtocolError, TimeLimitExceeded, SizeLimitExceeded, CompareFalse, CompareTrue, AuthMethodNotSupported, StrongerAuthRequired, Referral, AdminLimitExceeded, UnavailableCriticalExtension, ConfidentialityRequired, SaslBindInProgress, NoSuchAttribute, UndefinedAttributeType, InappropriateMatching, ConstraintViolation, AttributeOrValueExists, InvalidAttributeSyntax, NoSuchObject, AliasProblem, InvalidDnSyntax, AliasDereferencingProblem, InappropriateAuthentication, InvalidCredentials, InsufficientAccessRights, Busy, Unavailable, UnwillingToPerform, LoopDetect, NamingViolation, ObjectClassViolation, NotAllowedOnNonLeaf, NotAllowedOnRdn, EntryAlreadyExists, ObjectClassModsProhibited, AffectsMultipleDsas, Other, LcupResourcesExhausted, LcupSecurityViolation, LcupInvalidData, LcupUnsupportedScheme, LcupReloadRequired, Canceled, NoSuchOperation, TooLate, CannotCancel, AssertionFailed, AuthorizationDenied, ESyncRefreshRequired, NoOperation};
 
 use asn1_schema::{
     AsnType, Constraints, Decode, DecodeError, Decoder, Encode, EncodeError, Encoder, Enumerated,
@@ -134,6 +147,32 @@ pub enum LdapResultResultCode {
     AffectsMultipleDsas,
     /// `other(80)`
     Other,
+    /// `lcupResourcesExhausted(113)`
+    LcupResourcesExhausted,
+    /// `lcupSecurityViolation(114)`
+    LcupSecurityViolation,
+    /// `lcupInvalidData(115)`
+    LcupInvalidData,
+    /// `lcupUnsupportedScheme(116)`
+    LcupUnsupportedScheme,
+    /// `lcupReloadRequired(117)`
+    LcupReloadRequired,
+    /// `canceled(118)`
+    Canceled,
+    /// `noSuchOperation(119)`
+    NoSuchOperation,
+    /// `tooLate(120)`
+    TooLate,
+    /// `cannotCancel(121)`
+    CannotCancel,
+    /// `assertionFailed(122)`
+    AssertionFailed,
+    /// `authorizationDenied(123)`
+    AuthorizationDenied,
+    /// `e-syncRefreshRequired(4096)`
+    ESyncRefreshRequired,
+    /// `noOperation(16654)`
+    NoOperation,
 }
 
 const ROOT: &[EnumerationItem<LdapResultResultCode>] = &[
@@ -270,7 +309,57 @@ const ROOT: &[EnumerationItem<LdapResultResultCode>] = &[
     (LdapResultResultCode::Other, 80, "other"),
 ];
 
-const ADDITIONS: &[EnumerationItem<LdapResultResultCode>] = &[];
+const ADDITIONS: &[EnumerationItem<LdapResultResultCode>] = &[
+    (
+        LdapResultResultCode::LcupResourcesExhausted,
+        113,
+        "lcupResourcesExhausted",
+    ),
+    (
+        LdapResultResultCode::LcupSecurityViolation,
+        114,
+        "lcupSecurityViolation",
+    ),
+    (
+        LdapResultResultCode::LcupInvalidData,
+        115,
+        "lcupInvalidData",
+    ),
+    (
+        LdapResultResultCode::LcupUnsupportedScheme,
+        116,
+        "lcupUnsupportedScheme",
+    ),
+    (
+        LdapResultResultCode::LcupReloadRequired,
+        117,
+        "lcupReloadRequired",
+    ),
+    (LdapResultResultCode::Canceled, 118, "canceled"),
+    (
+        LdapResultResultCode::NoSuchOperation,
+        119,
+        "noSuchOperation",
+    ),
+    (LdapResultResultCode::TooLate, 120, "tooLate"),
+    (LdapResultResultCode::CannotCancel, 121, "cannotCancel"),
+    (
+        LdapResultResultCode::AssertionFailed,
+        122,
+        "assertionFailed",
+    ),
+    (
+        LdapResultResultCode::AuthorizationDenied,
+        123,
+        "authorizationDenied",
+    ),
+    (
+        LdapResultResultCode::ESyncRefreshRequired,
+        4096,
+        "e-syncRefreshRequired",
+    ),
+    (LdapResultResultCode::NoOperation, 16654, "noOperation"),
+];
 
 impl EnumeratedItems for LdapResultResultCode {
     ghost use Rattle.asn1_ldap.specs.declared.ldap_result_result_code.TheConstants.{ADDITIONS, ROOT};
@@ -299,7 +388,7 @@ impl AsnType for LdapResultResultCode {
 }
 
 impl Enumerated for LdapResultResultCode {
-    ghost complete = { elim [ Success ↦ refl | OperationsError ↦ refl | ProtocolError ↦ refl | TimeLimitExceeded ↦ refl | SizeLimitExceeded ↦ refl | CompareFalse ↦ refl | CompareTrue ↦ refl | AuthMethodNotSupported ↦ refl | StrongerAuthRequired ↦ refl | Referral ↦ refl | AdminLimitExceeded ↦ refl | UnavailableCriticalExtension ↦ refl | ConfidentialityRequired ↦ refl | SaslBindInProgress ↦ refl | NoSuchAttribute ↦ refl | UndefinedAttributeType ↦ refl | InappropriateMatching ↦ refl | ConstraintViolation ↦ refl | AttributeOrValueExists ↦ refl | InvalidAttributeSyntax ↦ refl | NoSuchObject ↦ refl | AliasProblem ↦ refl | InvalidDnSyntax ↦ refl | AliasDereferencingProblem ↦ refl | InappropriateAuthentication ↦ refl | InvalidCredentials ↦ refl | InsufficientAccessRights ↦ refl | Busy ↦ refl | Unavailable ↦ refl | UnwillingToPerform ↦ refl | LoopDetect ↦ refl | NamingViolation ↦ refl | ObjectClassViolation ↦ refl | NotAllowedOnNonLeaf ↦ refl | NotAllowedOnRdn ↦ refl | EntryAlreadyExists ↦ refl | ObjectClassModsProhibited ↦ refl | AffectsMultipleDsas ↦ refl | Other ↦ refl ] };
+    ghost complete = { elim [ Success ↦ refl | OperationsError ↦ refl | ProtocolError ↦ refl | TimeLimitExceeded ↦ refl | SizeLimitExceeded ↦ refl | CompareFalse ↦ refl | CompareTrue ↦ refl | AuthMethodNotSupported ↦ refl | StrongerAuthRequired ↦ refl | Referral ↦ refl | AdminLimitExceeded ↦ refl | UnavailableCriticalExtension ↦ refl | ConfidentialityRequired ↦ refl | SaslBindInProgress ↦ refl | NoSuchAttribute ↦ refl | UndefinedAttributeType ↦ refl | InappropriateMatching ↦ refl | ConstraintViolation ↦ refl | AttributeOrValueExists ↦ refl | InvalidAttributeSyntax ↦ refl | NoSuchObject ↦ refl | AliasProblem ↦ refl | InvalidDnSyntax ↦ refl | AliasDereferencingProblem ↦ refl | InappropriateAuthentication ↦ refl | InvalidCredentials ↦ refl | InsufficientAccessRights ↦ refl | Busy ↦ refl | Unavailable ↦ refl | UnwillingToPerform ↦ refl | LoopDetect ↦ refl | NamingViolation ↦ refl | ObjectClassViolation ↦ refl | NotAllowedOnNonLeaf ↦ refl | NotAllowedOnRdn ↦ refl | EntryAlreadyExists ↦ refl | ObjectClassModsProhibited ↦ refl | AffectsMultipleDsas ↦ refl | Other ↦ refl | LcupResourcesExhausted ↦ refl | LcupSecurityViolation ↦ refl | LcupInvalidData ↦ refl | LcupUnsupportedScheme ↦ refl | LcupReloadRequired ↦ refl | Canceled ↦ refl | NoSuchOperation ↦ refl | TooLate ↦ refl | CannotCancel ↦ refl | AssertionFailed ↦ refl | AuthorizationDenied ↦ refl | ESyncRefreshRequired ↦ refl | NoOperation ↦ refl ] };
 
     ghost lawful = { by_test refl };
 

@@ -2,7 +2,7 @@
 //!
 //! ```text
 //! changes SEQUENCE OF change SEQUENCE {
-//!     operation ENUMERATED { add(0), delete(1), replace(2), ... },
+//!     operation ENUMERATED { add(0), delete(1), replace(2), ..., increment(3) },
 //!     modification PartialAttribute
 //! }
 //! ```
@@ -21,7 +21,7 @@ use std::alloc::{AllocError, Global};
 /// The type of `changes` in `ModifyRequest`.
 #[derive(PartialEq, Eq, Debug, Drop)]
 pub struct ModifyRequestChangesElement {
-    /// `operation ENUMERATED { add(0), delete(1), replace(2), ... }`
+    /// `operation ENUMERATED { add(0), delete(1), replace(2), ..., increment(3) }`
     pub operation: ModifyRequestChangesElementOperation,
     /// `modification PartialAttribute`
     pub modification: PartialAttribute,

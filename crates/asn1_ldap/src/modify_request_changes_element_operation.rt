@@ -1,7 +1,7 @@
-//! `operation ENUMERATED { add(0), delete(1), replace(2), ... }`
+//! `operation ENUMERATED { add(0), delete(1), replace(2), ..., increment(3) }`
 ghost use Rattle.std.specs.Prelude.{codes, refl};
 ghost use Rattle.asn1_schema.specs.Words.{IsWellTagged, by_test, enumeration_agrees, enumeration_type, extensible_enumeration, items_of};
-ghost use Rattle.asn1_ldap.specs.declared.modify_request_changes_element_operation.ModifyRequestChangesElementOperation.TheVariants.{Add, Delete, Replace};
+ghost use Rattle.asn1_ldap.specs.declared.modify_request_changes_element_operation.ModifyRequestChangesElementOperation.TheVariants.{Add, Delete, Replace, Increment};
 
 use asn1_schema::{
     AsnType, Constraints, Decode, DecodeError, Decoder, Encode, EncodeError, Encoder, Enumerated,
@@ -17,6 +17,8 @@ pub enum ModifyRequestChangesElementOperation {
     Delete,
     /// `replace(2)`
     Replace,
+    /// `increment(3)`
+    Increment,
 }
 
 const ROOT: &[EnumerationItem<ModifyRequestChangesElementOperation>] = &[
@@ -25,7 +27,11 @@ const ROOT: &[EnumerationItem<ModifyRequestChangesElementOperation>] = &[
     (ModifyRequestChangesElementOperation::Replace, 2, "replace"),
 ];
 
-const ADDITIONS: &[EnumerationItem<ModifyRequestChangesElementOperation>] = &[];
+const ADDITIONS: &[EnumerationItem<ModifyRequestChangesElementOperation>] = &[(
+    ModifyRequestChangesElementOperation::Increment,
+    3,
+    "increment",
+)];
 
 impl EnumeratedItems for ModifyRequestChangesElementOperation {
     ghost use Rattle.asn1_ldap.specs.declared.modify_request_changes_element_operation.TheConstants.{ADDITIONS, ROOT};
@@ -54,7 +60,7 @@ impl AsnType for ModifyRequestChangesElementOperation {
 }
 
 impl Enumerated for ModifyRequestChangesElementOperation {
-    ghost complete = { elim [ Add ↦ refl | Delete ↦ refl | Replace ↦ refl ] };
+    ghost complete = { elim [ Add ↦ refl | Delete ↦ refl | Replace ↦ refl | Increment ↦ refl ] };
 
     ghost lawful = { by_test refl };
 

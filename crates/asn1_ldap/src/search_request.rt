@@ -3,7 +3,7 @@
 //! ```text
 //! SearchRequest ::= [APPLICATION 3] SEQUENCE {
 //!     baseObject LDAPDN,
-//!     scope ENUMERATED { baseObject(0), singleLevel(1), wholeSubtree(2), ... },
+//!     scope ENUMERATED { baseObject(0), singleLevel(1), wholeSubtree(2), ..., subordinateSubtree(3) },
 //!     derefAliases ENUMERATED { .. },
 //!     sizeLimit INTEGER (0..maxInt),
 //!     timeLimit INTEGER (0..maxInt),
@@ -32,7 +32,7 @@ use std::alloc::{AllocError, Global};
 pub struct SearchRequest {
     /// `baseObject LDAPDN`
     pub base_object: Ldapdn,
-    /// `scope ENUMERATED { baseObject(0), singleLevel(1), wholeSubtree(2), ... }`
+    /// `scope ENUMERATED { baseObject(0), singleLevel(1), wholeSubtree(2), ..., subordinateSubtree(3) }`
     pub scope: SearchRequestScope,
     /// `derefAliases ENUMERATED { .. }`
     pub deref_aliases: SearchRequestDerefAliases,

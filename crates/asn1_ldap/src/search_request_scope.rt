@@ -1,7 +1,7 @@
-//! `scope ENUMERATED { baseObject(0), singleLevel(1), wholeSubtree(2), ... }`
+//! `scope ENUMERATED { baseObject(0), singleLevel(1), wholeSubtree(2), ..., subordinateSubtree(3) }`
 ghost use Rattle.std.specs.Prelude.{codes, refl};
 ghost use Rattle.asn1_schema.specs.Words.{IsWellTagged, by_test, enumeration_agrees, enumeration_type, extensible_enumeration, items_of};
-ghost use Rattle.asn1_ldap.specs.declared.search_request_scope.SearchRequestScope.TheVariants.{BaseObject, SingleLevel, WholeSubtree};
+ghost use Rattle.asn1_ldap.specs.declared.search_request_scope.SearchRequestScope.TheVariants.{BaseObject, SingleLevel, WholeSubtree, SubordinateSubtree};
 
 use asn1_schema::{
     AsnType, Constraints, Decode, DecodeError, Decoder, Encode, EncodeError, Encoder, Enumerated,
@@ -17,6 +17,8 @@ pub enum SearchRequestScope {
     SingleLevel,
     /// `wholeSubtree(2)`
     WholeSubtree,
+    /// `subordinateSubtree(3)`
+    SubordinateSubtree,
 }
 
 const ROOT: &[EnumerationItem<SearchRequestScope>] = &[
@@ -25,7 +27,11 @@ const ROOT: &[EnumerationItem<SearchRequestScope>] = &[
     (SearchRequestScope::WholeSubtree, 2, "wholeSubtree"),
 ];
 
-const ADDITIONS: &[EnumerationItem<SearchRequestScope>] = &[];
+const ADDITIONS: &[EnumerationItem<SearchRequestScope>] = &[(
+    SearchRequestScope::SubordinateSubtree,
+    3,
+    "subordinateSubtree",
+)];
 
 impl EnumeratedItems for SearchRequestScope {
     ghost use Rattle.asn1_ldap.specs.declared.search_request_scope.TheConstants.{ADDITIONS, ROOT};
@@ -54,7 +60,7 @@ impl AsnType for SearchRequestScope {
 }
 
 impl Enumerated for SearchRequestScope {
-    ghost complete = { elim [ BaseObject ↦ refl | SingleLevel ↦ refl | WholeSubtree ↦ refl ] };
+    ghost complete = { elim [ BaseObject ↦ refl | SingleLevel ↦ refl | WholeSubtree ↦ refl | SubordinateSubtree ↦ refl ] };
 
     ghost lawful = { by_test refl };
 

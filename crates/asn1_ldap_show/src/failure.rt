@@ -13,8 +13,8 @@ pub(crate) enum Failure {
     /// No message begins at this position: it is damaged. The error is that of reading it.
     #[error("byte {0}: no LDAP message: {1}")]
     Damaged(u128, DecodeError),
-    /// The message that begins at this position is nested too deep.
-    #[error("byte {0}: an LDAP message is nested too deep")]
+    /// The message that begins at this position is nested too deep, by its filters.
+    #[error("byte {0}: filters of an LDAP message are nested more than 64 deep")]
     TooDeep(u128),
     /// The input ends in the message that begins at this position, of which it has this many bytes.
     #[error("byte {0}: an LDAP message is cut off after {1} bytes")]

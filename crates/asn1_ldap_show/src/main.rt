@@ -1,46 +1,88 @@
-//! Shows LDAP messages (RFC 4511): reads the messages that a client and a server sent one another from standard input, in whatever
-//! pieces they come, and writes each to standard output as soon as it is whole, as lines for a person (`message_text` of
+//! Shows LDAP messages (RFC 4511): reads the messages that a client and a server sent one another from a file or standard input, in
+//! whatever pieces they come, and writes each to standard output as soon as it is whole, as lines for a person (`message_text` of
 //! `asn1_ldap_text`).
 //!
-//! A message that is damaged, nested in more than 64 scopes, or cut off by the end of the input, ends the program: a line on standard
-//! error tells which of these, and the byte of the stream at which the message begins, from 0. What came before it is shown. The
-//! messages are read as BER, in any spelling.
+//! A message that is damaged, with filters that are nested more than 64 deep, or cut off by the end of the input, ends the program: a
+//! line on standard error tells which of these, and the byte of the stream at which the message begins, from 0. What came before it
+//! is shown. The messages are read as BER, in any spelling.
 //!
-//! The program takes no arguments. It ends with 0 if the whole input was shown, with 1 after such a message, and with 2 if memory
-//! ran out, or reading or writing failed. The stored run is two conversations of OpenLDAP's client and server (examples/ldap) and the
-//! beginning of a message, so its status is 1.
+//! | Argument | Effect |
+//! |---|---|
+//! | `FILE` | reads this file, or standard input for `-` or if there is none |
+//! | `--help` | writes the usage |
+//!
+//! The program ends with 0 if the whole input was shown, with 1 after such a message, and with 2 if the arguments are none of these,
+//! the file was not opened, memory ran out, or reading or writing failed. The stored run is three conversations of examples/ldap and
+//! the beginning of a message, so its status is 1.
 //!
 //! The contract of `show` covers this for any reader of messages (`specs/Showing.antt`), however the input is cut into pieces. The
 //! messages are the reader's answers for the bytes of the input, one after another; their lines are written in this order, each once;
 //! and a message that is not read begins at the byte that is told, the sum of the lengths before it.
 #![tactic(auto)]
 
+mod arguments;
 mod failure;
 mod input;
 mod stream;
 
 use asn1_ber::BerReader;
-use std::io;
+use std::fs::File;
+use std::io::Read;
 use std::process::ExitCode;
+use std::{env, io};
 
 /// The reader of messages.
 type MessageReader = BerReader;
 
-/// How many scopes of a message may nest, so how deep a filter may be.
-const DEPTH: usize = 64;
+/// How many filters may nest: the ANDs, ORs and NOTs around a filter that holds no other.
+const NESTED_FILTERS: usize = 64;
+
+/// How many scopes of a message may nest: 3 above the filter of a search (the message, the CHOICE of its operation and the request), 2
+/// for each filter that holds others (its CHOICE, and its SET or its tag), and 4 in the deepest that holds none, of substrings (its
+/// CHOICE, its SEQUENCE, the SEQUENCE OF its substrings, and the CHOICE of each).
+const DEPTH: usize = 3 + 2 * NESTED_FILTERS + 4;
 
 fn main(rt: HostRuntime) -> ExitCode {
+    let alloc = rt.alloc();
+    let words: Vec<String> = match env::args(&rt).map(|words| words.collect(alloc)) {
+        Ok(Ok(words)) => words,
+        _ => {
+            let _ = eprintln!(&rt; "error: the arguments were not read");
+            return ExitCode::from(2);
+        }
+    };
+    let matches = match arguments::matches_of(alloc, words.as_slice()) {
+        Ok(matches) => matches,
+        Err(error) => {
+            let _ = error.print(&rt);
+            return ExitCode::from(error.exit_code() as u8);
+        }
+    };
+    match matches.get_str("FILE") {
+        Some(name) if name != "-" => show_file(&rt, name),
+        _ => show_input(&rt, &mut rt.reader()),
+    }
+}
+
+/// Shows the messages of a file.
+fn show_file(rt: &HostRuntime, name: &str) -> ExitCode {
+    match File::open(rt, name) {
+        Ok(mut file) => show_input(rt, &mut file),
+        Err(error) => {
+            let _ = eprintln!(rt; "{name}: error: {error}");
+            ExitCode::from(2)
+        }
+    }
+}
+
+/// Shows the messages of an input.
+fn show_input<R: Read>(rt: &HostRuntime, reader: &mut R) -> ExitCode {
     let messages_reader = MessageReader::new(rt.alloc(), DEPTH);
-    let shown = input::show(
-        rt.alloc(),
-        messages_reader,
-        &mut rt.reader(),
-        &mut io::writer(&rt),
-    );
-    match shown {
+    let mut writer = io::writer(rt);
+    match input::show(rt.alloc(), messages_reader, reader, &mut writer) {
         Ok(()) => ExitCode::SUCCESS,
         Err(failure) => {
-            let _ = eprintln!(&rt; "{failure}");
+            let _ = eprintln!(rt; "{failure}");
             ExitCode::from(failure.status())
         }
     }
