@@ -1,5 +1,5 @@
 -- What is found inside an element and behind it is found in the bytes that begin with it.
-use Rattle.std.proofs.Common.{◌≡◌, ℕ, zero, suc, ◌+◌, ◌-◌, ◌≤◌, List, None, Option, Some, arith, length, refl, subst, true}
+use Rattle.std.proofs.Common.{◌≡◌, ℕ, zero, suc, ◌+◌, ◌-◌, ◌≤◌, List, None, Option, Some, arith, length, subst, true}
 use Rattle.std.specs.Prelude.{MatchOption}
 use Rattle.asn1_certificate_rules.proofs.BrokenRulePositions.{departs-within}
 use Rattle.asn1_certificate_rules.specs.Departures.{Departs, InsideKeepsRules, KeepsRules, behind, inside}
