@@ -118,6 +118,9 @@ PARTS = "a string is in the constructed form (X.690, 10.2)"
 UTC_TIME = "a UTCTime is not in the form of DER (X.690, 11.8)"
 GENERALIZED_TIME = "a GeneralizedTime is not in the form of DER (X.690, 11.7)"
 
+# The text about elements that lie inside more than 64 others.
+TOO_DEEP = "elements are nested deeper than 64 levels there, and were not looked at"
+
 
 def long_length_outside():
     made = Certificate("leaf-ec")
@@ -259,6 +262,29 @@ def long_length_behind_a_time():
     return made, LENGTH, made.start(object_id) + 1
 
 
+def inside_others(count, octets):
+    """A certificate with octets inside this many elements, and the position of the first: in the value of an extension of no known
+    kind, whose contents octets lie inside six elements, the others are SEQUENCEs."""
+    made = Certificate("leaf-ec")
+    extension = made.extension(KEY_USAGE)
+    extension.contents[0].contents = bytes([0x2A, 3, 4])
+    value = extension.contents[-1]
+    value.contents = octets
+    for _ in range(count - 6):
+        value.contents = Element(0x30, value.contents).octets()
+    return made, made.contents(value, len(value.contents) - len(octets))
+
+
+def indefinite_length_inside_64():
+    made, at = inside_others(64, bytes([0x30, 0x80, 0, 0]))
+    return made, INDEFINITE, at + 1
+
+
+def indefinite_length_inside_65():
+    made, at = inside_others(65, bytes([0x30, 0x80, 0, 0]))
+    return made, TOO_DEEP, at
+
+
 def pem(octets):
     """A text with a certificate in base64."""
     text = base64.encodebytes(octets).decode().replace("\n", "")
@@ -288,6 +314,8 @@ MADE = {
     "midnight-as-24-hours": (midnight_as_24_hours, True, True),
     "midnight-as-24-hours-by-century": (midnight_as_24_hours_by_century, True, True),
     "long-length-behind-a-time": (long_length_behind_a_time, False, False),
+    "indefinite-length-inside-64": (indefinite_length_inside_64, True, True),
+    "indefinite-length-inside-65": (indefinite_length_inside_65, True, True),
 }
 
 

@@ -3,7 +3,7 @@
 //!
 //! It writes the texts of reports (`report_text` of `asn1_certificate_text`), which are the reports of the certificates
 //! (`report_of` of `asn1_certificate_reader`), in the order of the inputs and with an empty line between two. A certificate
-//! that departs from DER is shown, and a warning on standard error names the rule of X.690 and the position of the byte.
+//! that departs from DER is shown, and a warning on standard error names a rule of X.690 and the position of the byte.
 //!
 //! | Argument | Effect |
 //! |---|---|

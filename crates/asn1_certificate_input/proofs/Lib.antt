@@ -1,3 +1,4 @@
 mod CertificateSets
+mod Differences
 mod NextAnswers
 mod Readings

@@ -2,9 +2,11 @@
 use Rattle.std.specs.Prelude.{ℕ, List, None, Option, Some}
 use Rattle.asn1_certificate_input.specs.Certificates.{IsReadOf, records_of}
 use Rattle.asn1_certificate_input.specs.declared.departure.Departure.{Departure}
-use Rattle.asn1_certificate_input.specs.declared.departure.Departure.TheVariants.{Breaks, Differs, IsNotWritten}
-use Rattle.asn1_certificate_rules.specs.Departures.{Departs}
+use Rattle.asn1_certificate_input.specs.declared.departure.Departure.TheVariants.{Breaks, Differs, IsNotWritten, IsTooDeep}
+use Rattle.asn1_certificate_rules.specs.Departures.{Departs, KeepsRules}
+use Rattle.asn1_certificate_rules.specs.Depths.{LiesDeeper}
 use Rattle.asn1_certificate_rules.specs.declared.notation.Part.TheVariants as part
+use Rattle.asn1_certificate_rules.specs.declared.rule.RuleSet.TheVariants.{All}
 use Rattle.asn1_der.specs.Format.{der_format}
 use Rattle.asn1_laws.specs.declared.encode_error.EncodeError.{EncodeError}
 use Rattle.asn1_rules.specs.CanonicalReading.{IsFirstDifference, IsWrittenAs}
@@ -36,13 +38,20 @@ AnswersDifference octets certificate None = AreDerAsWritten octets certificate
 AnswersDifference octets certificate (Some (Breaks broken)) = ⊥
 AnswersDifference octets certificate (Some (Differs position)) = IsWrittenOtherwise octets position
 AnswersDifference octets certificate (Some (IsNotWritten error)) = IsReadAndNotWritten octets error
+AnswersDifference octets certificate (Some (IsTooDeep position)) = ⊥
 
--- The same, or a rule of DER that the octets break where the notation of a certificate has this part.
+-- The same, or a rule of DER that the octets break where the notation of a certificate has this part, or the position of elements
+-- that lie inside more than 64 others.
 abbrev pub AnswersDeparture : List ℕ → Certificate → Option Departure → Type 0
-AnswersDeparture octets certificate (Some (Breaks broken)) = Departs 64 part.Certificate octets broken.rule broken.position
+AnswersDeparture octets certificate (Some (Breaks broken)) = Departs part.Certificate octets broken.rule broken.position
+AnswersDeparture octets certificate (Some (IsTooDeep position)) = LiesDeeper 64 part.Certificate octets position
 AnswersDeparture octets certificate difference = AnswersDifference octets certificate difference
 
 -- The octets are not those that writing the certificate makes.
 pub record DifferFromDer (octets : List ℕ) (certificate : Certificate) : Type 0 where
   pub difference : Departure
   pub is : AnswersDifference octets certificate (Some difference)
+
+-- The octets break no rule of DER where the notation of a certificate has the parts of one, at any depth.
+abbrev pub KeepsAllRules : List ℕ → Type 0
+KeepsAllRules octets = KeepsRules All part.Certificate octets

@@ -26,7 +26,7 @@ use Rattle.asn1_x509.specs.declared.certificate.Certificate.{Certificate}
 abbrev pub IsRefusalOfOctets : List ℕ → InputError → Type 0
 IsRefusalOfOctets octets (TrailingBytes end) = AreOfNoCertificate octets × IsFollowed octets end
 IsRefusalOfOctets octets (NotDer broken) =
-    AreOfNoCertificate octets × Departs 64 part.Other octets broken.rule broken.position × IsOfReading broken.rule
+    AreOfNoCertificate octets × Departs part.Other octets broken.rule broken.position × IsOfReading broken.rule
 IsRefusalOfOctets octets (NoElement position error) = AreOfNoCertificate octets × IsFirstFault 64 octets position
 IsRefusalOfOctets octets (BadComponent position name) = AreOfNoCertificate octets × AreElementsDownTo 64 octets
 IsRefusalOfOctets octets (NoCertificate position error) = AreOfNoCertificate octets × AreElementsDownTo 64 octets

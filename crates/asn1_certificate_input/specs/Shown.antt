@@ -1,7 +1,7 @@
 -- The output for a certificate.
 use Rattle.std.specs.Prelude.{◌≡◌, ◌||◌, ℕ, Bool, List, [], ◌∷◌, None, Option, false, if◌then◌else◌, true}
 use Rattle.asn1_certificate_input.specs.Certificates.{IsReadOf, records_of}
-use Rattle.asn1_certificate_input.specs.Departures.{AnswersDeparture}
+use Rattle.asn1_certificate_input.specs.Departures.{AnswersDeparture, KeepsAllRules}
 use Rattle.asn1_certificate_input.specs.declared.departure.Departure.{Departure}
 use Rattle.asn1_certificate_input.specs.declared.options.Options.{Options}
 use Rattle.asn1_certificate_input.specs.declared.options.OutputFormat.{OutputFormat}
@@ -31,14 +31,15 @@ abbrev pub AreBytesOf : OutputFormat → List ℕ → Certificate → List ℕ �
 AreBytesOf AsReport octets certificate bytes = AreLinesOf certificate bytes
 AreBytesOf Der octets certificate bytes = (bytes ≡ octets) × Carries bytes (records_of certificate)
 
--- The octets were read as a certificate, whose bytes these are, and depart from its DER in this way or not at all; and not at all where
--- such certificates are refused.
+-- The octets were read as a certificate, whose bytes these are, and depart from its DER in this way or not at all, and then break no
+-- rule of DER at any depth; and not at all where such certificates are refused.
 pub record IsShown (options : Options) (octets bytes : List ℕ) (departure : Option Departure) : Type 0 where
   pub certificate : Certificate
   pub read : IsReadOf octets certificate
   pub names : HasGoodNames certificate
   pub are : AreBytesOf options.format octets certificate bytes
   pub departs : AnswersDeparture octets certificate departure
+  pub keeps : departure ≡ None → KeepsAllRules octets
   pub strict : options.is_strict ≡ true → departure ≡ None
 
 -- the same of a certificate of an input, which has octets

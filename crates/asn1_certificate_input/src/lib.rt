@@ -20,9 +20,10 @@
 //!   (`AreCertificatesOf` of `specs/Inputs.antt`).
 //! - A certificate is shown as its lines or its DER (`IsShown` of `specs/Shown.antt`): its octets are read as the valid certificate
 //!   whose DER they are, if there is one (`IsReadOf` of `specs/Certificates.antt`).
-//! - If no departure is answered of a certificate that is shown, its octets are the very octets that writing the certificate makes. A
-//!   departure that is answered is one: the octets break this rule at this position, or differ there from what is written (`departs` of
-//!   `IsShown`, by `AnswersDeparture` of `specs/Departures.antt`). With `is_strict` none is answered (`strict`).
+//! - If no departure is answered of a certificate that is shown, its octets are the very octets that writing the certificate makes, and
+//!   break no rule of DER at any depth (`keeps` of `IsShown`). A departure that is answered is one: the octets break this rule at this
+//!   position, or differ there from what is written, or hold elements there that lie inside more than 64 others (`departs`, by
+//!   `AnswersDeparture` of `specs/Departures.antt`). With `is_strict` none is answered (`strict`).
 //! - An error is a true reason for which a certificate or an input is refused (`IsRefusalOf` and `IsRefusalOfInput` of
 //!   `specs/Refused.antt`). An error for a rule of DER names the rule and the position. For a value in a name, and for parameters, the
 //!   position is the one to which their path leads in the octets (`specs/Positions.antt`).

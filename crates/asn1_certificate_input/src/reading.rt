@@ -9,7 +9,7 @@ ghost use Rattle.asn1_certificate_rules.specs.Rules.{IsOfReading};
 use crate::departure::Departure;
 use crate::error::InputError;
 use asn1_certificate_reader::MAX_DEPTH;
-use asn1_certificate_rules::{BrokenRule, Part, RuleSet, first_broken_rule};
+use asn1_certificate_rules::{BrokenRule, Finding, Part, RuleSet, find_broken_rule};
 use asn1_dec::{Decode, DecodeError};
 use asn1_der::{DerDecoder, DerRules};
 use asn1_der_items::{find_element, first_fault};
@@ -71,7 +71,7 @@ fn read_again(
     }
 }
 
-/// The reason for which octets are not read: trailing bytes behind a certificate; or the first rule of DER that reading looks at and they
+/// The reason for which octets are not read: trailing bytes behind a certificate; or a rule of DER that reading looks at and they
 /// break, if that is before the position up to which they were read; or the first position at which an element is due and none
 /// begins; or else the position up to which they were read.
 fn refusal(alloc: Global, octets: &[u8], error: DecodeError) -> InputError
@@ -98,13 +98,13 @@ fn refusal(alloc: Global, octets: &[u8], error: DecodeError) -> InputError
     }
 }
 
-/// The first rule of DER that reading looks at and octets break, if its position is before this one.
+/// A rule of DER that reading looks at and octets break, if one is found whose position is before this one.
 fn broken_before(octets: &[u8], end: usize) -> Option<BrokenRule>
-    ensures broken { IfSome result (λ d. Departs 64 Part.Other octets.now d.rule d.position) }
+    ensures broken { IfSome result (λ d. Departs Part.Other octets.now d.rule d.position) }
     ensures of_reading { IfSome result (λ d. IsOfReading d.rule) }
 {
-    match first_broken_rule(octets, Part::Other, RuleSet::OfReading, MAX_DEPTH) {
-        Some(broken) if broken.position < end => Some(broken),
+    match find_broken_rule(octets, Part::Other, RuleSet::OfReading, MAX_DEPTH) {
+        Some(Finding::Broken(broken)) if broken.position < end => Some(broken),
         _ => None,
     }
 }

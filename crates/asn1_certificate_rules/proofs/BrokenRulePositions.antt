@@ -1,9 +1,9 @@
 -- The positions of broken rules.
-use Rattle.std.proofs.Common.{◌≡◌, ℕ, ◌+◌, ◌≤◌, List, Option, None, Some, arith, false, length, true, refl, subst, sym}
+use Rattle.std.proofs.Common.{◌≡◌, ℕ, ◌+◌, ◌≤◌, List, Option, None, Some, arith, false, length, refl, true}
 use Rattle.asn1_certificate_rules.proofs.SetOrders.{out_of_order-within}
-use Rattle.asn1_certificate_rules.specs.Departures.{Departs, IsInside, behind, header_of, here, in_header, inside}
+use Rattle.asn1_certificate_rules.specs.Departures.{Departs, behind, here, in_header, inside}
+use Rattle.asn1_certificate_rules.specs.Depths.{header_of}
 use Rattle.asn1_certificate_rules.specs.Headers.{BreaksHeader}
-use Rattle.asn1_certificate_rules.specs.declared.broken_rules.BrokenRule.{BrokenRule}
 use Rattle.asn1_certificate_rules.specs.declared.notation.Part.{Part}
 use Rattle.asn1_certificate_rules.specs.Rules.{BreaksRule}
 use Rattle.asn1_certificate_rules.specs.declared.rule.Rule.{Rule}
@@ -45,29 +45,11 @@ element-within part header e rule.UtcTime position breaks = omega (arith, breaks
 element-within part header e r position breaks = absurd breaks
 
 -- a departure is in the bytes
-pub departs-within : (depth : ℕ) (part : Part) (bytes : List ℕ) (r : Rule) (position : ℕ) → Departs depth part bytes r position →
-    position ≤ length bytes
-departs-within _ _ _ _ _ (in_header depth part bytes r position none breaks) = header-within bytes r position breaks
-departs-within _ _ _ _ _ (here depth part bytes e r position at breaks) =
+pub departs-within : (part : Part) (bytes : List ℕ) (r : Rule) (position : ℕ) → Departs part bytes r position → position ≤ length bytes
+departs-within _ _ _ _ (in_header part bytes r position none breaks) = header-within bytes r position breaks
+departs-within _ _ _ _ (here part bytes e r position at breaks) =
     omega (arith, element-within part (header_of bytes e) e r position breaks, parts_fit bytes e at)
-departs-within _ _ _ _ _ (behind depth part bytes e r later at departs) =
-    omega (arith, departs-within depth _ e.rest r later departs, element_at-shorter bytes e at)
-departs-within _ _ _ _ _ (inside below part bytes e r later at opened departs) =
-    omega (arith, departs-within below _ e.contents r later departs, parts_fit bytes e at)
-
--- a broken rule is the same at another name of its position
-pub at_position : (depth : ℕ) (part : Part) (bytes : List ℕ) (r : Rule) (position other : ℕ) → position ≡ other →
-    Departs depth part bytes r position → Departs depth part bytes r other
-at_position depth part bytes r position other same departs = subst (λ (p : ℕ). Departs depth part bytes r p) same departs
-
--- what holds of a rule and a position behind some bytes holds of the broken rule that was moved there
-pub moved : (m : BrokenRule) (depth : ℕ) (part : Part) (bytes : List ℕ) (r : Rule) (position : ℕ) → m.rule ≡ r → m.position ≡ position →
-    Departs depth part bytes r position → Departs depth part bytes m.rule m.position
-moved m depth part bytes r position same there departs =
-    subst (λ (s : Rule). Departs depth part bytes s m.position) (sym same) (subst (λ (p : ℕ). Departs depth part bytes r p) (sym there) departs)
-
--- what is found inside the element with which bytes begin, in the bytes
-pub from_inside : (depth : ℕ) (part : Part) (bytes : List ℕ) (e : Element) (r : Rule) (position : ℕ) → element_at bytes ≡ Some e →
-    IsInside depth part e r position → Departs depth part bytes r (header_of bytes e + position)
-from_inside depth part bytes e r position at f =
-    subst (λ (d : ℕ). Departs d part bytes r (header_of bytes e + position)) (sym f.deeper) (inside f.below part bytes e r position at f.opened f.departs)
+departs-within _ _ _ _ (behind part bytes e r later at departs) =
+    omega (arith, departs-within _ e.rest r later departs, element_at-shorter bytes e at)
+departs-within _ _ _ _ (inside part bytes e r later at opened departs) =
+    omega (arith, departs-within _ e.contents r later departs, parts_fit bytes e at)

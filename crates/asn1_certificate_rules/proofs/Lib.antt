@@ -1,4 +1,5 @@
 mod BrokenRulePositions
+mod Findings
 mod HeaderPositions
 mod KeptRules
 mod SetOrders

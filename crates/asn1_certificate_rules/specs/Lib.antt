@@ -1,5 +1,7 @@
 pub mod Contents
 pub mod Departures
+pub mod Depths
+pub mod Findings
 pub mod Headers
 pub mod Notation
 pub mod Rules

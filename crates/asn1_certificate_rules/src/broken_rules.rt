@@ -1,9 +1,10 @@
-//! The first rule of DER that bytes break.
-ghost use Rattle.std.specs.Prelude.{◌≡◌, ◌+◌, ◌^◌, ◌<◌, IfSome, MatchOption};
-ghost use Rattle.asn1_certificate_rules.specs.Departures.{Departs, InsideKeepsRules, IsInside, KeepsRules};
-ghost use Rattle.asn1_certificate_rules.specs.Rules.{IsOf};
+//! Rules of DER that bytes break.
+ghost use Rattle.std.specs.Prelude.{IfSome, MatchOption};
+ghost use Rattle.asn1_certificate_rules.specs.Departures.{InsideKeepsRules, KeepsRules};
+ghost use Rattle.asn1_certificate_rules.specs.Findings.{Finds, FindsInside, IsAsked};
 ghost use Rattle.asn1_der_items.specs.Elements.{element_of};
 
+use crate::finding::Finding;
 use crate::headers::broken_header;
 use crate::notation::Part;
 use crate::rule::{Rule, RuleSet};
@@ -21,48 +22,29 @@ pub struct BrokenRule {
     pub position: usize,
 }
 
-impl BrokenRule {
-    /// The same rule behind this many bytes.
-    fn after(self, count: usize) -> BrokenRule
-        requires { count + self.position < 2 ^ 64 }
-        ensures rule { result.rule ≡ self.rule }
-        ensures position { result.position ≡ count + self.position }
-    {
-        BrokenRule {
-            rule: self.rule,
-            position: count + self.position,
-        }
-    }
-}
-
-/// The first of these rules that bytes break which have this part of a certificate first, if they break one. It looks into elements
-/// down to this depth.
+/// A rule of these that bytes break which have this part of a certificate first; or the position of elements that lie inside more
+/// elements than this depth, into which it does not look; or none, if the bytes break none of the rules at any depth.
 ///
 /// Where an element is due and none begins, the identifier and the length there are the last octets that it looks at.
 #[cycle(broken_rules)]
-pub fn first_broken_rule(
-    bytes: &[u8],
-    part: Part,
-    rules: RuleSet,
-    depth: usize,
-) -> Option<BrokenRule>
-    ensures broken { MatchOption result (KeepsRules rules depth part bytes.now)
-        (λ d. Departs depth part bytes.now d.rule d.position) }
-    ensures asked { IfSome result (λ d. IsOf rules d.rule) }
+pub fn find_broken_rule(bytes: &[u8], part: Part, rules: RuleSet, depth: usize) -> Option<Finding>
+    ensures found { MatchOption result (KeepsRules rules part bytes.now)
+        (Finds depth part bytes.now) }
+    ensures asked { IfSome result (IsAsked rules) }
 {
     let mut left = bytes;
     let mut place = part;
     while !left.is_empty() {
         let before = bytes.len() - left.len();
         let Ok(element) = find_element(left) else {
-            return Some(broken_header(left)?.after(before));
+            return Some(Finding::Broken(broken_header(left)?).after(before));
         };
         let header = left.len() - element.rest.len() - element.contents.len();
         if let Some(broken) = broken_rule(rules, place, header, element) {
-            return Some(broken.after(before));
+            return Some(Finding::Broken(broken).after(before));
         }
-        if let Some(broken) = broken_inside(element, place, rules, depth) {
-            return Some(broken.after(before + header));
+        if let Some(finding) = find_inside(element, place, rules, depth) {
+            return Some(finding.after(before + header));
         }
         place = place.behind(element);
         left = element.rest;
@@ -72,19 +54,16 @@ pub fn first_broken_rule(
 
 /// The same inside an element, by the position in its contents octets.
 #[cycle(broken_rules)]
-fn broken_inside(
-    element: Element<'_>,
-    part: Part,
-    rules: RuleSet,
-    depth: usize,
-) -> Option<BrokenRule>
-    ensures inside { MatchOption result
-        (InsideKeepsRules rules depth part (element_of element.entry))
-        (λ d. IsInside depth part (element_of element.entry) d.rule d.position) }
-    ensures asked { IfSome result (λ d. IsOf rules d.rule) }
+fn find_inside(element: Element<'_>, part: Part, rules: RuleSet, depth: usize) -> Option<Finding>
+    ensures found { MatchOption result (InsideKeepsRules rules part (element_of element.entry))
+        (FindsInside depth part (element_of element.entry)) }
+    ensures asked { IfSome result (IsAsked rules) }
 {
-    if depth == 0 || !part.opens(element) {
+    if !part.opens(element) || element.contents.is_empty() {
         return None;
     }
-    first_broken_rule(element.contents, part.inside(element), rules, depth - 1)
+    if depth == 0 {
+        return Some(Finding::Deeper(0));
+    }
+    find_broken_rule(element.contents, part.inside(element), rules, depth - 1)
 }

@@ -8,7 +8,7 @@
 //! | `file NAME BYTES` | the run of `asn1_certificate` over an input, with no option, with `--strict` and with `--der` | for each the status and the messages |
 //! | `input BYTES` | the run over an input with no option | the status and the messages |
 //! | `line WORD BYTES` | the report of a certificate | its first line that has this word |
-//! | `rule PART BYTES` | the first rule of DER that the bytes break, where the notation of a certificate has this part | the byte and the rule |
+//! | `rule PART BYTES` | a rule of DER that the bytes break, where the notation of a certificate has this part | the byte and the rule, or the byte at which elements lie inside more than eight others |
 //! | `pem TEXT` | the certificates of a text | for each its octets, or why it has none |
 //! | `escaped TEXT` | the value of an attribute | its text in a name |
 //! | `octets BYTES`, `address BYTES`, `usages BITS` | octets, an IP address, the bits of a key usage | their text |
@@ -29,7 +29,7 @@ mod texts;
 mod words;
 
 use crate::inputs::{DER, REPORT, STRICT, line_of_report, status_and_messages};
-use crate::rules::first_broken_rule_of;
+use crate::rules::broken_rule_of;
 use crate::words::{arcs_of, bits_of, bytes_of, text_of};
 use asn1_certificate_input::Options;
 use std::alloc::Global;
@@ -104,7 +104,7 @@ fn answer_to(alloc: Global, question: &str, subject: &str) -> Option<String> {
         }
         "rule" => {
             let (part, digits) = subject.split_once(' ')?;
-            first_broken_rule_of(alloc, part, &bytes_of(alloc, digits)?)
+            broken_rule_of(alloc, part, &bytes_of(alloc, digits)?)
         }
         "octets" => texts::octets(alloc, &bytes_of(alloc, subject)?),
         "address" => texts::address(alloc, &bytes_of(alloc, subject)?),

@@ -1,6 +1,6 @@
 use Rattle.std.proofs.Common.{◌≡◌, ℕ, List, Option, None, inl, inr, subst}
 use Rattle.std.proofs.lemmas.Result.{err_from_is_err_and}
-use Rattle.asn1_certificate_input.specs.Departures.{AnswersDeparture, AnswersDifference, AreDerAsWritten}
+use Rattle.asn1_certificate_input.specs.Departures.{AnswersDeparture, AnswersDifference, AreDerAsWritten, KeepsAllRules}
 use Rattle.asn1_certificate_input.specs.Refused.{IsRefusalOfCertificate}
 use Rattle.asn1_certificate_input.specs.declared.departure.Departure.{Departure}
 use Rattle.asn1_x509.specs.declared.certificate.Certificate.{Certificate}
@@ -50,6 +50,7 @@ returns-clause-shown c = record {
   names = c.in_ok-check_open_types.ensures.good;
   are = c.in_ok-bytes.ensures;
   departs = departs _ _ _ _ _ c.as_slice-2.ensures.value (c.departure_of-departure.ensures.answers c.args.read.now.certificate) c.requires.difference;
+  keeps = λ none. subst KeepsAllRules c.as_slice-2.ensures.value (c.departure_of-departure.ensures.keeps none);
   strict = c.in_ok-check_departure.ensures.strict;
 }
 

@@ -1,22 +1,22 @@
 use Rattle.std.proofs.Common.{ℕ, ◌+◌, ◌-◌, ◌*◌, ◌≤◌, length}
-use Rattle.asn1_certificate_rules.specs.Departures.{Departs, KeepsRules}
-use Rattle.asn1_certificate_rules.specs.declared.rule.Rule.{Rule}
+use Rattle.asn1_certificate_rules.specs.Departures.{KeepsRules}
+use Rattle.asn1_certificate_rules.specs.Findings.{Finds, moved}
+use Rattle.asn1_certificate_rules.specs.declared.finding.Finding.{Finding}
 use Rattle.asn1_certificate_rules.proofs.broken_rules.+broken_rules.Given as goal
 
-abbrev pub decreases-first_broken_rule : goal.decreases-first_broken_rule
-decreases-first_broken_rule l = 2 * l.depth + 1
+abbrev pub decreases-find_broken_rule : goal.decreases-find_broken_rule
+decreases-find_broken_rule l = 2 * l.depth + 1
 
-abbrev pub decreases-broken_inside : goal.decreases-broken_inside
-decreases-broken_inside l = 2 * l.depth
+abbrev pub decreases-find_inside : goal.decreases-find_inside
+decreases-find_inside l = 2 * l.depth
 
--- a departure in what is left is one of the bytes
-abbrev pub invariant-first_broken_rule-loop-left : goal.invariant-first_broken_rule-loop-left
-invariant-first_broken_rule-loop-left l = record {
+-- what is found in what is left is found in the bytes
+abbrev pub invariant-find_broken_rule-loop-left : goal.invariant-find_broken_rule-loop-left
+invariant-find_broken_rule-loop-left l = record {
   fits : length l.left ≤ length l.bytes;
-  departures : (rule : Rule) (position : ℕ) → Departs l.depth l.place l.left rule position →
-      Departs l.depth l.fn.part l.bytes rule (length l.bytes - length l.left + position);
-  kept : KeepsRules l.rules l.depth l.place l.left → KeepsRules l.rules l.depth l.fn.part l.bytes;
+  findings : (f : Finding) → Finds l.depth l.place l.left f → Finds l.depth l.fn.part l.bytes (moved (length l.bytes - length l.left) f);
+  kept : KeepsRules l.rules l.place l.left → KeepsRules l.rules l.fn.part l.bytes;
 }
 
-abbrev pub decreases-first_broken_rule-loop-left : goal.decreases-first_broken_rule-loop-left
-decreases-first_broken_rule-loop-left l = length l.left
+abbrev pub decreases-find_broken_rule-loop-left : goal.decreases-find_broken_rule-loop-left
+decreases-find_broken_rule-loop-left l = length l.left
