@@ -21,13 +21,13 @@ use Rattle.asn1_ldap.specs.declared.modify_dn_request.ModifyDnRequest.{ModifyDnR
 use Rattle.asn1_ldap.specs.declared.modify_request.ModifyRequest.{ModifyRequest}
 use Rattle.asn1_ldap.specs.declared.modify_request_changes_element.ModifyRequestChangesElement.{ModifyRequestChangesElement}
 use Rattle.asn1_ldap.specs.declared.modify_request_changes_element_operation.ModifyRequestChangesElementOperation.{ModifyRequestChangesElementOperation}
-use Rattle.asn1_ldap.specs.declared.modify_request_changes_element_operation.ModifyRequestChangesElementOperation.TheVariants.{Add, Delete, Replace}
+use Rattle.asn1_ldap.specs.declared.modify_request_changes_element_operation.ModifyRequestChangesElementOperation.TheVariants.{Add, Delete, Replace, Increment}
 use Rattle.asn1_ldap.specs.declared.sasl_credentials.SaslCredentials.{SaslCredentials}
 use Rattle.asn1_ldap.specs.declared.search_request.SearchRequest.{SearchRequest}
 use Rattle.asn1_ldap.specs.declared.search_request_deref_aliases.SearchRequestDerefAliases.{SearchRequestDerefAliases}
 use Rattle.asn1_ldap.specs.declared.search_request_deref_aliases.SearchRequestDerefAliases.TheVariants.{NeverDerefAliases, DerefInSearching, DerefFindingBaseObj, DerefAlways}
 use Rattle.asn1_ldap.specs.declared.search_request_scope.SearchRequestScope.{SearchRequestScope}
-use Rattle.asn1_ldap.specs.declared.search_request_scope.SearchRequestScope.TheVariants.{BaseObject, SingleLevel, WholeSubtree}
+use Rattle.asn1_ldap.specs.declared.search_request_scope.SearchRequestScope.TheVariants.{BaseObject, SingleLevel, WholeSubtree, SubordinateSubtree}
 use Rattle.asn1_ldap.specs.declared.search_result_entry.SearchResultEntry.{SearchResultEntry}
 use Rattle.asn1_ldap_text.specs.Attributes.{after_comma, attribute_text}
 use Rattle.asn1_ldap_text.specs.Binds.{authentication_text, bind_request_text, bind_response_text, sasl_text, version_text}
@@ -47,7 +47,7 @@ use Rattle.asn1_values.specs.Text.{integer_text}
 -- ---- results
 
 code_printable : (c : LdapResultResultCode) → Printable (code_text c)
-code_printable = elim [ code.Success ↦ refl | code.OperationsError ↦ refl | code.ProtocolError ↦ refl | code.TimeLimitExceeded ↦ refl | code.SizeLimitExceeded ↦ refl | code.CompareFalse ↦ refl | code.CompareTrue ↦ refl | code.AuthMethodNotSupported ↦ refl | code.StrongerAuthRequired ↦ refl | code.Referral ↦ refl | code.AdminLimitExceeded ↦ refl | code.UnavailableCriticalExtension ↦ refl | code.ConfidentialityRequired ↦ refl | code.SaslBindInProgress ↦ refl | code.NoSuchAttribute ↦ refl | code.UndefinedAttributeType ↦ refl | code.InappropriateMatching ↦ refl | code.ConstraintViolation ↦ refl | code.AttributeOrValueExists ↦ refl | code.InvalidAttributeSyntax ↦ refl | code.NoSuchObject ↦ refl | code.AliasProblem ↦ refl | code.InvalidDnSyntax ↦ refl | code.AliasDereferencingProblem ↦ refl | code.InappropriateAuthentication ↦ refl | code.InvalidCredentials ↦ refl | code.InsufficientAccessRights ↦ refl | code.Busy ↦ refl | code.Unavailable ↦ refl | code.UnwillingToPerform ↦ refl | code.LoopDetect ↦ refl | code.NamingViolation ↦ refl | code.ObjectClassViolation ↦ refl | code.NotAllowedOnNonLeaf ↦ refl | code.NotAllowedOnRdn ↦ refl | code.EntryAlreadyExists ↦ refl | code.ObjectClassModsProhibited ↦ refl | code.AffectsMultipleDsas ↦ refl | code.Other ↦ refl ]
+code_printable = elim [ code.Success ↦ refl | code.OperationsError ↦ refl | code.ProtocolError ↦ refl | code.TimeLimitExceeded ↦ refl | code.SizeLimitExceeded ↦ refl | code.CompareFalse ↦ refl | code.CompareTrue ↦ refl | code.AuthMethodNotSupported ↦ refl | code.StrongerAuthRequired ↦ refl | code.Referral ↦ refl | code.AdminLimitExceeded ↦ refl | code.UnavailableCriticalExtension ↦ refl | code.ConfidentialityRequired ↦ refl | code.SaslBindInProgress ↦ refl | code.NoSuchAttribute ↦ refl | code.UndefinedAttributeType ↦ refl | code.InappropriateMatching ↦ refl | code.ConstraintViolation ↦ refl | code.AttributeOrValueExists ↦ refl | code.InvalidAttributeSyntax ↦ refl | code.NoSuchObject ↦ refl | code.AliasProblem ↦ refl | code.InvalidDnSyntax ↦ refl | code.AliasDereferencingProblem ↦ refl | code.InappropriateAuthentication ↦ refl | code.InvalidCredentials ↦ refl | code.InsufficientAccessRights ↦ refl | code.Busy ↦ refl | code.Unavailable ↦ refl | code.UnwillingToPerform ↦ refl | code.LoopDetect ↦ refl | code.NamingViolation ↦ refl | code.ObjectClassViolation ↦ refl | code.NotAllowedOnNonLeaf ↦ refl | code.NotAllowedOnRdn ↦ refl | code.EntryAlreadyExists ↦ refl | code.ObjectClassModsProhibited ↦ refl | code.AffectsMultipleDsas ↦ refl | code.Other ↦ refl | code.LcupResourcesExhausted ↦ refl | code.LcupSecurityViolation ↦ refl | code.LcupInvalidData ↦ refl | code.LcupUnsupportedScheme ↦ refl | code.LcupReloadRequired ↦ refl | code.Canceled ↦ refl | code.NoSuchOperation ↦ refl | code.TooLate ↦ refl | code.CannotCancel ↦ refl | code.AssertionFailed ↦ refl | code.AuthorizationDenied ↦ refl | code.ESyncRefreshRequired ↦ refl | code.NoOperation ↦ refl ]
 
 diagnosis_printable : (matched message : List ℕ) → Printable (diagnosis_text matched message)
 diagnosis_printable matched message =
@@ -93,7 +93,7 @@ bind_response_printable r =
 -- ---- searches
 
 scope_printable : (s : SearchRequestScope) → Printable (scope_text s)
-scope_printable = elim [ BaseObject ↦ refl | SingleLevel ↦ refl | WholeSubtree ↦ refl ]
+scope_printable = elim [ BaseObject ↦ refl | SingleLevel ↦ refl | WholeSubtree ↦ refl | SubordinateSubtree ↦ refl ]
 
 base_printable : (r : SearchRequest) → Printable (base_text r)
 base_printable r = both (quoted r.base_object) (codes ", scope " ++ scope_text r.scope) (quoted_printable r.base_object) (scope_printable r.scope)
@@ -134,7 +134,7 @@ entry_printable e =
 -- ---- changes
 
 change_name_printable : (o : ModifyRequestChangesElementOperation) → Printable (change_name o)
-change_name_printable = elim [ Add ↦ refl | Delete ↦ refl | Replace ↦ refl ]
+change_name_printable = elim [ Add ↦ refl | Delete ↦ refl | Replace ↦ refl | Increment ↦ refl ]
 
 change_printable : (c : ModifyRequestChangesElement) → Printable (change_text c)
 change_printable c =
