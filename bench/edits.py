@@ -55,7 +55,7 @@ def main():
     names = crates_with_edits()
     words = sys.argv[1:]
     verb = "ci" if words[:1] == ["--ci"] else "must-fail"
-    chosen = words[verb == "ci":] or names
+    chosen = sorted(set(words[verb == "ci":])) or names
     unknown = [name for name in chosen if name not in names]
     if unknown:
         sys.exit(f"bench/edits has no folder {unknown[0]}")
