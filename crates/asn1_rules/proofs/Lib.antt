@@ -1,3 +1,4 @@
+mod Appending
 pub mod ItemFronts
 pub mod Outputs
 pub mod PiecesRead

@@ -3,7 +3,7 @@ use Rattle.asn1_rules.specs.Sources.{kept_in, unread_in}
 use Rattle.asn1_rules.specs.States.{State}
 use Rattle.asn1_rules.specs.declared.iter.Iter.{Iter}
 
-abbrev pub state : {D R : Type 0} → Iter D R → State R
+abbrev pub state : {D R : Type 0} {p : _} {g : _} → Iter D R p g → State R
 state it = record {
   reader = it.reader;
   unread = unread_in it.source;

@@ -43,9 +43,13 @@ impl<T: Encode + Decode, F: FrontReader<T>, R: Rules<Output = Vec<u8>>> FrontRea
     ghost use Rattle.asn1_rules.specs.CanonicalFronts.{FrontDepartsAs, canonical_fronts};
     ghost use Rattle.asn1_rules.specs.CanonicalReading.{IsWrittenAs};
     ghost use Rattle.asn1_rules.specs.Fronts.{ReadsFront};
-    ghost use Rattle.std.specs.Prelude.{IfErr, IfOk, take};
+    ghost use Rattle.std.specs.Prelude.{◌≤◌, IfErr, IfOk, length, take};
 
     ghost fronts = { canonical_fronts F.fronts R.format T.meaning };
+
+    type Progress = F::Progress;
+
+    ghost came = { λ reader progress bytes. F.came reader.reader progress bytes };
 
     fn read_front(&self, input: &[u8]) -> Result<(T, usize), DecodeError>
         ensures read { ReadsFront (canonical_fronts F.fronts R.format T.meaning) self.now input.now
@@ -55,7 +59,28 @@ impl<T: Encode + Decode, F: FrontReader<T>, R: Rules<Output = Vec<u8>>> FrontRea
         ensures departs { IfErr result (FrontDepartsAs F.fronts R.format T.meaning
             self.now.reader self.now.depth input.now) }
     {
-        let (value, length) = self.reader.read_front(input)?;
+        let mut progress = self.reader.start();
+        self.read_on(input, &mut progress)
+    }
+
+    fn start(&self) -> F::Progress {
+        self.reader.start()
+    }
+
+    fn read_on(&self, input: &[u8], progress: &mut F::Progress) -> Result<(T, usize), DecodeError>
+        ensures read { ∥ F.came self.now.reader progress.old input.now ∥₁ →
+            ReadsFront (canonical_fronts F.fronts R.format T.meaning) self.now input.now result }
+        ensures within { IfOk result (λ answer. answer.1 ≤ length input.now) }
+        ensures came { ∥ F.came self.now.reader progress.old input.now ∥₁ →
+            ∥ F.came self.now.reader progress.new input.now ∥₁ }
+        ensures canonical { ∥ F.came self.now.reader progress.old input.now ∥₁ →
+            IfOk result (λ answer. IsWrittenAs R.format T.meaning self.now.depth
+            answer.0 (take answer.1 input.now)) }
+        ensures departs { ∥ F.came self.now.reader progress.old input.now ∥₁ →
+            IfErr result (FrontDepartsAs F.fronts R.format T.meaning
+            self.now.reader self.now.depth input.now) }
+    {
+        let (value, length) = self.reader.read_on(input, progress)?;
         let output = match self.rules.write_value(&value, self.depth) {
             Ok(output) => output,
             Err(error) => return Err(as_error_of_reading(error)),
@@ -70,6 +95,9 @@ impl<T: Encode + Decode, F: FrontReader<T>, R: Rules<Output = Vec<u8>>> FrontRea
       is_cut = λ reader bytes v n front. (F.lawful.is_cut reader.reader bytes v n front.front, (v, front.spelled));
       within = λ reader bytes n cut. F.lawful.within reader.reader bytes n cut.0;
     } };
+
+    ghost goes_on = { λ reader progress bytes behind came.
+        F.goes_on reader.reader progress bytes behind came };
 }
 
 /// An error of writing, as a reader answers it that writes what it has read.

@@ -1,7 +1,7 @@
 //! Values one after another, out of bytes that come in pieces.
 ghost use Rattle.asn1_rules.specs.Progress.{Steps};
 ghost use Rattle.asn1_rules.specs.States.{appended, begun, count_of, counted};
-ghost use Rattle.asn1_rules.specs.Sources.{kept_in};
+ghost use Rattle.asn1_rules.specs.Sources.{kept_in, unread_in};
 ghost use Rattle.std.specs.Prelude.{◌≡◌, ◌≤◌, length, IfSome, OnErr, OnOk};
 
 use crate::front_reader::FrontReader;
@@ -12,15 +12,19 @@ use std::marker::PhantomData;
 
 /// Values one after another, out of bytes that come in pieces.
 #[derive(Drop)]
-pub struct Iter<'input, D, R> {
+pub struct Iter<'input, D, R: FrontReader<D>> {
     alloc: Global,
     reader: R,
     source: Source<'input>,
+    /// How far the reader came in the bytes that have not been read.
+    progress: R::Progress,
     consumed: u128,
     shifted: u128,
     value: PhantomData<D>,
     // All bytes that have been moved, and those that may be moved next, have been read.
     ghost moved: { counted shifted (count_of (kept_in source)) ≤ consumed },
+    // The reader came as far as the progress says.
+    ghost came: { ∥ R.came reader progress (unread_in source) ∥₁ },
 }
 
 impl<'input, D, R: FrontReader<D>> Iter<'input, D, R> {
@@ -30,10 +34,12 @@ impl<'input, D, R: FrontReader<D>> Iter<'input, D, R> {
     pub fn new(alloc: Global, input: &'input [u8], reader: R) -> Self
         ensures begun { state result ≡ begun reader input.now }
     {
+        let progress = reader.start();
         Iter {
             alloc,
             reader,
             source: Source::Borrowed(input),
+            progress,
             consumed: 0,
             shifted: 0,
             value: PhantomData,
@@ -41,7 +47,7 @@ impl<'input, D, R: FrontReader<D>> Iter<'input, D, R> {
     }
 }
 
-impl<'input, D, R> Iter<'input, D, R> {
+impl<'input, D, R: FrontReader<D>> Iter<'input, D, R> {
     ghost use Rattle.asn1_rules.specs.Iters.{state};
 
     /// The bytes that have been given and not read.
@@ -89,9 +95,13 @@ impl<'input, D: Drop, R: FrontReader<D> + Drop> Iterator for Iter<'input, D, R> 
     ghost next_gives = { λ old item new. Steps R.fronts (state old) item (state new) };
 
     fn next(&mut self) -> Option<Result<D, DecodeError>> {
-        match self.reader.read_front(self.unread()) {
+        match self
+            .reader
+            .read_on(self.source.unread(), &mut self.progress)
+        {
             Ok((value, length)) => {
                 let moved = self.source.take(length);
+                self.progress = self.reader.start();
                 self.consumed = self.consumed.saturating_add(length as u128);
                 self.shifted = self.shifted.saturating_add(moved as u128);
                 Some(Ok(value))
