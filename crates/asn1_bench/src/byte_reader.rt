@@ -15,9 +15,13 @@ impl FrontReader<u8> for ByteReader {
     ghost use Rattle.asn1_laws.specs.declared.decode_error.DecodeError.TheVariants.{Incomplete};
     ghost use Rattle.asn1_laws.specs.declared.needed.Needed.TheVariants.{Size};
     ghost use Rattle.asn1_rules.specs.Fronts.{ReadsFront};
-    ghost use Rattle.std.specs.Prelude.{◌≡◌, ◌∷◌, [], Err, List, Ok, ℕ};
+    ghost use Rattle.std.specs.Prelude.{◌≡◌, ◌∷◌, ⊤, [], Err, List, Ok, ℕ};
 
     ghost fronts = { byte_fronts };
+
+    type Progress = ();
+
+    ghost came = { λ reader progress bytes. ⊤ };
 
     fn read_front(&self, input: &[u8]) -> Result<(u8, usize), DecodeError>
         ensures read { ReadsFront byte_fronts self.now input.now result }
@@ -30,8 +34,12 @@ impl FrontReader<u8> for ByteReader {
         }
     }
 
+    fn start(&self) {}
+
     ghost lawful = { record {
       is_cut = λ reader bytes v n front. byte_front_is_cut bytes v n front;
       within = λ reader bytes n cut. Prim.search rules;
     } };
+
+    ghost goes_on = { λ reader progress bytes behind came. tt };
 }

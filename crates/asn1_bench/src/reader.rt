@@ -54,8 +54,13 @@ impl BenchReader {
 
 impl<D: Decode> FrontReader<D> for BenchReader {
     ghost use Rattle.asn1_bench.specs.Fronts.{cut_within, packed_fronts};
+    ghost use Rattle.std.specs.Prelude.{⊤};
 
     ghost fronts = { packed_fronts D.meaning D.eq };
+
+    type Progress = ();
+
+    ghost came = { λ reader progress bytes. ⊤ };
 
     fn read_front(&self, input: &[u8]) -> Result<(D, usize), DecodeError> {
         let Some(length) = item_length(input) else {
@@ -65,10 +70,14 @@ impl<D: Decode> FrontReader<D> for BenchReader {
         Ok((value, length))
     }
 
+    fn start(&self) {}
+
     ghost lawful = { record {
       is_cut = λ reader bytes v n front. front.cut;
       within = λ reader bytes n cut. cut_within bytes n cut;
     } };
+
+    ghost goes_on = { λ reader progress bytes behind came. tt };
 }
 
 /// How long the item is with which the bytes begin, where all of it is there.

@@ -3,7 +3,7 @@ ghost use Rattle.std.specs.Prelude.{◌≡◌};
 
 use crate::errors::decode_error_of;
 use crate::reading::read_normal;
-use asn1_ber_items::front_element;
+use asn1_ber_items::{Progress, find_end, front_element};
 use asn1_dec::{Decode, DecodeError};
 use asn1_rules::FrontReader;
 use std::alloc::Global;
@@ -14,7 +14,8 @@ use std::alloc::Global;
 /// a whole. If the element is not complete, the error is [`DecodeError::Incomplete`]; if the input does not begin with an element, it is
 /// [`DecodeError::Custom`] with the text `bad item`.
 ///
-/// Each call begins at the first octet, so an element of indefinite length that comes in many pieces is looked through for each.
+/// Where octets come in pieces, the search for the end of an element of indefinite length goes on where it came with the piece before
+/// (`read_on`), and the element is read once it is whole.
 #[derive(Clone, Copy, Debug, Drop)]
 pub struct BerReader {
     alloc: Global,
@@ -33,8 +34,13 @@ impl BerReader {
 
 impl<D: Decode> FrontReader<D> for BerReader {
     ghost use Rattle.asn1_ber.specs.Cuts.{ber_fronts, cut_within};
+    ghost use Rattle.asn1_ber_items.specs.Progress.{HasCome, goes_on};
 
     ghost fronts = { ber_fronts D.meaning D.eq };
+
+    type Progress = Progress;
+
+    ghost came = { λ reader progress octets. HasCome progress octets };
 
     fn read_front(&self, input: &[u8]) -> Result<(D, usize), DecodeError> {
         match front_element(self.alloc, input) {
@@ -47,8 +53,22 @@ impl<D: Decode> FrontReader<D> for BerReader {
         }
     }
 
+    fn start(&self) -> Progress {
+        Progress::new()
+    }
+
+    fn read_on(&self, input: &[u8], progress: &mut Progress) -> Result<(D, usize), DecodeError> {
+        match find_end(input, progress) {
+            Ok(()) => self.read_front(input),
+            Err(error) => Err(decode_error_of(error)),
+        }
+    }
+
     ghost lawful = { record {
       is_cut = λ reader bytes v n front. front.cut;
       within = λ reader bytes n cut. cut_within bytes n cut;
     } };
+
+    ghost goes_on = { λ reader progress octets behind came.
+        goes_on progress octets behind came };
 }

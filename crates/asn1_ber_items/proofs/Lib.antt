@@ -1,12 +1,15 @@
 mod Begun
+mod CutHeaders
+mod Ends
 mod FlatBits
 mod FlatOctets
 pub mod Headers
-mod InFirst
 mod LooseOctets
 pub mod NormalForms
 mod Joined
 mod Snoc
 mod Splits
+mod Suffixes
+mod Searching
 mod Steps
 mod Walking

@@ -6,6 +6,7 @@ use Rattle.asn1_der_items.proofs.Encodings.{one_element}
 use Rattle.asn1_der_items.proofs.OneElement.{alone as none_after, element_is_one, some_bytes as one_has_bytes}
 use Rattle.asn1_der_items.specs.Elements.{IsElement}
 use Rattle.asn1_der_items.specs.Series.{is_one_element}
+use Rattle.asn1_ber_items.specs.Ends.{BeginWithOne}
 use Rattle.asn1_ber_items.specs.Headers.{Header, end_of_contents}
 use Rattle.asn1_ber_items.specs.Spellings.{BeginWith, IsDefinite, Spells, SpellsOne, definite, indefinite, nothing, primitive}
 use Rattle.asn1_ber_items.specs.Walks.{IsEnd, end_octets, nothing_left}
@@ -69,6 +70,22 @@ one_indefinite bytes contents inside own back h begin none are inner element = r
       (indefinite bytes inside own back [] back h begin none
       (subst (λ l. Spells l inside (0 ∷ 0 ∷ back)) (sym are) (spells-append contents inside [] (0 ∷ 0 ∷ back) inner)) element (nothing back));
   one = element_is_one h.tag true inside own element;
+}
+
+-- elements, where there are any, begin with one
+pub first_there : (bytes others rest : List ℕ) → Spells bytes others rest → (bytes ≡ rest → ⊥) → BeginWithOne bytes
+first_there _ _ _ (nothing bytes) some = absurd (some refl)
+first_there _ _ _ (primitive bytes contents own back others rest h begin is element spells) some =
+    record { normal = own; rest = back; one = one_primitive bytes contents own back h begin is element }
+first_there _ _ _ (definite bytes contents inside own back others rest h begin is inner element spells) some =
+    record { normal = own; rest = back; one = one_definite bytes contents inside own back h begin is inner element }
+first_there _ _ _ (indefinite bytes inside own back others rest h begin none inner element spells) some = record {
+  normal = own;
+  rest = back;
+  one = record {
+    spells = subst (λ l. Spells bytes l back) (append-nil own) (indefinite bytes inside own back [] back h begin none inner element (nothing back));
+    one = element_is_one h.tag true inside own element;
+  };
 }
 
 -- elements of DER: the header of one, whatever follows

@@ -5,10 +5,12 @@ use Rattle.asn1_items.specs.declared.error.ItemError.{ItemError}
 use Rattle.asn1_items.specs.declared.error.ItemError.TheVariants.{Malformed, Memory, Missing}
 use Rattle.asn1_der_items.specs.Elements.{IsElement}
 use Rattle.asn1_ber_items.specs.Headers.{Header, end_of_contents, header_at}
-use Rattle.asn1_ber_items.specs.Walks.{Comes, IsAfter, IsClosing, IsCopy, IsOver, Outcome, Remains, Splits, bytes_after, bytes_behind, end_of}
+use Rattle.asn1_ber_items.specs.Spellings.{IsMissing}
+use Rattle.asn1_ber_items.specs.Walks.{Comes, IsAfter, IsClosing, IsCopy, IsOver, IsRefused, Outcome, Remains, Splits, bytes_after, bytes_behind, end_of}
 use Rattle.asn1_ber_items.specs.declared.open_element.Extent.{Extent}
 use Rattle.asn1_ber_items.specs.declared.open_element.Extent.TheVariants.{Definite, Indefinite}
 use Rattle.asn1_ber_items.specs.declared.open_element.OpenElement.{OpenElement}
+use Rattle.asn1_ber_items.specs.declared.walk.Walk.{Walk}
 use Rattle.asn1_ber_items.proofs.Splits.{Begins, with_end, with_length, with_octets}
 use Rattle.asn1_ber_items.proofs.Walking.{AreOpen, IsOpenIn, comes_back, consumed, ends_ahead, ends_behind, goes_in, produced}
 
@@ -103,6 +105,10 @@ has_contents left h size at is (with_length g contents back begin d) =
     omega (arith, long, ap length (sym (ap (λ (i : Header). i.rest) same) ∙ d.are), length-append contents back)
 has_contents left h size at is (with_end g begin none) =
     let e : None ≡ Some size = sym none ∙ ap (λ (i : Header). i.size) (some_is (sym begin.at ∙ at)) ∙ is in cc
+
+-- a step for which there was no memory
+pub no_memory : (walk : Walk) (e : ItemError) → e ≡ Memory → IsRefused walk e
+no_memory walk e memory = record { stuck = λ other. absurd (other memory); not_missing = λ missing. subst IsMissing memory missing }
 
 -- an error that cannot be another is that there was no memory
 pub only_memory : (e : ItemError) → ((e ≢ Memory) → ⊥) → e ≡ Memory

@@ -158,24 +158,18 @@ pub record IsElementHere (header : HeaderRead) (walk : Walk) : Type 0 where
   pub at : header_at walk.left.now ≡ Some (header_of header)
   pub is_element : header.tag ≢ end_of_contents
 
--- The first element is still to be written: nothing was written, or it is open.
-abbrev pub IsInFirst : List OpenElement → List ℕ → Type 0
-IsInFirst [] written = written ≡ []
-IsInFirst (e ∷ es) written = e.start ≡ 0
-
 -- A step of a walk: it will have the same outcome, and less is left to do.
 pub record Goes (old new : Walk) : Type 0 where
   pub consistent : IsConsistent new
   pub ahead : (outcome : Outcome) → GoesOn old outcome → Writes old outcome → Writes new outcome
   pub behind : (outcome : Outcome) → GoesOn old outcome → Writes new outcome → Writes old outcome
   pub less : work new < work old
-  pub in_first : IsInFirst new.begun.items (written_in new.written) → IsInFirst old.begun.items (written_in old.written)
 
 -- The walk has no outcome for which it has to go on, since the bytes left are no elements.
 abbrev pub IsStuck : Walk → Type 0
 IsStuck walk = (outcome : Outcome) → GoesOn walk outcome → ¬ Writes walk outcome
 
--- A step that fails: memory ran out, or the bytes left are no elements. Bytes are missing of the first element alone.
+-- A step that fails: memory ran out, or the bytes left are no elements.
 pub record IsRefused (walk : Walk) (e : ItemError) : Type 0 where
   pub stuck : e ≢ Memory → IsStuck walk
-  pub in_first : IsMissing e → IsInFirst walk.begun.items (written_in walk.written)
+  pub not_missing : ¬ IsMissing e

@@ -1,6 +1,8 @@
 //! Identifier octets and length octets.
 ghost use Rattle.asn1_ber_items.specs.Headers.{Header as HeaderView, header_at, header_of};
-ghost use Rattle.std.specs.Prelude.{◌≡◌, IfOk, IsOk, Some};
+ghost use Rattle.asn1_ber_items.specs.Ends.{IsCutHeader};
+ghost use Rattle.asn1_items.specs.declared.error.ItemError.TheVariants.{Missing};
+ghost use Rattle.std.specs.Prelude.{◌≡◌, Err, IfOk, IsOk, Some, ℕ};
 
 use crate::size::read_size;
 use asn1_der_items::read_identifier;
@@ -21,10 +23,14 @@ pub(crate) struct Header<'a> {
 }
 
 /// Reads a header.
+///
+/// # Errors
+/// [`ItemError::Missing`] where the bytes end in the header, and else [`ItemError::Malformed`].
 #[inline(always)]
 pub(crate) fn read_header(bytes: &[u8]) -> Result<Header<'_>, ItemError>
     ensures only { IfOk result (λ h. header_at bytes.now ≡ Some (header_of h)) }
     ensures found { (h : HeaderView) → header_at bytes.now ≡ Some h → IsOk result }
+    ensures missing { (count : ℕ) → result ≡ Err (Missing count) → IsCutHeader bytes.now }
 {
     let identifier = read_identifier(bytes)?;
     let length = read_size(identifier.rest)?;

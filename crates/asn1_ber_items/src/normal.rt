@@ -1,8 +1,11 @@
 //! The normal form of elements.
+ghost use Rattle.asn1_ber_items.specs.Ends.{EndsInside};
 ghost use Rattle.asn1_ber_items.specs.Spellings.{IsMissing, Spells, SpellsOne};
 ghost use Rattle.asn1_items.specs.declared.error.ItemError.TheVariants.{Memory};
 ghost use Rattle.std.specs.Prelude.{◌≡◌, [], IfErr, IfOk, List, MatchResult, ℕ};
 
+use crate::front_end::find_end;
+use crate::progress::Progress;
 use crate::walk::Walk;
 use asn1_items::ItemError;
 use std::alloc::Global;
@@ -11,15 +14,19 @@ use std::alloc::Global;
 ///
 /// # Errors
 /// [`ItemError::Memory`]; else the bytes are no elements of BER with tag numbers below 2^32: [`ItemError::Missing`] where they end
-/// in the first element, outside all elements of definite lengths, with the number of bytes that are missing of the part that is
-/// read, and otherwise [`ItemError::Malformed`].
+/// inside the first element, with the number of bytes that are missing of the part that is read, and otherwise
+/// [`ItemError::Malformed`].
 pub fn normal_form(alloc: Global, bytes: &[u8]) -> Result<Vec<u8>, ItemError>
     ensures found { (normal : List ℕ) → Spells bytes.now normal [] →
         MatchResult result (λ own. own.items ≡ normal) (λ e. e ≡ Memory) }
     ensures only { IfOk result (λ own. Spells bytes.now own.items []) }
     ensures whole_front { (normal rest : List ℕ) → SpellsOne bytes.now normal rest →
         IfErr result (λ e. ¬ IsMissing e) }
+    ensures missing { IfErr result (λ e. IsMissing e → EndsInside 0 bytes.now) }
 {
+    if !bytes.is_empty() {
+        find_end(bytes, &mut Progress::new())?;
+    }
     let mut walk = Walk::new(alloc, bytes);
     while !walk.is_at_end() {
         walk.step()?;
@@ -41,14 +48,15 @@ pub struct FrontElement<'a> {
 ///
 /// # Errors
 /// [`ItemError::Memory`]; else the bytes begin with no element of BER with tag numbers below 2^32: [`ItemError::Missing`] where they
-/// end too early, outside all elements of definite lengths, with the number of bytes that are missing of the part that is read, and
-/// otherwise [`ItemError::Malformed`].
+/// end inside it, with the number of bytes that are missing of the part that is read, and otherwise [`ItemError::Malformed`].
 pub fn front_element(alloc: Global, bytes: &[u8]) -> Result<FrontElement<'_>, ItemError>
     ensures found { (normal rest : List ℕ) → SpellsOne bytes.now normal rest →
         MatchResult result (λ f. (f.normal.items ≡ normal) × (f.rest.now ≡ rest))
         (λ e. e ≡ Memory) }
     ensures only { IfOk result (λ f. SpellsOne bytes.now f.normal.items f.rest.now) }
+    ensures missing { IfErr result (λ e. IsMissing e → EndsInside 0 bytes.now) }
 {
+    find_end(bytes, &mut Progress::new())?;
     let mut walk = Walk::new(alloc, bytes);
     while !walk.is_after_front() {
         walk.step()?;

@@ -1,7 +1,9 @@
 //! The length octets of an element.
 ghost use Rattle.asn1_ber_items.specs.Headers.{Measured as MeasuredView, later_size_at, long_size_at, measured_of, size_at};
 ghost use Rattle.asn1_ber_items.specs.Segments.{WritesSize};
-ghost use Rattle.std.specs.Prelude.{◌≡◌, IfOk, IsOk, Some};
+ghost use Rattle.asn1_ber_items.specs.Ends.{IsCutLength};
+ghost use Rattle.asn1_items.specs.declared.error.ItemError.TheVariants.{Missing};
+ghost use Rattle.std.specs.Prelude.{◌≡◌, ◌≢◌, ◌<◌, Err, IfOk, IsOk, Some, length, ℕ};
 
 use asn1_der_items::number_of;
 use asn1_items::{ItemError, significant};
@@ -21,6 +23,7 @@ pub(crate) struct Measured<'a> {
 pub(crate) fn read_size(bytes: &[u8]) -> Result<Measured<'_>, ItemError>
     ensures only { IfOk result (λ m. size_at bytes.now ≡ Some (measured_of m)) }
     ensures found { (m : MeasuredView) → size_at bytes.now ≡ Some m → IsOk result }
+    ensures missing { (n : ℕ) → result ≡ Err (Missing n) → IsCutLength bytes.now }
 {
     let [first, rest @ ..] = bytes else {
         return Err(ItemError::Missing(1));
@@ -38,6 +41,8 @@ pub(crate) fn read_size(bytes: &[u8]) -> Result<Measured<'_>, ItemError>
 fn read_later_size(count: usize, octets: &[u8]) -> Result<Measured<'_>, ItemError>
     ensures only { IfOk result (λ m. later_size_at count octets.now ≡ Some (measured_of m)) }
     ensures found { (m : MeasuredView) → later_size_at count octets.now ≡ Some m → IsOk result }
+    ensures missing { (n : ℕ) → result ≡ Err (Missing n) → length octets.now < count }
+    ensures long_form { (n : ℕ) → result ≡ Err (Missing n) → count ≢ 127 }
 {
     match count {
         0 => Ok(Measured {
@@ -53,6 +58,7 @@ fn read_later_size(count: usize, octets: &[u8]) -> Result<Measured<'_>, ItemErro
 fn read_long_size(count: usize, octets: &[u8]) -> Result<Measured<'_>, ItemError>
     ensures only { IfOk result (λ m. long_size_at count octets.now ≡ Some (measured_of m)) }
     ensures found { (m : MeasuredView) → long_size_at count octets.now ≡ Some m → IsOk result }
+    ensures missing { (n : ℕ) → result ≡ Err (Missing n) → length octets.now < count }
 {
     let Some((digits, rest)) = octets.split_at_checked(count) else {
         return Err(ItemError::Missing(count - octets.len()));

@@ -2,7 +2,7 @@
 ghost use Rattle.asn1_ber_items.specs.Headers.{end_of_contents};
 ghost use Rattle.asn1_ber_items.specs.Segments.{written_in};
 ghost use Rattle.asn1_ber_items.specs.Spellings.{IsMissing};
-ghost use Rattle.asn1_ber_items.specs.Walks.{Goes, GoesOn, IsClosing, IsConsistent, IsCopy, IsElementHere, IsEnding, IsInFirst, IsRefused, Outcome, Remains, Splits, Writes, bytes_after};
+ghost use Rattle.asn1_ber_items.specs.Walks.{Goes, GoesOn, IsClosing, IsConsistent, IsCopy, IsElementHere, IsEnding, IsRefused, Outcome, Remains, Splits, Writes, bytes_after};
 ghost use Rattle.asn1_der_items.specs.Elements.{IsElement};
 ghost use Rattle.asn1_items.specs.Numbers.{Appended};
 ghost use Rattle.asn1_items.specs.declared.error.ItemError.TheVariants.{Memory};
@@ -65,7 +65,7 @@ impl<'a> Walk<'a> {
     /// Goes on.
     ///
     /// # Errors
-    /// [`ItemError::Memory`]; else the bytes left are no elements.
+    /// [`ItemError::Memory`]; else [`ItemError::Malformed`]: the bytes left are no elements.
     pub(crate) fn step(&mut self) -> Result<(), ItemError>
         ensures { IsConsistent self.old → MatchResult result (λ _. Goes self.old self.new)
             (IsRefused self.old) }
@@ -117,7 +117,7 @@ impl<'a> Walk<'a> {
     {
         let header = match read_header(self.left) {
             Ok(header) => header,
-            Err(error) => return Err(self.error_here(error)),
+            Err(error) => return Err(error_of_form(error)),
         };
         if is_end_of_contents(header.tag) {
             return Err(ItemError::Malformed);
@@ -131,40 +131,6 @@ impl<'a> Walk<'a> {
         }
     }
 
-    /// The error where no element was read: bytes are missing only of the first element, and only if no open element has a definite
-    /// length, whose bytes are all there.
-    fn error_here(&self, error: ItemError) -> ItemError
-        ensures memory { (result ≡ Memory) ↔ (error ≡ Memory) }
-        ensures in_first { IsConsistent self.now → IsMissing result →
-            IsInFirst self.now.begun.items (written_in self.now.written) }
-    {
-        if self.is_in_first() && !self.is_inside_definite() {
-            return error;
-        }
-        error_of_form(error)
-    }
-
-    /// Whether the first element is still to be written.
-    fn is_in_first(&self) -> bool
-        ensures { IsConsistent self.now → result ≡ true →
-            IsInFirst self.now.begun.items (written_in self.now.written) }
-    {
-        match self.begun.first() {
-            Some(outermost) => outermost.start == 0,
-            None => self.written.is_empty(),
-        }
-    }
-
-    /// Whether an open element has a definite length.
-    fn is_inside_definite(&self) -> bool {
-        for element in self.begun.as_slice() {
-            if let Extent::Definite(_) = element.extent {
-                return true;
-            }
-        }
-        false
-    }
-
     /// Begins the element of this header, which has a definite length.
     fn begin_with_length(&mut self, header: Header<'a>, size: usize) -> Result<(), ItemError>
         ensures { IsElementHere header.entry self.old → header.entry.size ≡ Some size →
@@ -173,7 +139,7 @@ impl<'a> Walk<'a> {
             (IsRefused self.old) }
     {
         let Some((contents, back)) = header.rest.split_at_checked(size) else {
-            return Err(self.error_here(ItemError::Missing(size - header.rest.len())));
+            return Err(ItemError::Malformed);
         };
         if header.constructed {
             self.begin_constructed(header.tag, contents, Extent::Definite(back))
@@ -228,7 +194,7 @@ impl<'a> Walk<'a> {
     }
 }
 
-/// The error where no bytes are missing.
+/// The error where no element was read. No bytes are missing, since the end of the first element was found before.
 fn error_of_form(error: ItemError) -> ItemError
     ensures memory { (result ≡ Memory) ↔ (error ≡ Memory) }
     ensures not_missing { ¬ IsMissing result }
@@ -249,7 +215,7 @@ fn are_few(contents: &[u8], extent: Extent<'_>) -> bool {
 }
 
 /// Whether a tag is that of end-of-contents octets.
-fn is_end_of_contents(tag: Tag) -> bool
+pub(crate) fn is_end_of_contents(tag: Tag) -> bool
     ensures { Decides result (tag ≡ end_of_contents) }
 {
     tag == END_OF_CONTENTS

@@ -55,8 +55,13 @@ impl DerReader {
 
 impl<D: Decode> FrontReader<D> for DerReader {
     ghost use Rattle.asn1_der.specs.Cuts.{cut_within, der_fronts};
+    ghost use Rattle.std.specs.Prelude.{⊤};
 
     ghost fronts = { der_fronts D.meaning D.eq };
+
+    type Progress = ();
+
+    ghost came = { λ reader progress bytes. ⊤ };
 
     fn read_front(&self, input: &[u8]) -> Result<(D, usize), DecodeError> {
         let Some(length) = element_length(input) else {
@@ -66,10 +71,14 @@ impl<D: Decode> FrontReader<D> for DerReader {
         Ok((value, length))
     }
 
+    fn start(&self) {}
+
     ghost lawful = { record {
       is_cut = λ reader bytes v n front. front.cut;
       within = λ reader bytes n cut. cut_within bytes n cut;
     } };
+
+    ghost goes_on = { λ reader progress bytes behind came. tt };
 }
 
 /// How long the element is with which the bytes begin, where all of it is there.

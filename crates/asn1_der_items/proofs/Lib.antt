@@ -1,4 +1,5 @@
 pub mod TrailingBytes
+mod CutIdentifiers
 mod Comparing
 mod Complements
 mod ElementFronts

@@ -1,7 +1,8 @@
 //! Numbers to the base 128.
 ghost use Rattle.asn1_der_items.specs.Base128.{AreLeading, Front as FrontView, IsBase128, base128_at};
 ghost use Rattle.asn1_items.specs.Numbers.{Appended};
-ghost use Rattle.std.specs.Prelude.{◌≡◌, ◌<◌, ◌^◌, IfOk, IsOk, Some};
+ghost use Rattle.asn1_items.specs.declared.error.ItemError.TheVariants.{Missing};
+ghost use Rattle.std.specs.Prelude.{◌≡◌, ◌<◌, ◌≤◌, ◌^◌, All, Err, IfOk, IsOk, Some, ℕ};
 
 use asn1_items::ItemError;
 use std::alloc::AllocError;
@@ -49,6 +50,7 @@ pub(crate) fn read_base128(bytes: &[u8]) -> Result<Front<'_>, ItemError>
         base128_at bytes.now ≡ Some (record { number = f.number; rest = f.rest.now })) }
     ensures found { (f : FrontView) → base128_at bytes.now ≡ Some f → f.number < 2 ^ 64 →
         IsOk result }
+    ensures missing { (count : ℕ) → result ≡ Err (Missing count) → All (λ o. 128 ≤ o) bytes.now }
 {
     match bytes {
         [octet, rest @ ..] if *octet < 128 => Ok(Front {
@@ -66,6 +68,7 @@ fn read_long_base128(bytes: &[u8]) -> Result<Front<'_>, ItemError>
         base128_at bytes.now ≡ Some (record { number = f.number; rest = f.rest.now })) }
     ensures found { (f : FrontView) → base128_at bytes.now ≡ Some f → f.number < 2 ^ 64 →
         IsOk result }
+    ensures missing { (count : ℕ) → result ≡ Err (Missing count) → All (λ o. 128 ≤ o) bytes.now }
 {
     if bytes.first() == Some(&128) {
         return Err(ItemError::Malformed);

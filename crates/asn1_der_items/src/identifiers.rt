@@ -1,8 +1,9 @@
 //! The identifier octets of an element.
 ghost use Rattle.asn1_items.specs.Numbers.{Appended};
-ghost use Rattle.asn1_der_items.specs.Identifiers.{Identified as IdentifierView, IsIdentifier, form_bit, high_tag_at, identifier_at};
+ghost use Rattle.asn1_der_items.specs.Identifiers.{Identified as IdentifierView, IsCutIdentifier, IsIdentifier, form_bit, high_tag_at, identifier_at};
+ghost use Rattle.asn1_items.specs.declared.error.ItemError.TheVariants.{Missing};
 ghost use Rattle.asn1_tags.specs.Tags.{class_number};
-ghost use Rattle.std.specs.Prelude.{◌≡◌, ◌+◌, ◌*◌, IfOk, IsOk, Some};
+ghost use Rattle.std.specs.Prelude.{◌≡◌, ◌+◌, ◌*◌, ◌≤◌, All, Err, IfOk, IsOk, Some, ℕ};
 
 use crate::base128::{append_base128, read_base128};
 use asn1_items::ItemError;
@@ -61,6 +62,7 @@ pub fn read_identifier(bytes: &[u8]) -> Result<Identified<'_>, ItemError>
     ensures only { IfOk result (λ i. identifier_at bytes.now ≡
         Some (record { tag = i.tag; constructed = i.constructed; rest = i.rest.now })) }
     ensures found { (i : IdentifierView) → identifier_at bytes.now ≡ Some i → IsOk result }
+    ensures missing { (count : ℕ) → result ≡ Err (Missing count) → IsCutIdentifier bytes.now }
 {
     let [first, rest @ ..] = bytes else {
         return Err(ItemError::Missing(1));
@@ -92,6 +94,8 @@ fn read_high_tag(
         Some (record { tag = i.tag; constructed = i.constructed; rest = i.rest.now })) }
     ensures found { (i : IdentifierView) → high_tag_at class constructed octets.now ≡ Some i →
         IsOk result }
+    ensures missing { (count : ℕ) → result ≡ Err (Missing count) →
+        All (λ o. 128 ≤ o) octets.now }
 {
     let front = read_base128(octets)?;
     match u32::try_from(front.number) {

@@ -9,7 +9,13 @@ use asn1_rules::FrontReader;
 pub(crate) struct BlockReader;
 
 impl FrontReader<()> for BlockReader {
+    ghost use Rattle.std.specs.Prelude.{⊤};
+
     ghost fronts = { block_fronts };
+
+    type Progress = ();
+
+    ghost came = { λ reader progress bytes. ⊤ };
 
     fn read_front(&self, input: &[u8]) -> Result<((), usize), DecodeError> {
         if input.len() < 1000 {
@@ -19,5 +25,9 @@ impl FrontReader<()> for BlockReader {
         }
     }
 
+    fn start(&self) {}
+
     ghost lawful = { block_fronts_are_lawful };
+
+    ghost goes_on = { λ reader progress bytes behind came. tt };
 }

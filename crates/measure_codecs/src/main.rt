@@ -8,11 +8,13 @@
 //! | `packed write LIST COUNT TIMES` | writes a list of `COUNT` values this many times | its number of bytes, and a checksum |
 //! | `packed read LIST COUNT TIMES` | writes such a list once, and reads it this many times | the same |
 //! | `packed canonical LIST COUNT TIMES` | writes it once, and reads it by `read_canonical` this many times | the same |
+//! | `grow COUNT SIZE` | reads a list of an indefinite length in BER that comes in pieces of this size | its number of elements |
 //! | `append TOTAL SIZE WHEN` | appends bytes in pieces of this size, and takes blocks of 1000 | the number of blocks |
 //!
 //! The codec is `packed`, `tag`, `der` or `ber`, or `each` for all of them. `LIST` is `person`, `profile` or `badge`, or `node` for a
 //! chain of `COUNT` nodes, which is written and read as a list is. Blocks are taken after each piece, or when all is appended if
-//! `WHEN` is `late`; with the size 0 nothing is appended. After the four words of `append` another request may follow.
+//! `WHEN` is `late`; with the size 0 nothing is appended. Requests may follow one another in this order: `grow`, `append`, lists. The
+//! stored run of `grow` ends in time only if a list in pieces costs time linear in its octets.
 //!
 //! `specs/Blocks` defines the blocks of a stream. No contract covers the output.
 #![tactic(auto)]
@@ -20,6 +22,7 @@
 mod appending;
 mod blocks;
 mod codecs;
+mod growing;
 mod lists;
 mod numbered;
 mod request;
@@ -29,10 +32,14 @@ use std::{env, io};
 
 fn main(rt: HostRuntime) -> io::Result<()> {
     let words: Vec<String> = env::args(&rt)?.skip(1).collect(rt.alloc())?;
-    let request = Request { words: &words };
-    if request.word(0) != "append" {
-        return codecs::run(&rt, rt.alloc(), request);
+    let mut request = Request { words: &words };
+    if request.word(0) == "grow" {
+        growing::run(&rt, rt.alloc(), request)?;
+        request = request.after(3);
     }
-    appending::run(&rt, rt.alloc(), request)?;
-    codecs::run(&rt, rt.alloc(), request.after(4))
+    if request.word(0) == "append" {
+        appending::run(&rt, rt.alloc(), request)?;
+        request = request.after(4);
+    }
+    codecs::run(&rt, rt.alloc(), request)
 }

@@ -26,7 +26,7 @@ loop-walk-preserved c =
 
 pub returns-in_err-step-clause-found : goal.returns-in_err-step-clause-found
 returns-in_err-step-clause-found c = λ normal rest spells.
-    let p = err_from_is_err_and c.from_residual.result c.from_residual.ensures.1 in
+    let p = err_from_is_err_and c.from_residual-in_err-step.result c.from_residual-in_err-step.ensures.1 in
     let i = c.loop-walk.invariant in
     let stuck = c.in_err-step.ensures i.consistent in
     rw (p.1, p.2) (only_memory c.in_err-step.field-0.0 (λ some. stuck.stuck some (of_first normal rest) (λ over. (let wrong = (c.loop-walk-test.ensures i.consistent).1 over in cc)) (i.ahead normal rest spells)))

@@ -1,14 +1,12 @@
 use Rattle.std.proofs.Common.{List, [], ℕ}
-use Rattle.asn1_ber_items.specs.Segments.{written_in}
-use Rattle.asn1_ber_items.specs.Spellings.{Spells, SpellsOne}
-use Rattle.asn1_ber_items.specs.Walks.{IsConsistent, IsInFirst, Writes, of_all, of_first, work}
+use Rattle.asn1_ber_items.specs.Spellings.{Spells}
+use Rattle.asn1_ber_items.specs.Walks.{IsConsistent, Writes, of_all, work}
 use Rattle.asn1_ber_items.proofs.normal.normal_form.Given as goal
 
 abbrev pub invariant-loop-walk : goal.invariant-loop-walk
 invariant-loop-walk l = record {
   consistent : IsConsistent l.walk;
   ahead : (normal : List ℕ) → Spells l.bytes normal [] → Writes l.walk (of_all normal);
-  front : (normal rest : List ℕ) → SpellsOne l.bytes normal rest → IsInFirst l.walk.begun.items (written_in l.walk.written) → Writes l.walk (of_first normal rest);
   behind : (normal : List ℕ) → Writes l.walk (of_all normal) → Spells l.bytes normal [];
 }
 

@@ -1,10 +1,9 @@
 use Rattle.std.proofs.Common.{◌≡◌, ◌+◌, ◌*◌, ◌<◌, ◌++◌, ◌∷◌, [], List, length, ap, sym, subst, ◌∙◌}
 use Rattle.std.specs.Bool.{⊤}
 use Rattle.asn1_ber_items.specs.Segments.{joined, octets_of_each, segments_of}
-use Rattle.asn1_ber_items.specs.Walks.{AreBegun, IsInFirst, bytes_behind}
+use Rattle.asn1_ber_items.specs.Walks.{AreBegun, bytes_behind}
 use Rattle.asn1_ber_items.specs.declared.open_element.OpenElement.{OpenElement}
 use Rattle.asn1_ber_items.proofs.Begun.{all_opened, begun_too}
-use Rattle.asn1_ber_items.proofs.InFirst.{outside}
 use Rattle.asn1_ber_items.proofs.Joined.{joined-last, joined-more}
 use Rattle.asn1_ber_items.proofs.Steps.{Steps, less_in, steps_in}
 use Rattle.asn1_ber_items.proofs.walk.Walk.begin_constructed.Goals as goal
@@ -34,6 +33,5 @@ returns-in-Ok c = λ splits less consistent.
       };
       ahead = s.ahead;
       behind = s.behind;
-      in_first = λ first. outside es e (joined segments) (joined new) starts (subst (λ fs. IsInFirst fs (joined new)) pushed first);
       less = subst (λ (fs : List OpenElement). 2 * (length contents + bytes_behind fs) + length fs < 2 * (length left + bytes_behind es) + length es) (sym pushed) (less_in es e left contents less);
     }

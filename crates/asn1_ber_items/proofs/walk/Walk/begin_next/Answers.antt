@@ -3,15 +3,14 @@ use Rattle.std.proofs.lemmas.Result.{MatchResult-weaker}
 use Rattle.asn1_ber_items.specs.Segments.{written_in}
 use Rattle.asn1_ber_items.specs.Headers.{header_of}
 use Rattle.asn1_ber_items.proofs.Headers.{header_shorter}
-use Rattle.asn1_ber_items.proofs.InFirst.{no_memory}
 use Rattle.asn1_ber_items.proofs.Splits.{indefinite_splits}
-use Rattle.asn1_ber_items.proofs.Steps.{has_header, its_header}
+use Rattle.asn1_ber_items.proofs.Steps.{has_header, its_header, no_memory}
 use Rattle.asn1_ber_items.proofs.Walking.{begins}
 use Rattle.asn1_ber_items.proofs.walk.Walk.begin_next.Goals as goal
 
 pub returns-in-Err : goal.returns-in-Err
 returns-in-Err c = λ none consistent. record {
-  in_first = λ missing. c.error_here.ensures.in_first consistent missing;
+  not_missing = λ missing. c.error_of_form.ensures.not_missing missing;
   stuck = λ memory outcome more writes.
       let left = c.args.self.now.left.now in
       let b = begins c.args.self.now.begun.items left (written_in c.args.self.now.written) outcome more
@@ -22,7 +21,7 @@ returns-in-Err c = λ none consistent. record {
 
 pub returns-then-is_end_of_contents : goal.returns-then-is_end_of_contents
 returns-then-is_end_of_contents c = λ none consistent. record {
-  in_first = λ missing. absurd missing;
+  not_missing = λ missing. missing;
   stuck = λ memory outcome more writes.
       let left = c.args.self.now.left.now in
       let h = header_of c.in-Ok.header in
@@ -45,7 +44,7 @@ returns-in-None c = λ none consistent.
 
 pub returns-in-None-2 : goal.returns-in-None-2
 returns-in-None-2 c = λ none consistent. record {
-  in_first = λ missing. absurd missing;
+  not_missing = λ missing. missing;
   stuck = λ memory outcome more writes.
       let left = c.args.self.now.left.now in
       let h = header_of c.in-Ok.header in

@@ -3,15 +3,14 @@ use Rattle.std.proofs.lemmas.Result.{MatchResult-weaker}
 use Rattle.asn1_ber_items.specs.Segments.{written_in}
 use Rattle.asn1_ber_items.specs.Headers.{header_of}
 use Rattle.asn1_ber_items.proofs.Headers.{cut_shorter, cut_there}
-use Rattle.asn1_ber_items.proofs.InFirst.{no_memory}
 use Rattle.asn1_ber_items.proofs.Splits.{definite_splits, primitive_splits}
-use Rattle.asn1_ber_items.proofs.Steps.{has_contents}
+use Rattle.asn1_ber_items.proofs.Steps.{has_contents, no_memory}
 use Rattle.asn1_ber_items.proofs.Walking.{begins}
 use Rattle.asn1_ber_items.proofs.walk.Walk.begin_with_length.Goals as goal
 
 pub returns-in_default : goal.returns-in_default
 returns-in_default c = λ here size none consistent. record {
-  in_first = λ missing. c.error_here.ensures.in_first consistent missing;
+  not_missing = λ missing. missing;
   stuck = λ memory outcome more writes.
       let left = c.args.self.now.left.now in
       let h = header_of c.args.header in

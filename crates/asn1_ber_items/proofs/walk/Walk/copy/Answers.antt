@@ -1,9 +1,8 @@
 use Rattle.std.proofs.Common.{◌≡◌, [], ◌∷◌, ◌++◌, ap, refl, sym, subst, ◌∙◌, arith}
 use Rattle.std.specs.Bool.{⊤}
 use Rattle.asn1_ber_items.specs.Segments.{joined, octets_of_each}
-use Rattle.asn1_ber_items.specs.Walks.{AreBegun, IsInFirst}
+use Rattle.asn1_ber_items.specs.Walks.{AreBegun}
 use Rattle.asn1_ber_items.proofs.Begun.{all_opened, grow}
-use Rattle.asn1_ber_items.proofs.InFirst.{over}
 use Rattle.asn1_ber_items.proofs.Joined.{joined-more}
 use Rattle.asn1_ber_items.proofs.Steps.{steps_over}
 use Rattle.asn1_ber_items.proofs.walk.Walk.copy.Goals as goal
@@ -22,6 +21,5 @@ returns c = λ splits less consistent.
       consistent = record { begun = subst (λ l. AreBegun es (λ _. ⊤) (full ++ l ∷ [])) (sym a.joined) (grow es full [] last a.added consistent.begun); counted = consistent.counted };
       ahead = s.ahead;
       behind = s.behind;
-      in_first = λ first. over es (joined (full ++ last ∷ [])) a.added (subst (IsInFirst es) more first);
       less = omega (arith, less);
     }

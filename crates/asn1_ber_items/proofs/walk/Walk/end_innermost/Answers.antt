@@ -1,13 +1,11 @@
-use Rattle.std.proofs.Common.{◌≡◌, ◌++◌, true, length, sym, subst, ◌∙◌, arith}
+use Rattle.std.proofs.Common.{◌≡◌, ◌++◌, length, sym, subst, ◌∙◌, arith}
 use Rattle.std.specs.Bool.{⊤}
 use Rattle.asn1_der_items.specs.Lengths.{IsLength}
 use Rattle.asn1_ber_items.specs.Segments.{joined, segments_of}
-use Rattle.asn1_ber_items.specs.Walks.{AreBegun, IsAfter, IsInFirst, end_of}
+use Rattle.asn1_ber_items.specs.Walks.{AreBegun, IsAfter, end_of}
 use Rattle.asn1_ber_items.specs.declared.open_element.OpenElement.{OpenElement}
 use Rattle.asn1_ber_items.proofs.Begun.{all_opened, begun_in, ended_begun, ended_is, ended_joined, opened, room_at, room_last, size_is}
-use Rattle.asn1_ber_items.proofs.InFirst.{inside as in_first_inside}
 use Rattle.asn1_ber_items.proofs.Snoc.{same_last}
-use Rattle.asn1_der_items.proofs.OneElement.{element_is_one, some_bytes as one_has_bytes}
 use Rattle.asn1_ber_items.proofs.Steps.{less_out, steps_out}
 use Rattle.asn1_ber_items.proofs.Walking.{AreOpen}
 use Rattle.asn1_ber_items.proofs.walk.Walk.end_innermost.Goals as goal
@@ -36,9 +34,5 @@ returns c = λ ending consistent.
       consistent = record { begun = ended_begun outer e segments b m.octets new is_length m.are; counted = m.counted };
       ahead = s.ahead;
       behind = s.behind;
-      in_first = λ first. subst (λ es. IsInFirst es (joined segments)) (sym popped)
-          (in_first_inside outer e (joined segments) (joined b.before ++ b.outside) own
-          (one_has_bytes own (element_is_one e.tag true (b.rest ++ joined b.after) own (ended_is outer e segments b m.octets new is_length m.are)))
-          (subst (IsInFirst outer) (ended_joined outer e segments b m.octets new is_length m.are) first));
       less = less_out c.args.self.now.begun.items outer e left back popped ends after;
     }

@@ -1,5 +1,5 @@
 use Rattle.std.proofs.lemmas.Result.{MatchResult-weaker}
-use Rattle.asn1_ber_items.proofs.InFirst.{no_memory}
+use Rattle.asn1_ber_items.proofs.Steps.{no_memory}
 use Rattle.asn1_ber_items.proofs.walk.Walk.step.Goals as goal
 
 pub returns-in-Some : goal.returns-in-Some
