@@ -33,14 +33,14 @@ abbrev pub AreBytesOf : OutputFormat → List ℕ → Certificate → List ℕ �
 AreBytesOf AsReport octets certificate bytes = AreLinesOf certificate bytes
 AreBytesOf Der octets certificate bytes = (bytes ≡ octets) × Carries bytes (records_of certificate)
 
--- Of each name of the certificate with these octets a warning names the first PrintableString with characters outside its alphabet, and
--- none comes where there is no such string.
+-- A warning of each name of the certificate with these octets tells the first PrintableString with characters outside its alphabet, and
+-- there is none of a name without such a string.
 pub record AreAlphabetWarnings (octets : List ℕ) (certificate : Certificate) (warnings : Warnings) : Type 0 where
   pub issuer : AnswersAlphabet octets Issuer certificate.tbs_certificate.issuer warnings.issuer
   pub subject : AnswersAlphabet octets Subject certificate.tbs_certificate.subject warnings.subject
 
 -- The octets were read as a certificate, whose bytes these are, and depart from its DER as a warning says, or not at all, and then break
--- no rule of DER at any depth; and not at all where such certificates are refused. Of its names there are those warnings.
+-- no rule of DER at any depth; and not at all where such certificates are refused. The other warnings are those of its names.
 pub record IsShown (options : Options) (octets bytes : List ℕ) (warnings : Warnings) : Type 0 where
   pub certificate : Certificate
   pub read : IsReadOf octets certificate
