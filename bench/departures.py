@@ -1,14 +1,15 @@
 #!/usr/bin/env python3
-"""Runs asn1_certificate over the certificates of examples/departures, which depart from DER, and those of examples/certificates, which
-OpenSSL made.
+"""Runs asn1_certificate over the certificates of examples/departures, which depart from DER or have PrintableStrings with characters
+outside their alphabet, and those of examples/certificates, which OpenSSL made.
 
     bench/departures.py [--try] [--openssl]
 
 With `--try` the program is run before its proof, by `rt try`, and else as it is built (`rt run` in crates/asn1_certificate builds
-it). What it tells of all files at once has to be examples/departures/answers.txt. With `--strict` each warning has to be an error. Of
-OpenSSL's certificates it has to tell nothing, with `--strict` too, and to write what is stored beside them. With `--openssl` each file is
-also given to `openssl asn1parse` and `openssl x509`, and their answers have to be those of examples/departures/openssl.txt. The
-status is 0 if all is as it has to be.
+it). What it tells of all files at once has to be examples/departures/answers.txt. With `--strict` each warning of a departure has to
+be an error. The names that it writes of some have to be those of examples/departures/names.txt. Of OpenSSL's certificates it has to
+tell nothing, with `--strict` too, and to write what is stored beside them. With `--openssl` each file is also given to
+`openssl asn1parse` and `openssl x509`, and their answers have to be those of examples/departures/openssl.txt, and the names by
+`openssl x509` those of names.txt. The status is 0 if all is as it has to be.
 """
 import pathlib
 import subprocess
@@ -33,6 +34,24 @@ def run(paths, *options):
     words = [CRATE / "out" / "asn1_certificate", *options, *(path.name for path in paths)]
     ran = subprocess.run(words, cwd=paths[0].parent, capture_output=True, text=True)
     return ran.stdout, ran.stderr, ran.returncode
+
+
+def strict(line):
+    """A message with --strict: a departure from DER is an error, and a character outside an alphabet is none."""
+    return line if line.endswith(" (X.680, 41.4)\n") else line.replace(" warning: ", " error: ")
+
+
+def names_in(path, written):
+    """The lines of a report that have names, as names.txt has them."""
+    fields = [line.partition(":") for line in written.splitlines()]
+    return "".join(f"{path.name}: {field}={name.strip()}\n" for field, _, name in fields if field in ("subject", "issuer"))
+
+
+def names_by_openssl(path):
+    """The names of a certificate as OpenSSL writes them."""
+    words = ["openssl", "x509", "-inform", "DER", "-in", path, "-noout", "-subject", "-issuer", "-nameopt", "RFC2253"]
+    lines = subprocess.run(words, capture_output=True, text=True).stdout.splitlines(keepends=True)
+    return "".join(f"{path.name}: {line}" for line in lines)
 
 
 def openssl_line(path):
@@ -60,8 +79,12 @@ def main():
     expect("what is told", told, answers)
     expect("the status", status, 1)
     _, told, status = run(departures, "--strict")
-    expect("what is told with --strict", told, answers.replace(" warning: ", " error: "))
+    lines = answers.splitlines(keepends=True)
+    expect("what is told with --strict", told, "".join(map(strict, lines)))
     expect("the status with --strict", status, 1)
+    names = (DEPARTURES / "names.txt").read_text()
+    named = [DEPARTURES / name for name in dict.fromkeys(line.split(":")[0] for line in names.splitlines())]
+    expect("the names", "".join(names_in(path, run([path])[0]) for path in named), names)
     made = sorted(CERTIFICATES.glob("*.der")) + sorted(CERTIFICATES.glob("*.pem"))
     for options in [], ["--strict"]:
         for path in made:
@@ -77,7 +100,8 @@ def main():
     if "--openssl" in sys.argv:
         lines = "".join(openssl_line(path) for path in departures)
         expect("what OpenSSL answers", lines, (DEPARTURES / "openssl.txt").read_text())
-    print(f"{len(departures)} files that depart or are damaged, {len(made)} of OpenSSL: {faults} faults")
+        expect("the names by OpenSSL", "".join(map(names_by_openssl, named)), names)
+    print(f"{len(departures)} files that depart, have other characters or are damaged, {len(made)} of OpenSSL: {faults} faults")
     return faults > 0
 
 

@@ -4,6 +4,7 @@
     examples/departures/make.py
 
 Each is one of ours with one change, whose lengths are then written anew; the signature is left as it is, and so is no longer valid.
+Two keep to DER, and have PrintableStrings with characters outside their alphabet.
 It writes answers.txt too: for each file what the program has to tell, with the position that the change has. bench/departures.py
 compares what it tells with that. And it writes the lines of the stored run of crates/test_certificates that are about files: the
 octets of each, and the status and the messages with no option, with --strict and with --der. They follow the lines that were
@@ -120,6 +121,10 @@ GENERALIZED_TIME = "a GeneralizedTime is not in the form of DER (X.690, 11.7)"
 
 # The text about elements that lie inside more than 64 others.
 TOO_DEEP = "elements are nested deeper than 64 levels there, and were not looked at"
+
+
+# The text about a value that is a PrintableString and has other characters than those of X.680, 41.4.
+OUTSIDE_ALPHABET = "has characters outside the alphabet of a PrintableString (X.680, 41.4)"
 
 
 def long_length_outside():
@@ -285,6 +290,34 @@ def indefinite_length_inside_65():
     return made, TOO_DEEP, at
 
 
+def printable(part, text):
+    """Makes the value of the attribute of a part a PrintableString."""
+    part.contents[0].contents[1] = Element(0x13, text)
+    return part.contents[0].contents[1]
+
+
+def outside_alphabet(made, field, value, part, kind):
+    """The warning about a PrintableString with characters outside its alphabet, and its position."""
+    return f"in its {field} the value of attribute 0 in part {part} ({kind}) {OUTSIDE_ALPHABET}", made.start(value)
+
+
+def printable_wildcard():
+    made = Certificate("leaf-ec")
+    value = printable(made.subject.contents[3], b"*.example.org")
+    return made, [outside_alphabet(made, "subject", value, 3, "CN")]
+
+
+def printable_in_both_names():
+    made = Certificate("leaf-ec")
+    issuer, subject = printable(made.issuer.contents[1], b"A & B_C"), printable(made.subject.contents[2], b"D @ E")
+    return made, [outside_alphabet(made, "issuer", issuer, 1, "O"), outside_alphabet(made, "subject", subject, 2, "O")]
+
+
+def strict(line):
+    """A message with --strict: a departure from DER is an error, and a warning of an alphabet is none."""
+    return line if OUTSIDE_ALPHABET in line else line.replace(" warning: ", " error: ")
+
+
 def pem(octets):
     """A text with a certificate in base64."""
     text = base64.encodebytes(octets).decode().replace("\n", "")
@@ -318,6 +351,9 @@ MADE = {
     "indefinite-length-inside-65": (indefinite_length_inside_65, True, True),
 }
 
+# The certificates whose names have such values.
+OUTSIDE = {"printable-wildcard": printable_wildcard, "printable-in-both-names": printable_in_both_names}
+
 
 def main():
     answers, as_der = [], []
@@ -331,6 +367,11 @@ def main():
         (HERE / f"{name}.der").write_bytes(made.octets())
         text = f"byte {at} of its DER: {rule}"
         add(f"{name}.der: warning: {text}" if is_read else f"{name}.der: error: no certificate: {text}", is_written)
+    for name, make in OUTSIDE.items():
+        made, warnings = make()
+        (HERE / f"{name}.der").write_bytes(made.octets())
+        for text, at in warnings:
+            add(f"{name}.der: warning: byte {at} of its DER: {text}")
     ours, departing = Certificate("leaf-ec").octets(), critical_false()[0].octets()
     at = critical_false()[2]
     several = "A chain of three, of which the second departs from DER.\n"
@@ -365,14 +406,14 @@ KEPT = ["leaf-ec.der", "leaf-ec.pem", "names-ed25519.der", "first-version.der", 
 
 def write_rows(answers, as_der):
     """Writes the lines about files in the stored run of test_certificates."""
-    strict = [line.replace(" warning: ", " error: ") for line in answers]
+    as_strict = [strict(line) for line in answers]
     names = dict.fromkeys(line.split(":")[0] for line in answers)
     given, wanted = [], []
     for path in [HERE / name for name in names] + [CERTIFICATES / name for name in KEPT]:
         source = f"examples/{path.parent.name}"
         given.append(f"file {path.name} {path.read_bytes().hex()} ; {source}")
         wanted.append(f"file {path.name} ; {source}")
-        for option, lines in ("no option", answers), ("--strict", strict), ("--der", as_der):
+        for option, lines in ("no option", answers), ("--strict", as_strict), ("--der", as_der):
             own = [line.split(": ", 1)[1] for line in lines if line.startswith(f"{path.name}: ")]
             status = int(any(line.startswith("error: ") or ": error: " in line for line in own))
             wanted.append("; ".join([f"    {option} -> status {status}", *own]))

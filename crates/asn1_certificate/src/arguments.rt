@@ -9,7 +9,7 @@ const ABOUT: &str =
 
 /// The statuses, in its help.
 const STATUSES: &str =
-    "A certificate that departs from DER is shown, and a warning on standard error names the rule and the byte.\nThe status is 0 if each certificate was shown, 1 if one was refused, and 2 after another error.";
+    "A certificate that departs from DER is shown, and a warning on standard error names the rule and the byte.\nA warning also names a PrintableString with characters outside its alphabet, which --strict does not refuse.\nThe status is 0 if each certificate was shown, 1 if one was refused, and 2 after another error.";
 
 /// The arguments that the program takes.
 fn command<'a>(alloc: Global) -> Result<Command<'a>, AllocError> {

@@ -3,7 +3,8 @@
 //!
 //! It writes the texts of reports (`report_text` of `asn1_certificate_text`), which are the reports of the certificates
 //! (`report_of` of `asn1_certificate_reader`), in the order of the inputs and with an empty line between two. A certificate
-//! that departs from DER is shown, and a warning on standard error names a rule of X.690 and the position of the byte.
+//! that departs from DER is shown, and a warning on standard error names a rule of X.690 and the position of the byte. Another names a
+//! PrintableString in its issuer or its subject with characters outside its alphabet, which is no departure.
 //!
 //! | Argument | Effect |
 //! |---|---|

@@ -1,10 +1,10 @@
 -- The output for certificates, one by one.
 use Rattle.std.proofs.Common.{◌≡◌, ◌≢◌, ◌<◌, ◌+◌, ℕ, Bool, List, [], ◌∷◌, ◌++◌, Option, ap, get_or, length, subst, sym, take, true, ◌∙◌}
 use Rattle.std.proofs.lemmas.List.{take_more}
-use Rattle.asn1_certificate_input.specs.Answers.{AreAnswers, number_of, refusal, refused as is_refused, shown as is_shown, warnings}
+use Rattle.asn1_certificate_input.specs.Answers.{AreAnswers, number_of, refusal, refused as is_refused, shown as is_shown, warning_messages}
 use Rattle.asn1_certificate_input.specs.Refused.{IsRefusalOf}
 use Rattle.asn1_certificate_input.specs.Shown.{IsShownOf, separator}
-use Rattle.asn1_certificate_input.specs.declared.departure.Departure.{Departure}
+use Rattle.asn1_certificate_input.specs.declared.certificate.Warnings.{Warnings}
 use Rattle.asn1_certificate_input.specs.declared.error.InputError.{InputError}
 use Rattle.asn1_certificate_input.specs.declared.error.InputError.TheVariants.{Memory}
 use Rattle.asn1_certificate_input.specs.declared.message.Message.{Message}
@@ -16,14 +16,14 @@ pub take_next : (xs : List PemCertificate) (i : ℕ) (x : PemCertificate) → i 
 take_next xs i x below is = take_more xs i x below ∙ ap (λ z. take i xs ++ z ∷ []) (sym is)
 
 module _ (options : Options) (count : ℕ) (found : List PemCertificate) (next : PemCertificate) (number : Option ℕ) (numbered : number ≡ number_of (length found) count) where
-  pub next_shown : (before bytes new : List ℕ) (messages more : List Message) (departure : Option Departure) (refused now : Bool) →
-      AreAnswers options count found before messages refused → IsShownOf options next bytes departure → new ≡ before ++ (separator options before ++ bytes) →
-      more ≡ messages ++ warnings number departure → now ≡ refused → AreAnswers options count (found ++ next ∷ []) new more now
-  next_shown before bytes new messages more departure refused now answers shows added warned same =
+  pub next_shown : (before bytes new : List ℕ) (messages more : List Message) (warnings : Warnings) (refused now : Bool) →
+      AreAnswers options count found before messages refused → IsShownOf options next bytes warnings → new ≡ before ++ (separator options before ++ bytes) →
+      more ≡ messages ++ warning_messages number warnings → now ≡ refused → AreAnswers options count (found ++ next ∷ []) new more now
+  next_shown before bytes new messages more warnings refused now answers shows added warned same =
       subst (λ l. AreAnswers options count (found ++ next ∷ []) l more now) (sym added)
-      (subst (λ l. AreAnswers options count (found ++ next ∷ []) (before ++ (separator options before ++ bytes)) l now) (sym (warned ∙ ap (λ n. messages ++ warnings n departure) numbered))
-      (subst (λ b. AreAnswers options count (found ++ next ∷ []) (before ++ (separator options before ++ bytes)) (messages ++ warnings (number_of (length found) count) departure) b) (sym same)
-      (is_shown found next before bytes messages departure refused answers shows)))
+      (subst (λ l. AreAnswers options count (found ++ next ∷ []) (before ++ (separator options before ++ bytes)) l now) (sym (warned ∙ ap (λ n. messages ++ warning_messages n warnings) numbered))
+      (subst (λ b. AreAnswers options count (found ++ next ∷ []) (before ++ (separator options before ++ bytes)) (messages ++ warning_messages (number_of (length found) count) warnings) b) (sym same)
+      (is_shown found next before bytes messages warnings refused answers shows)))
 
   pub next_refused : (before new : List ℕ) (messages more : List Message) (error : InputError) (refused now : Bool) → AreAnswers options count found before messages refused →
       IsRefusalOf options next error → new ≡ before → more ≡ messages ++ refusal number error ∷ [] → now ≡ true → error ≢ Memory →

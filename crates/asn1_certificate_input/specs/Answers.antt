@@ -1,14 +1,16 @@
 -- The output for an input.
 use Rattle.std.specs.Prelude.{◌≡◌, ◌≢◌, ◌⊎◌, ◌+◌, ◌==◌, ℕ, Bool, List, [], ◌∷◌, ◌++◌, None, Option, Some, false, if◌then◌else◌, length, true}
 use Rattle.std.specs.Io.KnownBytes.{Appends, Consumes}
+use Rattle.std.specs.Option.{option_map}
 use Rattle.asn1_certificate_input.specs.Inputs.{AreCertificatesOf}
 use Rattle.asn1_certificate_input.specs.Refused.{IsRefusalOf, IsRefusalOfInput}
 use Rattle.asn1_certificate_input.specs.Shown.{IsShownOf, separator}
-use Rattle.asn1_certificate_input.specs.declared.departure.Departure.{Departure}
+use Rattle.asn1_certificate_input.specs.declared.certificate.Warnings.{Warnings}
 use Rattle.asn1_certificate_input.specs.declared.error.InputError.{InputError}
 use Rattle.asn1_certificate_input.specs.declared.error.InputError.TheVariants.{Memory}
 use Rattle.asn1_certificate_input.specs.declared.message.Message.{Message}
-use Rattle.asn1_certificate_input.specs.declared.message.Notice.TheVariants.{Refusal, Warning}
+use Rattle.asn1_certificate_input.specs.declared.message.Notice.{Notice}
+use Rattle.asn1_certificate_input.specs.declared.message.Notice.TheVariants.{Alphabet, Departs, Refusal}
 use Rattle.asn1_certificate_input.specs.declared.options.Options.{Options}
 use Rattle.asn1_certificate_text.specs.declared.pem.PemCertificate.{PemCertificate}
 
@@ -16,27 +18,29 @@ use Rattle.asn1_certificate_text.specs.declared.pem.PemCertificate.{PemCertifica
 abbrev pub number_of : ℕ → ℕ → Option ℕ
 number_of index count = if count == 1 then None else Some (index + 1)
 
--- a warning
-abbrev pub warning : Option ℕ → Departure → Message
-warning number departure = record { number = number; notice = Warning departure }
+-- the message of a notice, if there is one
+abbrev pub messages_of : Option ℕ → Option Notice → List Message
+messages_of number None = []
+messages_of number (Some notice) = record { number = number; notice = notice } ∷ []
 
--- the warning of a departure, if there is one
-abbrev pub warnings : Option ℕ → Option Departure → List Message
-warnings number None = []
-warnings number (Some departure) = warning number departure ∷ []
+-- the warnings about a certificate, as messages: of a departure from DER, and of a string of its issuer and one of its subject with
+-- characters outside their alphabet, each if there is one
+abbrev pub warning_messages : Option ℕ → Warnings → List Message
+warning_messages number warnings =
+    messages_of number (option_map Departs warnings.departure) ++
+    (messages_of number (option_map Alphabet warnings.issuer) ++ messages_of number (option_map Alphabet warnings.subject))
 
 -- a refusal
 abbrev pub refusal : Option ℕ → InputError → Message
 refusal number error = record { number = number; notice = Refusal error }
 
 -- Of certificates of an input, which has this many, the bytes are those of each that is shown, one behind the other; the messages are
--- a warning of each that is shown and departs from DER, and the refusal of each that is refused, in their order; and whether one is
--- refused.
+-- the warnings about each that is shown, and the refusal of each that is refused, in their order; and whether one is refused.
 pub data AreAnswers (options : Options) (count : ℕ) : List PemCertificate → List ℕ → List Message → Bool → Type 0 where
   none : AreAnswers options count [] [] [] false
-  shown : (found : List PemCertificate) (next : PemCertificate) (bytes more : List ℕ) (messages : List Message) (departure : Option Departure) (refused : Bool) →
-      AreAnswers options count found bytes messages refused → IsShownOf options next more departure →
-      AreAnswers options count (found ++ next ∷ []) (bytes ++ (separator options bytes ++ more)) (messages ++ warnings (number_of (length found) count) departure) refused
+  shown : (found : List PemCertificate) (next : PemCertificate) (bytes more : List ℕ) (messages : List Message) (warnings : Warnings) (refused : Bool) →
+      AreAnswers options count found bytes messages refused → IsShownOf options next more warnings →
+      AreAnswers options count (found ++ next ∷ []) (bytes ++ (separator options bytes ++ more)) (messages ++ warning_messages (number_of (length found) count) warnings) refused
   refused : (found : List PemCertificate) (next : PemCertificate) (bytes : List ℕ) (messages : List Message) (before : Bool) (error : InputError) →
       AreAnswers options count found bytes messages before → IsRefusalOf options next error → error ≢ Memory →
       AreAnswers options count (found ++ next ∷ []) bytes (messages ++ refusal (number_of (length found) count) error ∷ []) true

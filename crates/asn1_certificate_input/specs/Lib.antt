@@ -1,3 +1,4 @@
+pub mod Alphabets
 pub mod Answers
 pub mod Certificates
 pub mod Departures

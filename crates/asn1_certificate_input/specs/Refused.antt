@@ -8,7 +8,7 @@ use Rattle.asn1_certificate_input.specs.declared.error.InputError.{InputError}
 use Rattle.asn1_certificate_input.specs.declared.error.InputError.TheVariants.{Neither, Text, TrailingBytes, NotDer, NoElement, BadComponent, NoCertificate, BadIssuer, BadSubject, BadKeyParameters, BadSignatureParameters, Departs as DepartsFromDer, OtherDer, Memory}
 use Rattle.asn1_certificate_input.specs.declared.options.Options.{Options}
 use Rattle.asn1_certificate_input.specs.declared.options.OutputFormat.TheVariants.{Der}
-use Rattle.asn1_certificate_reader.specs.NameFaults.{AnswersName}
+use Rattle.asn1_certificate_reader.specs.NameFaults.{AnswersName, value_fault}
 use Rattle.asn1_certificate_reader.specs.Parameters.{HasBadParameters}
 use Rattle.asn1_certificate_rules.specs.Departures.{Departs}
 use Rattle.asn1_certificate_rules.specs.Rules.{IsOfReading}
@@ -38,9 +38,9 @@ IsRefusalOfOctets octets other = ⊥
 -- these parameters leads in the octets. Or memory ran out.
 abbrev pub IsRefusalOfCertificate : List ℕ → Certificate → InputError → Type 0
 IsRefusalOfCertificate octets certificate (BadIssuer position fault) =
-    AnswersName certificate.tbs_certificate.issuer (Some fault) × (position ≡ position_of_value octets issuer fault)
+    AnswersName value_fault certificate.tbs_certificate.issuer (Some fault) × (position ≡ position_of_value octets issuer fault)
 IsRefusalOfCertificate octets certificate (BadSubject position fault) =
-    AnswersName certificate.tbs_certificate.subject (Some fault) × (position ≡ position_of_value octets subject fault)
+    AnswersName value_fault certificate.tbs_certificate.subject (Some fault) × (position ≡ position_of_value octets subject fault)
 IsRefusalOfCertificate octets certificate (BadKeyParameters position bad) =
     HasBadParameters der_format certificate.tbs_certificate.subject_public_key_info.algorithm bad × (position ≡ position_of_key_parameters octets)
 IsRefusalOfCertificate octets certificate (BadSignatureParameters position bad) =

@@ -1,12 +1,14 @@
 -- The output for a certificate.
-use Rattle.std.specs.Prelude.{◌≡◌, ◌||◌, ℕ, Bool, List, [], ◌∷◌, None, Option, false, if◌then◌else◌, true}
+use Rattle.std.specs.Prelude.{◌≡◌, ◌||◌, ℕ, Bool, List, [], ◌∷◌, None, false, if◌then◌else◌, true}
+use Rattle.asn1_certificate_input.specs.Alphabets.{AnswersAlphabet}
 use Rattle.asn1_certificate_input.specs.Certificates.{IsReadOf, records_of}
 use Rattle.asn1_certificate_input.specs.Departures.{AnswersDeparture, KeepsAllRules}
-use Rattle.asn1_certificate_input.specs.declared.departure.Departure.{Departure}
+use Rattle.asn1_certificate_input.specs.declared.alphabets.NameField.TheVariants.{Issuer, Subject}
+use Rattle.asn1_certificate_input.specs.declared.certificate.Warnings.{Warnings}
 use Rattle.asn1_certificate_input.specs.declared.options.Options.{Options}
 use Rattle.asn1_certificate_input.specs.declared.options.OutputFormat.{OutputFormat}
 use Rattle.asn1_certificate_input.specs.declared.options.OutputFormat.TheVariants.{Der, Report as AsReport}
-use Rattle.asn1_certificate_reader.specs.NameFaults.{AnswersName}
+use Rattle.asn1_certificate_reader.specs.NameFaults.{AnswersName, value_fault}
 use Rattle.asn1_certificate_reader.specs.Reports.{IsReportOf}
 use Rattle.asn1_certificate_text.specs.Reports.{report_text}
 use Rattle.asn1_certificate_text.specs.declared.pem.PemCertificate.{PemCertificate}
@@ -17,8 +19,8 @@ use Rattle.asn1_x509.specs.declared.certificate.Certificate.{Certificate}
 
 -- Each value in the two names of the certificate is one that a name can have.
 pub record HasGoodNames (certificate : Certificate) : Type 0 where
-  pub issuer : AnswersName certificate.tbs_certificate.issuer None
-  pub subject : AnswersName certificate.tbs_certificate.subject None
+  pub issuer : AnswersName value_fault certificate.tbs_certificate.issuer None
+  pub subject : AnswersName value_fault certificate.tbs_certificate.subject None
 
 -- the lines of a report of the certificate, whose names and extensions are read as DER
 pub record AreLinesOf (certificate : Certificate) (bytes : List ℕ) : Type 0 where
@@ -31,21 +33,28 @@ abbrev pub AreBytesOf : OutputFormat → List ℕ → Certificate → List ℕ �
 AreBytesOf AsReport octets certificate bytes = AreLinesOf certificate bytes
 AreBytesOf Der octets certificate bytes = (bytes ≡ octets) × Carries bytes (records_of certificate)
 
--- The octets were read as a certificate, whose bytes these are, and depart from its DER in this way or not at all, and then break no
--- rule of DER at any depth; and not at all where such certificates are refused.
-pub record IsShown (options : Options) (octets bytes : List ℕ) (departure : Option Departure) : Type 0 where
+-- A warning of each name of the certificate with these octets tells the first PrintableString with characters outside its alphabet, and
+-- there is none of a name without such a string.
+pub record AreAlphabetWarnings (octets : List ℕ) (certificate : Certificate) (warnings : Warnings) : Type 0 where
+  pub issuer : AnswersAlphabet octets Issuer certificate.tbs_certificate.issuer warnings.issuer
+  pub subject : AnswersAlphabet octets Subject certificate.tbs_certificate.subject warnings.subject
+
+-- The octets were read as a certificate, whose bytes these are, and depart from its DER as a warning says, or not at all, and then break
+-- no rule of DER at any depth; and not at all where such certificates are refused. The other warnings are those of its names.
+pub record IsShown (options : Options) (octets bytes : List ℕ) (warnings : Warnings) : Type 0 where
   pub certificate : Certificate
   pub read : IsReadOf octets certificate
   pub names : HasGoodNames certificate
   pub are : AreBytesOf options.format octets certificate bytes
-  pub departs : AnswersDeparture octets certificate departure
-  pub keeps : departure ≡ None → KeepsAllRules octets
-  pub strict : options.is_strict ≡ true → departure ≡ None
+  pub departs : AnswersDeparture octets certificate warnings.departure
+  pub keeps : warnings.departure ≡ None → KeepsAllRules octets
+  pub strict : options.is_strict ≡ true → warnings.departure ≡ None
+  pub alphabets : AreAlphabetWarnings octets certificate warnings
 
 -- the same of a certificate of an input, which has octets
-abbrev pub IsShownOf : Options → PemCertificate → List ℕ → Option Departure → Type 0
-IsShownOf options (Octets octets) bytes departure = IsShown options octets.items bytes departure
-IsShownOf options (Refused error) bytes departure = ⊥
+abbrev pub IsShownOf : Options → PemCertificate → List ℕ → Warnings → Type 0
+IsShownOf options (Octets octets) bytes warnings = IsShown options octets.items bytes warnings
+IsShownOf options (Refused error) bytes warnings = ⊥
 
 -- whether there are bytes
 abbrev pub are_some : List ℕ → Bool

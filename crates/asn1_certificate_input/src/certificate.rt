@@ -3,8 +3,9 @@ ghost use Rattle.std.specs.Prelude.{◌≡◌, IfErr, IfOk, List, None, OnOk, So
 ghost use Rattle.asn1_certificate_input.specs.Certificates.{IsReadOf};
 ghost use Rattle.asn1_certificate_input.specs.Departures.{AnswersDeparture, AnswersDifference, AreDerAsWritten};
 ghost use Rattle.asn1_certificate_input.specs.Refused.{IsRefusal, IsRefusalOfDeparture, RefusesCertificate};
-ghost use Rattle.asn1_certificate_input.specs.Shown.{AreBytesOf, AreLinesOf, IsShown};
+ghost use Rattle.asn1_certificate_input.specs.Shown.{AreAlphabetWarnings, AreBytesOf, AreLinesOf, IsShown};
 
+use crate::alphabets::{NameField, OutsideAlphabet, outside_alphabet};
 use crate::departure::{Departure, departure_of};
 use crate::error::InputError;
 use crate::open_types::check_open_types;
@@ -16,19 +17,30 @@ use asn1_der::DerRules;
 use asn1_x509::Certificate;
 use std::alloc::{AllocError, Global};
 
-/// A certificate as it is written, and how its octets depart from its DER, if they do.
+/// A certificate as it is written, and the warnings about it.
 #[derive(Drop)]
 pub struct Shown {
     /// The certificate in the format that was asked for.
     pub bytes: Vec<u8>,
-    /// How its octets depart from its DER.
+    /// The warnings.
+    pub warnings: Warnings,
+}
+
+/// The warnings about a certificate that is shown.
+#[derive(Clone, Copy, Debug, Drop)]
+pub struct Warnings {
+    /// How its octets depart from its DER, if they do.
     pub departure: Option<Departure>,
+    /// The first PrintableString of its issuer with characters outside its alphabet, if there is one.
+    pub issuer: Option<OutsideAlphabet>,
+    /// The first such string of its subject.
+    pub subject: Option<OutsideAlphabet>,
 }
 
 /// The certificate with these octets, as the options ask for it.
 pub fn shown_of(alloc: Global, options: Options, octets: &Vec<u8>) -> Result<Shown, InputError>
     ensures shown { IfOk result (λ shown.
-        IsShown options octets.now.items shown.bytes.items shown.departure) }
+        IsShown options octets.now.items shown.bytes.items shown.warnings) }
     ensures refused { IfErr result (IsRefusal options octets.now.items) }
 {
     let read = read(alloc, octets)?;
@@ -45,14 +57,28 @@ fn shown_as(
     requires read { IsReadOf octets.now.items read.now.certificate }
     requires difference { AnswersDifference octets.now.items read.now.certificate read.now.difference }
     ensures shown { IfOk result (λ shown.
-        IsShown options octets.now.items shown.bytes.items shown.departure) }
+        IsShown options octets.now.items shown.bytes.items shown.warnings) }
     ensures refused { IfErr result (RefusesCertificate options octets.now.items) }
 {
     check_open_types(alloc, octets.as_slice(), &read.certificate)?;
     let departure = departure_of(octets.as_slice(), read.difference);
     check_departure(options, departure, read.difference)?;
     let bytes = bytes_of(alloc, options.format, octets, &read.certificate)?;
-    Ok(Shown { bytes, departure })
+    let warnings = warnings_of(octets.as_slice(), &read.certificate, departure);
+    Ok(Shown { bytes, warnings })
+}
+
+/// The warnings about a certificate, which was read of these octets and departs from its DER in this way, if it does.
+fn warnings_of(octets: &[u8], certificate: &Certificate, departure: Option<Departure>) -> Warnings
+    ensures departure { result.departure ≡ departure }
+    ensures alphabets { AreAlphabetWarnings octets.now certificate.now result }
+{
+    let signed = &certificate.tbs_certificate;
+    Warnings {
+        departure,
+        issuer: outside_alphabet(octets, NameField::Issuer, &signed.issuer),
+        subject: outside_alphabet(octets, NameField::Subject, &signed.subject),
+    }
 }
 
 /// Refuses a departure, if the options ask for it.

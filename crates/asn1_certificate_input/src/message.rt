@@ -1,7 +1,8 @@
 //! The messages about an input, for standard error.
 ghost use Rattle.std.specs.Prelude.{◌≡◌, ◌<◌};
-ghost use Rattle.asn1_certificate_input.specs.Answers.{number_of, refusal, warning};
+ghost use Rattle.asn1_certificate_input.specs.Answers.{number_of, refusal};
 
+use crate::alphabets::OutsideAlphabet;
 use crate::departure::Departure;
 use crate::error::InputError;
 use std::fmt;
@@ -19,22 +20,14 @@ pub struct Message {
 #[derive(Clone, Copy, Debug, Drop)]
 pub enum Notice {
     /// A certificate that is shown departs from DER.
-    Warning(Departure),
+    Departs(Departure),
+    /// A name of a certificate that is shown has a PrintableString with characters outside its alphabet.
+    Alphabet(OutsideAlphabet),
     /// A certificate or an input is refused.
     Refusal(InputError),
 }
 
 impl Message {
-    /// A warning.
-    pub(crate) fn warning(number: Option<usize>, departure: Departure) -> Message
-        ensures { result ≡ warning number departure }
-    {
-        Message {
-            number,
-            notice: Notice::Warning(departure),
-        }
-    }
-
     /// A refusal.
     pub(crate) fn refusal(number: Option<usize>, error: InputError) -> Message
         ensures { result ≡ refusal number error }
@@ -52,7 +45,8 @@ impl fmt::Display for Message {
             write!(f, "certificate {number}: ")?;
         }
         match self.notice {
-            Notice::Warning(departure) => write!(f, "warning: {departure}"),
+            Notice::Departs(departure) => write!(f, "warning: {departure}"),
+            Notice::Alphabet(outside) => write!(f, "warning: {outside}"),
             Notice::Refusal(error) => write!(f, "error: {error}"),
         }
     }

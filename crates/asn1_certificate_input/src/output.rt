@@ -1,15 +1,14 @@
 //! The output for an input.
 ghost use Rattle.std.specs.Prelude.{◌≡◌, ◌≢◌, ◌++◌, ◌∷◌, [], IfErr, IfOk, List, OnOk, false, length, true, ℕ};
-ghost use Rattle.asn1_certificate_input.specs.Answers.{AnswersInput, AreAnswers, number_of, refusal, warnings};
+ghost use Rattle.asn1_certificate_input.specs.Answers.{AnswersInput, AreAnswers, messages_of, number_of, refusal, warning_messages};
 ghost use Rattle.asn1_certificate_input.specs.Refused.{IsRefusalOf};
 ghost use Rattle.asn1_certificate_input.specs.Shown.{IsShownOf, separator};
 ghost use Rattle.asn1_certificate_input.specs.declared.error.InputError.TheVariants.{Memory};
 
-use crate::certificate::{Shown, shown_of};
-use crate::departure::Departure;
+use crate::certificate::{Shown, Warnings, shown_of};
 use crate::error::InputError;
 use crate::inputs::certificates_of;
-use crate::message::{Message, number_of};
+use crate::message::{Message, Notice, number_of};
 use crate::options::{Options, OutputFormat};
 use asn1_certificate_text::PemCertificate;
 use std::alloc::{AllocError, Global};
@@ -88,7 +87,7 @@ impl Output {
             number ≡ number_of (length found) count →
             AreAnswers options count found self.old.bytes.items self.old.messages.items
             self.old.is_refused →
-            IfOk answer (λ shown. IsShownOf options next shown.bytes.items shown.departure) →
+            IfOk answer (λ shown. IsShownOf options next shown.bytes.items shown.warnings) →
             IfErr answer (IsRefusalOf options next) →
             OnOk result (AreAnswers options count (found ++ next ∷ []) self.new.bytes.items
             self.new.messages.items self.new.is_refused) }
@@ -99,7 +98,7 @@ impl Output {
         }
     }
 
-    /// Adds a certificate, with a warning if it departs from DER.
+    /// Adds a certificate, with the warnings about it.
     fn add(
         &mut self,
         options: Options,
@@ -109,31 +108,43 @@ impl Output {
         ensures added { OnOk result (self.new.bytes.items ≡
             self.old.bytes.items ++ (separator options self.old.bytes.items ++ shown.bytes.items)) }
         ensures warned { OnOk result (self.new.messages.items ≡
-            self.old.messages.items ++ warnings number shown.departure) }
+            self.old.messages.items ++ warning_messages number shown.warnings) }
         ensures same { OnOk result (self.new.is_refused ≡ self.old.is_refused) }
     {
         if options.format == OutputFormat::Report && (options.follows || !self.bytes.is_empty()) {
             self.bytes.push(b'\n')?;
         }
         self.bytes.extend_from_slice(shown.bytes.as_slice())?;
-        self.warn(number, shown.departure)
+        self.warn(number, shown.warnings)
     }
 
-    /// Adds the warning of a departure, if there is one.
-    fn warn(
+    /// Adds the warnings about a certificate.
+    fn warn(&mut self, number: Option<usize>, warnings: Warnings) -> Result<(), AllocError>
+        ensures bytes { OnOk result (self.new.bytes.items ≡ self.old.bytes.items) }
+        ensures added { OnOk result (self.new.messages.items ≡
+            self.old.messages.items ++ warning_messages number warnings) }
+        ensures same { OnOk result (self.new.is_refused ≡ self.old.is_refused) }
+    {
+        self.add_message(number, warnings.departure.map(Notice::Departs))?;
+        self.add_message(number, warnings.issuer.map(Notice::Alphabet))?;
+        self.add_message(number, warnings.subject.map(Notice::Alphabet))
+    }
+
+    /// Adds the message of a notice, if there is one.
+    fn add_message(
         &mut self,
         number: Option<usize>,
-        departure: Option<Departure>,
+        notice: Option<Notice>,
     ) -> Result<(), AllocError>
         ensures bytes { OnOk result (self.new.bytes.items ≡ self.old.bytes.items) }
         ensures added { OnOk result (self.new.messages.items ≡
-            self.old.messages.items ++ warnings number departure) }
+            self.old.messages.items ++ messages_of number notice) }
         ensures same { OnOk result (self.new.is_refused ≡ self.old.is_refused) }
     {
-        let Some(departure) = departure else {
+        let Some(notice) = notice else {
             return Ok(());
         };
-        self.messages.push(Message::warning(number, departure))?;
+        self.messages.push(Message { number, notice })?;
         Ok(())
     }
 
@@ -161,7 +172,7 @@ fn answer_of(
     certificate: &PemCertificate,
 ) -> Result<Shown, InputError>
     ensures shown { IfOk result (λ shown.
-        IsShownOf options certificate.now shown.bytes.items shown.departure) }
+        IsShownOf options certificate.now shown.bytes.items shown.warnings) }
     ensures refused { IfErr result (IsRefusalOf options certificate.now) }
 {
     match certificate {

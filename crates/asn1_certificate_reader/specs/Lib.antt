@@ -1,4 +1,5 @@
 pub mod Algorithms
+pub mod Alphabets
 pub mod Characters
 pub mod ExtensionValues
 pub mod GeneralNames

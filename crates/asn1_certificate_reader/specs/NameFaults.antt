@@ -1,4 +1,4 @@
--- The values that no name can have, by their octets in DER.
+-- The first fault of a value in a name, and the values that no name can have, by their octets in DER.
 use Rattle.std.specs.Prelude.{◌≡◌, ℕ, Bool, false, true, Option, None, Some, List, [], ◌∷◌, All, nat_lt, take, if◌then◌else◌}
 use Rattle.std.specs.List.{slice_get}
 use Rattle.std.specs.Str.{is_utf8}
@@ -50,34 +50,35 @@ fault_of (Some e) = element_fault e
 abbrev pub value_fault : List ℕ → Option ValueFault
 value_fault octets = fault_of (element_at octets)
 
--- the value of this attribute is one that a name can have
-abbrev pub HasNoFault : AttributeTypeAndValue → Type 0
-HasNoFault a = value_fault a.value ≡ None
+module _ (fault_in : List ℕ → Option ValueFault) where
+  -- the value of this attribute has no such fault
+  abbrev pub HasNoFault : AttributeTypeAndValue → Type 0
+  HasNoFault a = fault_in a.value ≡ None
 
--- The first of these attributes with a value that no name can have is at this index, with this fault.
-pub record IsFirstInPart (attributes : List AttributeTypeAndValue) (index : ℕ) (fault : ValueFault) : Type 0 where
-  pub before : All HasNoFault (take index attributes)
-  pub attribute : AttributeTypeAndValue
-  pub at : slice_get attributes index ≡ Some attribute
-  pub is_at_fault : value_fault attribute.value ≡ Some fault
+  -- The first of these attributes whose value has such a fault is at this index, with this fault.
+  pub record IsFirstInPart (attributes : List AttributeTypeAndValue) (index : ℕ) (fault : ValueFault) : Type 0 where
+    pub before : All HasNoFault (take index attributes)
+    pub attribute : AttributeTypeAndValue
+    pub at : slice_get attributes index ≡ Some attribute
+    pub is_at_fault : fault_in attribute.value ≡ Some fault
 
--- The first of these parts with such an attribute is at the index of the fault, and the attribute is the first in it.
-pub record IsFirstFault (parts : List (List AttributeTypeAndValue)) (f : NameFault) : Type 0 where
-  pub before : All (All HasNoFault) (take f.part parts)
-  pub part : List AttributeTypeAndValue
-  pub at : slice_get parts f.part ≡ Some part
-  pub first : IsFirstInPart part f.attribute f.fault
+  -- The first of these parts with such an attribute is at the index of the fault, and the attribute is the first in it.
+  pub record IsFirstFault (parts : List (List AttributeTypeAndValue)) (f : NameFault) : Type 0 where
+    pub before : All (All HasNoFault) (take f.part parts)
+    pub part : List AttributeTypeAndValue
+    pub at : slice_get parts f.part ≡ Some part
+    pub first : IsFirstInPart part f.attribute f.fault
 
--- the answer for the attributes of a part: none if a name can have each value, and else the first
-abbrev pub AnswersPart : List AttributeTypeAndValue → Option (ℕ × ValueFault) → Type 0
-AnswersPart attributes None = All HasNoFault attributes
-AnswersPart attributes (Some found) = IsFirstInPart attributes found.0 found.1
+  -- the answer for the attributes of a part: none if no value has such a fault, and else the first that has
+  abbrev pub AnswersPart : List AttributeTypeAndValue → Option (ℕ × ValueFault) → Type 0
+  AnswersPart attributes None = All HasNoFault attributes
+  AnswersPart attributes (Some found) = IsFirstInPart attributes found.0 found.1
 
--- the answer for the parts of a name: none if and only if a name can have each value, and else the first
-abbrev pub AnswersParts : List (List AttributeTypeAndValue) → Option NameFault → Type 0
-AnswersParts parts None = All (All HasNoFault) parts
-AnswersParts parts (Some f) = IsFirstFault parts f
+  -- the answer for the parts of a name: none if and only if no value has such a fault, and else the first that has
+  abbrev pub AnswersParts : List (List AttributeTypeAndValue) → Option NameFault → Type 0
+  AnswersParts parts None = All (All HasNoFault) parts
+  AnswersParts parts (Some f) = IsFirstFault parts f
 
--- the same for a name
-abbrev pub AnswersName : Name → Option NameFault → Type 0
-AnswersName (RdnSequence rdns) answer = AnswersParts rdns.items answer
+  -- the same for a name
+  abbrev pub AnswersName : Name → Option NameFault → Type 0
+  AnswersName (RdnSequence rdns) answer = AnswersParts rdns.items answer

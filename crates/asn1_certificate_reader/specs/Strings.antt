@@ -30,6 +30,10 @@ numeric_string = string_type (universal 18) (codes "NumericString") (λ unit. Is
 abbrev pub universal_octets : Meaning (Implicit (Marker 28) (List ℕ))
 universal_octets = implicit_type (universal 28) (λ string. string.value) octet_string
 
+-- the octets under the tag of a PrintableString, whatever they are
+abbrev pub printable_octets : Meaning (Implicit (Marker 19) (List ℕ))
+printable_octets = implicit_type (universal 19) (λ string. string.value) octet_string
+
 -- whether two such strings are equal
-abbrev pub same_octets : Implicit (Marker 28) (List ℕ) → Implicit (Marker 28) (List ℕ) → Bool
+abbrev pub same_octets : {T : Type 0} → Implicit T (List ℕ) → Implicit T (List ℕ) → Bool
 same_octets a b = pointwise nat_eq a.value b.value

@@ -1,11 +1,15 @@
 //! The characters of strings.
 ghost use Rattle.std.specs.Char.Utf16.{utf16_lossy_chars};
+ghost use Rattle.std.specs.List.{list_all};
+ghost use Rattle.std.specs.Option.{option_map};
 ghost use Rattle.std.specs.Prelude.{◌≡◌, IfOk, map};
 ghost use Rattle.std.specs.Str.{chars};
-ghost use Rattle.asn1_certificate_reader.specs.Characters.{directory_characters, teletex_character, universal_text_characters};
+ghost use Rattle.asn1_certificate_reader.specs.Characters.{directory_characters, teletex_character, universal_text_characters, visible_characters};
+ghost use Rattle.asn1_values.specs.Alphabets.{is_visible};
 
 use crate::units::universal_characters;
-use asn1_values::Ia5String;
+use asn1_values::kind::Visible;
+use asn1_values::{Alphabet, Ia5String};
 use asn1_x509::DirectoryString;
 use std::alloc::{AllocError, Global};
 
@@ -32,6 +36,31 @@ pub(crate) fn ascii_characters(alloc: Global, ascii: &Ia5String) -> Result<Vec<c
     ensures { IfOk result (λ characters. characters.items ≡ chars ascii.now) }
 {
     text_characters(alloc, ascii.as_str())
+}
+
+/// The characters of octets, if each is that of a printable character of ASCII, as those of a VisibleString are.
+pub(crate) fn visible_characters(
+    alloc: Global,
+    octets: &[u8],
+) -> Result<Option<Vec<char>>, AllocError>
+    ensures { IfOk result (λ found.
+        option_map (λ v. v.items) found ≡ visible_characters octets.now) }
+{
+    if !are_visible(octets) {
+        return Ok(None);
+    }
+    let mut characters = Vec::new(alloc);
+    for octet in octets {
+        characters.push(char::from(*octet))?;
+    }
+    Ok(Some(characters))
+}
+
+/// Whether each octet is that of a printable character of ASCII.
+fn are_visible(octets: &[u8]) -> bool
+    ensures { result ≡ list_all is_visible octets.now }
+{
+    octets.iter().all(|octet| Visible::allows(octet))
 }
 
 /// The characters of a text.

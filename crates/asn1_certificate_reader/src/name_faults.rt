@@ -1,9 +1,11 @@
-//! Values of attributes that no name can have.
+//! The search for faults in the values of a name, and the values that no name can have.
 ghost use Rattle.std.specs.Prelude.{◌≡◌};
 ghost use Rattle.std.specs.Str.{is_utf8};
+ghost use Rattle.asn1_certificate_reader.specs.Alphabets.{fault_sought};
 ghost use Rattle.asn1_certificate_reader.specs.NameFaults.{AnswersName, AnswersPart, AnswersParts, counts_unused_bits, element_fault, has_contents_of_tag, has_tag_of_name, value_fault};
 ghost use Rattle.asn1_der_items.specs.Elements.{element_of};
 
+use crate::alphabets::alphabet_fault;
 use crate::units::{are_bmp_characters, are_universal_characters};
 use asn1_der_items::{Element, find_element};
 use asn1_tags::Tag;
@@ -11,18 +13,22 @@ use asn1_x509::{AttributeTypeAndValue, Name, RelativeDistinguishedName};
 use std::str;
 use thiserror::Error;
 
-/// The reason for which no name can have a value.
+/// The fault of a value in a name.
 #[derive(Clone, Copy, Debug, Drop, PartialEq, Eq, Error)]
 pub enum ValueFault {
-    /// Its tag is that of no kind of string, of no bits and of no SEQUENCE.
+    /// No name can have it: its tag is that of no kind of string, of no bits and of no SEQUENCE.
     #[error("is no string")]
     NoString,
-    /// Its octets are none of the type of its tag: no bits, no UTF-8, or no characters of a UniversalString or a BMPString.
+    /// No name can have it: its octets are none of the type of its tag. They are no bits, no UTF-8, or no characters of a UniversalString
+    /// or a BMPString.
     #[error("has octets that its kind of string cannot have")]
     BadString,
+    /// It is a PrintableString with octets that are no characters of its alphabet (X.680, 41.4). Certificates in use have such values.
+    #[error("has characters outside the alphabet of a PrintableString (X.680, 41.4)")]
+    OutsideAlphabet,
 }
 
-/// The value that no name can have, and the reason.
+/// A value in a name that has a fault.
 #[derive(Clone, Copy, Debug, Drop, PartialEq, Eq, Error)]
 #[error("the value of attribute {attribute} in part {part} {fault}")]
 pub struct NameFault {
@@ -30,8 +36,17 @@ pub struct NameFault {
     pub part: usize,
     /// The attribute of the part, from 0.
     pub attribute: usize,
-    /// The reason.
+    /// The fault.
     pub fault: ValueFault,
+}
+
+/// The faults that a search looks for.
+#[derive(Clone, Copy, Debug, Drop)]
+pub(crate) enum Sought {
+    /// Those of values that no name can have.
+    Values,
+    /// PrintableStrings with characters outside their alphabet.
+    Alphabets,
 }
 
 /// The tags of the primitive values that a name can have.
@@ -48,22 +63,26 @@ const PRIMITIVE_TAGS: [Tag; 8] = [
 
 /// The first value in a name in DER that no name can have, if there is one. A name has values of seven kinds of string: those of a
 /// DirectoryString (RFC 5280, 4.1.2.4), an IA5String and a NumericString; and bits and SEQUENCEs, for unique identifiers and postal
-/// addresses. The alphabet of a kind of string is not checked, since certificates in use break it; but the contents of a
-/// UTF8String, a UniversalString and a BMPString have to be characters.
+/// addresses. The alphabet of a kind of string is not checked, since certificates in use break it
+/// ([`first_alphabet_fault`](crate::first_alphabet_fault) finds PrintableStrings that do); but the contents of a UTF8String, a
+/// UniversalString and a BMPString have to be characters.
 pub fn first_name_fault(name: &Name) -> Option<NameFault>
-    ensures { AnswersName name.now result }
+    ensures { AnswersName value_fault name.now result }
 {
     match name {
-        Name::RdnSequence(parts) => first_in_parts(parts.as_slice()),
+        Name::RdnSequence(parts) => first_in_parts(parts.as_slice(), Sought::Values),
     }
 }
 
-/// The first such value in the parts of a name.
-fn first_in_parts(parts: &[RelativeDistinguishedName]) -> Option<NameFault>
-    ensures { AnswersParts parts.now result }
+/// The first value with a fault that is sought in the parts of a name.
+pub(crate) fn first_in_parts(
+    parts: &[RelativeDistinguishedName],
+    sought: Sought,
+) -> Option<NameFault>
+    ensures { AnswersParts (fault_sought sought) parts.now result }
 {
     for (part, attributes) in parts.iter().enumerate() {
-        if let Some((attribute, fault)) = first_in_part(attributes.iter().as_slice()) {
+        if let Some((attribute, fault)) = first_in_part(attributes.iter().as_slice(), sought) {
             return Some(NameFault {
                 part,
                 attribute,
@@ -75,15 +94,28 @@ fn first_in_parts(parts: &[RelativeDistinguishedName]) -> Option<NameFault>
 }
 
 /// The first such value in the attributes of a part, with the index of the attribute.
-fn first_in_part(attributes: &[AttributeTypeAndValue]) -> Option<(usize, ValueFault)>
-    ensures { AnswersPart attributes.now result }
+fn first_in_part(
+    attributes: &[AttributeTypeAndValue],
+    sought: Sought,
+) -> Option<(usize, ValueFault)>
+    ensures { AnswersPart (fault_sought sought) attributes.now result }
 {
     for (index, attribute) in attributes.iter().enumerate() {
-        if let Some(fault) = value_fault(attribute.value.as_bytes()) {
+        if let Some(fault) = fault_sought(attribute.value.as_bytes(), sought) {
             return Some((index, fault));
         }
     }
     None
+}
+
+/// The fault of the octets of a value, if they have one that is sought.
+fn fault_sought(octets: &[u8], sought: Sought) -> Option<ValueFault>
+    ensures { result ≡ fault_sought sought octets.now }
+{
+    match sought {
+        Sought::Values => value_fault(octets),
+        Sought::Alphabets => alphabet_fault(octets),
+    }
 }
 
 /// The fault of the octets of a value, if no name can have them.

@@ -2,15 +2,17 @@
 ghost use Rattle.std.specs.Option.{option_map};
 ghost use Rattle.std.specs.Prelude.{◌≡◌, IfOk, Some};
 ghost use Rattle.std.specs.Str.{chars};
-ghost use Rattle.asn1_certificate_reader.specs.Characters.{directory_characters};
+ghost use Rattle.asn1_certificate_reader.specs.Characters.{directory_characters, visible_characters};
 ghost use Rattle.asn1_certificate_reader.specs.Names.{AreCharactersRead};
 ghost use Rattle.asn1_certificate_reader.specs.Units.{universal_characters};
 
-use crate::characters::{ascii_characters, directory_characters, text_characters};
+use crate::characters::{
+    ascii_characters, directory_characters, text_characters, visible_characters,
+};
 use crate::inside::read_inside;
 use crate::units::universal_characters;
 use asn1_dec::Decode;
-use asn1_model::tag::UNIVERSAL_STRING;
+use asn1_model::tag::{PRINTABLE_STRING, UNIVERSAL_STRING};
 use asn1_rules::Rules;
 use asn1_types::Implicit;
 use asn1_values::{Ia5String, NumericString, OctetString};
@@ -20,6 +22,9 @@ use std::alloc::{AllocError, Global};
 /// The octets under the tag of a UniversalString, four for each character in DER. The UniversalString of `asn1_schema` is a text in UTF-8
 /// under that tag.
 pub(crate) type UniversalOctets = Implicit<UNIVERSAL_STRING, OctetString>;
+
+/// The octets under the tag of a PrintableString, whose alphabet certificates in use break.
+pub(crate) type PrintableOctets = Implicit<PRINTABLE_STRING, OctetString>;
 
 /// A type of strings, with their characters.
 pub(crate) trait NameString: Decode {
@@ -59,6 +64,16 @@ impl NameString for UniversalOctets {
 
     fn characters(&self, alloc: Global) -> Result<Option<Vec<char>>, AllocError> {
         universal_characters(alloc, self.value.as_slice())
+    }
+
+    fn is_well_tagged() {}
+}
+
+impl NameString for PrintableOctets {
+    ghost text = { λ string. visible_characters string.value };
+
+    fn characters(&self, alloc: Global) -> Result<Option<Vec<char>>, AllocError> {
+        visible_characters(alloc, self.value.as_slice())
     }
 
     fn is_well_tagged() {}

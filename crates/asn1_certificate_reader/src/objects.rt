@@ -19,7 +19,7 @@ pub(crate) fn object_of(alloc: Global, object: &ObjectIdentifier) -> Result<Obje
 }
 
 /// The name of the object of these arcs, if it has one here.
-fn known_name(arcs: &[u32]) -> Option<&'static str>
+pub(crate) fn known_name(arcs: &[u32]) -> Option<&'static str>
     ensures { MatchOption result (¬ Contains known_objects arcs.now)
         (λ name. NamesObject object_names arcs.now name.now) }
 {

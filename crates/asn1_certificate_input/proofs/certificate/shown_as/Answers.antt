@@ -1,7 +1,8 @@
-use Rattle.std.proofs.Common.{◌≡◌, ℕ, List, Option, None, inl, inr, subst}
+use Rattle.std.proofs.Common.{◌≡◌, ◌∙◌, ℕ, List, Option, None, inl, inr, subst, sym}
 use Rattle.std.proofs.lemmas.Result.{err_from_is_err_and}
 use Rattle.asn1_certificate_input.specs.Departures.{AnswersDeparture, AnswersDifference, AreDerAsWritten, KeepsAllRules}
 use Rattle.asn1_certificate_input.specs.Refused.{IsRefusalOfCertificate}
+use Rattle.asn1_certificate_input.specs.Shown.{AreAlphabetWarnings}
 use Rattle.asn1_certificate_input.specs.declared.departure.Departure.{Departure}
 use Rattle.asn1_x509.specs.declared.certificate.Certificate.{Certificate}
 use Rattle.asn1_certificate_input.proofs.certificate.shown_as.Goals as goal
@@ -49,9 +50,11 @@ returns-clause-shown c = record {
   read = c.requires.read;
   names = c.in_ok-check_open_types.ensures.good;
   are = c.in_ok-bytes.ensures;
-  departs = departs _ _ _ _ _ c.as_slice-2.ensures.value (c.departure_of-departure.ensures.answers c.args.read.now.certificate) c.requires.difference;
-  keeps = λ none. subst KeepsAllRules c.as_slice-2.ensures.value (c.departure_of-departure.ensures.keeps none);
-  strict = c.in_ok-check_departure.ensures.strict;
+  departs = subst (AnswersDeparture c.args.octets.now.items c.args.read.now.certificate) (sym c.warnings_of-warnings.ensures.departure)
+      (departs _ _ _ _ _ c.as_slice-2.ensures.value (c.departure_of-departure.ensures.answers c.args.read.now.certificate) c.requires.difference);
+  keeps = λ none. subst KeepsAllRules c.as_slice-2.ensures.value (c.departure_of-departure.ensures.keeps (sym c.warnings_of-warnings.ensures.departure ∙ none));
+  strict = λ strict. c.warnings_of-warnings.ensures.departure ∙ c.in_ok-check_departure.ensures.strict strict;
+  alphabets = subst (λ octets. AreAlphabetWarnings octets c.args.read.now.certificate c.warnings_of-warnings.result) c.as_slice-3.ensures.value c.warnings_of-warnings.ensures.alphabets;
 }
 
 pub bytes_of-requires : goal.bytes_of-requires

@@ -18,3 +18,11 @@ returns-in-Some-4 g c =
     (by_none _ _ _ _ _ _ _ _ c.in_ok-characters-2.ensures (ap (option_map (λ v. v.items)) c.in_default-2.is)
     (by_none _ _ _ _ _ _ _ _ c.in_ok-characters-3.ensures (ap (option_map (λ v. v.items)) c.in_default-3.is)
     (by_characters _ _ _ _ _ _ _ _ _ c.in_ok-characters-4.ensures (ap (option_map (λ v. v.items)) c.in-Some-4.is) refl)))
+
+pub returns-in-Some-5 : goal.returns-in-Some-5
+returns-in-Some-5 g c =
+    by_none _ _ _ _ _ _ _ _ c.in_ok-characters.ensures (ap (option_map (λ v. v.items)) c.in_default.is)
+    (by_none _ _ _ _ _ _ _ _ c.in_ok-characters-2.ensures (ap (option_map (λ v. v.items)) c.in_default-2.is)
+    (by_none _ _ _ _ _ _ _ _ c.in_ok-characters-3.ensures (ap (option_map (λ v. v.items)) c.in_default-3.is)
+    (by_none _ _ _ _ _ _ _ _ c.in_ok-characters-4.ensures (ap (option_map (λ v. v.items)) c.in_default-4.is)
+    (by_characters _ _ _ _ _ _ _ _ _ c.in_ok-characters-5.ensures (ap (option_map (λ v. v.items)) c.in-Some-5.is) refl))))

@@ -17,8 +17,8 @@ four (Err e) join p q r s = tt
 pub returns-in-Ok : goal.returns-in-Ok
 returns-in-Ok c = λ count found next numbered answers shows _.
     three c.add.result
-    (next_shown c.args.options count found next c.args.number numbered _ c.in-Ok.shown.bytes.items _ _ _ c.in-Ok.shown.departure _ _ answers
-    (subst (λ answer. IfOk answer (λ shown. IsShownOf c.args.options next shown.bytes.items shown.departure)) c.in-Ok.is shows))
+    (next_shown c.args.options count found next c.args.number numbered _ c.in-Ok.shown.bytes.items _ _ _ c.in-Ok.shown.warnings _ _ answers
+    (subst (λ answer. IfOk answer (λ shown. IsShownOf c.args.options next shown.bytes.items shown.warnings)) c.in-Ok.is shows))
     c.add.ensures.added c.add.ensures.warned c.add.ensures.same
 
 pub returns-in-Err : goal.returns-in-Err
