@@ -21,18 +21,19 @@
 #![tactic(auto)]
 
 mod arguments;
+mod beginning;
 mod failure;
 mod input;
+mod messages;
 mod stream;
+mod unknown;
 
-use asn1_ber::BerReader;
+use crate::messages::MessageRules;
+use asn1_ber::{BerReader, BerRules};
 use std::fs::File;
 use std::io::Read;
 use std::process::ExitCode;
 use std::{env, io};
-
-/// The reader of messages.
-type MessageReader = BerReader;
 
 /// How many filters may nest: the ANDs, ORs and NOTs around a filter that holds no other.
 const NESTED_FILTERS: usize = 64;
@@ -77,10 +78,16 @@ fn show_file(rt: &HostRuntime, name: &str) -> ExitCode {
 
 /// Shows the messages of an input.
 fn show_input<R: Read>(rt: &HostRuntime, reader: &mut R) -> ExitCode {
-    let messages_reader = MessageReader::new(rt.alloc(), DEPTH);
+    let alloc = rt.alloc();
+    let messages = MessageRules {
+        alloc,
+        rules: BerRules::new(alloc),
+        depth: DEPTH,
+    };
     let mut writer = io::writer(rt);
-    match input::show(rt.alloc(), messages_reader, reader, &mut writer) {
-        Ok(()) => ExitCode::SUCCESS,
+    match input::show(&messages, BerReader::new(alloc, 0), reader, &mut writer) {
+        Ok(true) => ExitCode::SUCCESS,
+        Ok(false) => ExitCode::from(1),
         Err(failure) => {
             let _ = eprintln!(rt; "{failure}");
             ExitCode::from(failure.status())
