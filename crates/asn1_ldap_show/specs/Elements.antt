@@ -1,4 +1,4 @@
--- What is written of an element, by the rules by which it is read as a message.
+-- The text of an element, by the rules by which it is read as a message.
 use Rattle.std.specs.Prelude.{◌≡◌, ◌≢◌, ℕ, ℤ, Bool, true, false, List, [], ◌++◌, codes, Option, None, Some, Result, Ok, Err, Vec}
 use Rattle.std.specs.declared.alloc.Global.{Global}
 use Rattle.asn1_laws.specs.Refusals.{no_refusals}
@@ -65,7 +65,7 @@ module _ (rules : Format (Vec ℕ Global)) (depth : ℕ) where
     pub not_memory : error ≢ Memory
     pub begins_otherwise : IsNoBeginning octets
 
--- What is written of an element of these octets: the lines of a message that was understood, or the line of one that was not.
+-- The text of an element of these octets: the lines of a message that was understood, or the line of one that was not.
 pub data IsTextOf (rules : Format (Vec ℕ Global)) (depth : ℕ) (octets text : List ℕ) : Bool → Type 0 where
   understood : IsMessageText rules depth octets text → IsTextOf rules depth octets text true
   unknown : IsUnknownText rules depth octets text → IsTextOf rules depth octets text false

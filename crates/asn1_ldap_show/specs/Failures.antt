@@ -3,7 +3,7 @@ use Rattle.std.specs.Prelude.{ℕ, ⊤}
 use Rattle.asn1_ldap_show.specs.declared.failure.Failure.{Failure}
 use Rattle.asn1_ldap_show.specs.declared.failure.Failure.TheVariants.{Damaged, CutOff, Reading, Writing, Memory}
 
--- 1 if the input has what is no message, or ends in a message, and else 2
+-- 1 if something in the input is no message, or the input ends inside one, and else 2
 abbrev pub status_of : Failure → ℕ
 status_of (Damaged at error) = 1
 status_of (CutOff at size) = 1

@@ -3,7 +3,7 @@ use Rattle.std.specs.Prelude.{◌≡◌, ◌≢◌, ◌<◌, ◌⊎◌, ℕ, Boo
 use Rattle.std.specs.declared.alloc.Global.{Global}
 use Rattle.std.specs.Io.KnownBytes.{Appends, Consumes, IsAtEnd}
 use Rattle.asn1_laws.specs.declared.decode_error.DecodeError.{DecodeError}
-use Rattle.asn1_laws.specs.declared.decode_error.DecodeError.TheVariants as error
+use Rattle.asn1_laws.specs.declared.decode_error.DecodeError.TheVariants as decode_error
 use Rattle.asn1_ldap_show.specs.Elements.{IsNoMessage, IsTextOf}
 use Rattle.asn1_ldap_show.specs.Failures.{IsOutside}
 use Rattle.asn1_ldap_show.specs.declared.failure.Failure.{Failure}
@@ -13,7 +13,7 @@ use Rattle.asn1_rules.specs.Progress.{Took}
 use Rattle.asn1_rules.specs.Rules.{Format}
 use Rattle.asn1_rules.specs.States.{State, counted}
 
--- Elements one after another, what is written of them, and whether each was understood. The octets of each are the reader's answer for
+-- Elements one after another, their text, and whether each was understood. The octets of each are the reader's answer for
 -- the bytes at which it begins, with those that had come behind it.
 pub data AreShown {R : Type 0} (F : Fronts R (List ℕ)) (reader : R) (rules : Format (Vec ℕ Global)) (depth : ℕ) : List ℕ → List ℕ → Bool → Type 0 where
   none : AreShown F reader rules depth [] [] true
@@ -30,7 +30,7 @@ module _ {R : Type 0} (F : Fronts R (List ℕ)) (reader : R) where
   -- No element was read of these bytes, for this error, though there was memory.
   pub record IsNotRead (bytes : List ℕ) (why : DecodeError) : Type 0 where
     pub no_front : IsNoFront F reader bytes why
-    pub not_memory : why ≢ error.Memory
+    pub not_memory : why ≢ decode_error.Memory
 
   -- The failure is that the stream ends at this position with these bytes, of which no element is whole.
   pub record IsCutOff (failure : Failure) (at : ℕ) (left : List ℕ) : Type 0 where
@@ -54,14 +54,14 @@ module _ {R : Type 0} (F : Fronts R (List ℕ)) (reader : R) where
     IsFault Writing at left = ⊥
     IsFault Memory at left = ⊥
 
-    -- The stream has one element less to read, of which this is to be written.
+    -- The stream has one element less to read, whose text this is.
     pub record Came (old new : State R) (text : List ℕ) (understood : Bool) : Type 0 where
       pub octets : List ℕ
       pub took : Took F old new octets
       pub is_text : IsTextOf rules depth octets text understood
 
-    -- The given bytes begin with elements, of which this was written, and all of which were understood or not. What is left of the
-    -- bytes begins at this position.
+    -- The given bytes begin with elements, whose text was written, and which were all understood or not. The bytes behind them begin at
+    -- this position.
     pub record Shows (given left : List ℕ) (at : ℕ) (before written : Option (List ℕ)) (all : Bool) : Type 0 where
       pub bytes : List ℕ
       pub text : List ℕ
@@ -91,7 +91,7 @@ module _ {R : Type 0} (F : Fronts R (List ℕ)) (reader : R) where
     abbrev pub StopsAt : List ℕ → State R → Option (List ℕ) → Option (List ℕ) → Bool → Failure → Type 0
     StopsAt piece old before written was failure = IsOutside failure ⊎ StopsBefore piece old before written was failure
 
-    -- What was read of an input is shown, but for what is left from this position on.
+    -- The bytes that were read of an input are shown, but for those from this position on.
     pub record ShowsInput (read_old read_new before written : Option (List ℕ)) (left : List ℕ) (at : ℕ) (all : Bool) : Type 0 where
       pub given : List ℕ
       pub took : Consumes read_old read_new given
@@ -103,7 +103,7 @@ module _ {R : Type 0} (F : Fronts R (List ℕ)) (reader : R) where
       pub shown : ShowsInput read_old read_new before written [] at all
       pub no_more : IsAtEnd read_new
 
-    -- The input is shown up to what is no message, or up to an element that its end cuts off.
+    -- The input is shown up to a fault, or up to an element that its end cuts off.
     pub record ShowsUpToFault (read_old read_new before written : Option (List ℕ)) (failure : Failure) : Type 0 where
       pub left : List ℕ
       pub at : ℕ

@@ -10,7 +10,7 @@ use thiserror::Error;
 /// The reason that an input is not shown to its end. Positions are those of bytes in the stream, from 0.
 #[derive(Clone, Copy, Debug, Drop, Error)]
 pub(crate) enum Failure {
-    /// What begins at this position is no message, and does not begin as one does. The error is that of reading it.
+    /// No element begins at this position, or one that does not begin as a message does. The error is that of reading it.
     #[error("byte {0}: no LDAP message: {1}")]
     Damaged(u128, DecodeError),
     /// The input ends in the message that begins at this position, of which it has this many bytes.

@@ -1,4 +1,4 @@
-//! What is written of an element of the stream.
+//! The text of an element of the stream.
 ghost use Rattle.std.specs.Prelude.{◌≢◌, IfErr, IfOk};
 ghost use Rattle.std.specs.String.{string_bytes};
 ghost use Rattle.asn1_laws.specs.declared.decode_error.DecodeError.TheVariants.{Memory};
@@ -23,7 +23,7 @@ pub(crate) struct MessageRules<M> {
     pub(crate) depth: usize,
 }
 
-/// What is written of an element.
+/// The text of an element.
 #[derive(Drop)]
 pub(crate) struct ElementText {
     /// The lines.
@@ -33,7 +33,7 @@ pub(crate) struct ElementText {
 }
 
 impl<M: Rules<Output = Vec<u8>>> MessageRules<M> {
-    /// What is written of the element with these octets: the lines of the message that it is; or, if it begins as a message does and
+    /// The text of the element with these octets: the lines of the message that it is; or, if it begins as a message does and
     /// is not read as one, a line that says so.
     ///
     /// # Errors
@@ -65,7 +65,7 @@ impl<M: Rules<Output = Vec<u8>>> MessageRules<M> {
         Ok(text)
     }
 
-    /// What is written of an element that was not read as a message, for this error.
+    /// The text of an element that was not read as a message, for this error.
     fn unknown_text(&self, octets: &[u8], error: DecodeError) -> Result<ElementText, DecodeError>
         requires not_read { MayNotBeRead M.format self.now.depth octets.now error }
         requires not_memory { error ≢ Memory }

@@ -1,8 +1,8 @@
 //! The stream of elements.
-ghost use Rattle.std.specs.Prelude.{◌≡◌, ◌<◌, ◌⊎◌, [], IfErr, IfOk, MatchOption, OnOk, length};
+ghost use Rattle.std.specs.Prelude.{◌≡◌, ◌<◌, ◌⊎◌, [], IfErr, IfOk, IfNone, MatchOption, OnOk, length};
 ghost use Rattle.std.specs.Io.KnownBytes.{Appends};
 ghost use Rattle.std.specs.String.{string_bytes};
-ghost use Rattle.asn1_laws.specs.declared.decode_error.DecodeError.TheVariants as error;
+ghost use Rattle.asn1_laws.specs.declared.decode_error.DecodeError.TheVariants as decode_error;
 ghost use Rattle.asn1_ldap_show.specs.Failures.{IsOutside};
 ghost use Rattle.asn1_ldap_show.specs.Showing.{Came, Continues, HasNoFront, IsFault, StopsAt};
 ghost use Rattle.asn1_ldap_show.specs.declared.failure.Failure.TheVariants.{CutOff, Damaged};
@@ -44,7 +44,7 @@ pub(crate) fn show_whole<W: Write, F: FrontReader<Any> + Drop, M: Rules<Output =
     Err(Failure::Memory)
 }
 
-/// What is to be written of the next element; `None` if it is not whole.
+/// The text of the next element; `None` if it is not whole.
 fn next_text<F: FrontReader<Any> + Drop, M: Rules<Output = Vec<u8>>>(
     messages: &MessageRules<M>,
     elements: &mut Iter<'_, Any, F>,
@@ -53,8 +53,8 @@ fn next_text<F: FrontReader<Any> + Drop, M: Rules<Output = Vec<u8>>>(
         (state elements.new ≡ state elements.old)
         (λ shown. Came F.fronts (state elements.old).reader M.format messages.now.depth
         (state elements.old) (state elements.new) (string_bytes shown.text) shown.understood)) }
-    ensures no_more { IfOk result (λ next. MatchOption next
-        (HasNoFront F.fronts (state elements.old).reader (state elements.old).unread) (λ _. ⊤)) }
+    ensures no_more { IfOk result (λ next. IfNone next
+        (HasNoFront F.fronts (state elements.old).reader (state elements.old).unread)) }
     ensures stopped { IfErr result (λ failure. IsOutside failure ⊎
         IsFault F.fronts (state elements.old).reader M.format messages.now.depth failure
         (state elements.old).consumed (state elements.old).unread) }
@@ -76,8 +76,8 @@ fn next_text<F: FrontReader<Any> + Drop, M: Rules<Output = Vec<u8>>>(
 
 /// The failure that no message begins at this position, for this error.
 fn failure_at(position: u128, error: DecodeError) -> Failure
-    ensures memory { error ≡ error.Memory → IsOutside result }
-    ensures damaged { (error ≡ error.Memory → ⊥) → result ≡ Damaged position error }
+    ensures memory { error ≡ decode_error.Memory → IsOutside result }
+    ensures damaged { (error ≡ decode_error.Memory → ⊥) → result ≡ Damaged position error }
 {
     match error {
         DecodeError::Memory => Failure::Memory,
