@@ -26,12 +26,12 @@ memory_or_not : (why : DecodeError) → (why ≡ error.Memory) ⊎ (why ≢ erro
 memory_or_not error.Memory = inl refl
 memory_or_not _ = inr (λ is. cc)
 
--- a flag that stays, and one that is taken away
+-- A flag and another one: the second where the first is set, and else the first.
 pub stays : (was is now : Bool) → was ≡ true → now ≡ is → now ≡ (was && is)
 stays was is now e same = same ∙ ap (λ b. b && is) (sym e)
 
-pub goes : (was is now : Bool) → was ≡ false → now ≡ false → now ≡ (was && is)
-goes was is now e same = same ∙ ap (λ b. b && is) (sym e)
+pub goes : (was is now : Bool) → was ≡ false → now ≡ was → now ≡ (was && is)
+goes was is now e same = same ∙ e ∙ ap (λ b. b && is) (sym e)
 
 module _ {R : Type 0} (F : Fronts R (List ℕ)) (reader : R) (rules : Format (Vec ℕ Global)) (depth : ℕ) where
   -- An element came, and its text was written.
