@@ -157,12 +157,15 @@ module _ {R : Type 0} (F : Fronts R (List ℕ)) (reader : R) (rules : Format (Ve
   stops_at_other failure old new octets items why position took are no_message memory damaged at =
       elim (memory_or_not why) [
         | inl is ↦ inl (memory is)
-        | inr not ↦ inr (subst (λ f. IsFault F old.reader rules depth f old.consumed old.unread) (sym (damaged not)) (at, inr (record {
+        | inr not ↦ inr (subst (λ f. IsFault F old.reader rules depth f old.consumed old.unread) (sym (damaged not)) (
+          at,
+          inr (record {
             octets = octets;
             n = took.n;
             front = took.front;
             no_message = subst (λ l. IsNoMessage rules depth l why) are (no_message not);
-          })))
+          }),
+        ))
       ]
 
   -- A stream has shown all that was read, and is left with nothing, or with no element.

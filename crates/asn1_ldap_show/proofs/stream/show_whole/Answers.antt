@@ -28,7 +28,7 @@ loop-preserved g c =
     let came = MatchOption-at_some _ _ shown c.in-Some.is c.in_ok-shown.ensures.came in
     let wrote = subst (Appends (text c.loop.writer) (text c.write_bytes.new.writer)) c.as_bytes.ensures.value c.in_ok-write_bytes-in-Some.ensures.written in
     let goes_on = element_shown F old.reader rules depth g.met.F.FrontReader.lawful old mid new _ shown.understood _ _ _ _ c.loop.all_understood
-        c.loop.invariant came wrote in
+    c.loop.invariant came wrote in
     elim c.if-all_understood.branch [
       | then-all_understood w ↦ subst (Continues F old.reader rules depth [] old new (text c.args.writer.now) (text c.write_bytes.new.writer) c.args.all_understood.now)
           (sym (stays c.loop.all_understood shown.understood _ w.if-all_understood.true w.all_understood-is)) goes_on

@@ -10,8 +10,8 @@ returns c =
     let number = c.in_ok-number.number in
     let cause = string_bytes c.in_ok-cause.cause in
     let labelled : string_bytes c.push_label.new.text ≡ label number (name_at c.args.beginning.operation.now) =
-        c.in_ok-push_label.ensures ∙ ap (λ l. l ++ label number (option_copied c.operation_in.result)) c.new-text.ensures.bytes
-        ∙ ap (λ name. label number name) c.operation_in.ensures in
+    c.in_ok-push_label.ensures ∙ ap (λ l. l ++ label number (option_copied c.operation_in.result)) c.new-text.ensures.bytes
+    ∙ ap (λ name. label number name) c.operation_in.ensures in
     record {
       number = number;
       known = c.in_ok-number.ensures;
