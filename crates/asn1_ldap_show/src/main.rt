@@ -50,6 +50,9 @@ const NESTED_FILTERS: usize = 64;
 /// CHOICE, its SEQUENCE, the SEQUENCE OF its substrings, and the CHOICE of each).
 const DEPTH: usize = 3 + 2 * NESTED_FILTERS + 4;
 
+/// How many scopes the reader of elements opens: none, since it takes each element whole.
+const ELEMENT_DEPTH: usize = 0;
+
 fn main(rt: HostRuntime) -> ExitCode {
     let alloc = rt.alloc();
     let words: Vec<String> = match env::args(&rt).map(|words| words.collect(alloc)) {
@@ -91,8 +94,9 @@ fn show_input<R: Read>(rt: &HostRuntime, reader: &mut R) -> ExitCode {
         rules: BerRules::new(alloc),
         depth: DEPTH,
     };
+    let elements_reader = BerReader::new(alloc, ELEMENT_DEPTH);
     let mut writer = io::writer(rt);
-    match input::show(&messages, BerReader::new(alloc, 0), reader, &mut writer) {
+    match input::show(&messages, elements_reader, reader, &mut writer) {
         Ok(true) => ExitCode::SUCCESS,
         Ok(false) => ExitCode::from(1),
         Err(failure) => {
