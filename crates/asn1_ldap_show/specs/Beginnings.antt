@@ -33,7 +33,7 @@ pub record IsBeginning (octets message_id operation : List ℕ) : Type 0 where
 abbrev pub IsNoBeginning : List ℕ → Type 0
 IsNoBeginning octets = (message_id operation : List ℕ) → IsBeginning octets message_id operation → ⊥
 
--- The number of these contents octets is known: they are those of an INTEGER. It is not known of any other, nor of more than 8 octets.
+-- The number is that of an INTEGER with these contents octets. It is unknown only if no INTEGER has them, or they are more than 8.
 abbrev pub IsKnownAs : List ℕ → Option ℤ → Type 0
 IsKnownAs octets (Some number) = IsInteger number octets
 IsKnownAs octets None = (number : ℤ) → IsInteger number octets → 8 < length octets

@@ -32,7 +32,7 @@ pub record IsUnknownLine (message_id operation text : List ℕ) : Type 0 where
   pub line : text ≡ unknown_line number (name_at operation) cause
 
 module _ (rules : Format (Vec ℕ Global)) (depth : ℕ) where
-  -- Reading these octets as a message, with at most so many nested scopes, may give this answer. If they carry a valid message, it
+  -- Reading these octets as a message, with at most this many nested scopes, may give this answer. If they carry a valid message, it
   -- is that message, unless memory runs out or the depth is too small.
   pub record MayBeRead (octets : List ℕ) (answer : Result LdapMessage DecodeError) : Type 0 where
     pub input : Vec ℕ Global

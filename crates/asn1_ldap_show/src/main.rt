@@ -23,8 +23,8 @@
 //! The contract of `show` covers this for any reader of elements and any rules of messages (`specs/Showing.antt`), however the input is
 //! cut into pieces. The elements are the reader's answers for the bytes of the input, one after another. The text of each is
 //! written, once and in this order (`specs/Elements.antt`): the lines of a message that the rules may read of it, or the line of one
-//! that they may refuse, unless memory runs out. An element that ends the display begins at the byte that is told, the sum of the
-//! lengths before it.
+//! that they may refuse, unless memory runs out. An element that ends the display begins at the byte that the failure
+//! names, the sum of the lengths before it.
 #![tactic(auto)]
 
 mod arguments;

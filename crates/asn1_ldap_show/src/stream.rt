@@ -40,7 +40,7 @@ pub(crate) fn show_whole<W: Write, F: FrontReader<Any> + Drop, M: Rules<Output =
             None => return Ok(()),
         }
     }
-    // No memory holds so many elements.
+    // No memory holds this many elements.
     Err(Failure::Memory)
 }
 
