@@ -17,8 +17,8 @@
 //!
 //! The program ends with 0 if the whole input was shown, and each message understood; with 1 after a message that was not, and if the
 //! display ended before the input did; and with 2 if the arguments are none of these, the file was not opened, memory ran out, or
-//! reading or writing failed. The stored run is three conversations of examples/ldap, messages that are not understood, each before one
-//! that is, and the beginning of a message, so its status is 1.
+//! reading or writing failed. The stored run is three conversations of examples/ldap, messages of each operation that are not
+//! understood, among others that are, and the beginning of a message, so its status is 1.
 //!
 //! The contract of `show` covers this for any reader of elements and any rules of messages (`specs/Showing.antt`), however the input is
 //! cut into pieces. The elements are the reader's answers for the bytes of the input, one after another. The text of each is
