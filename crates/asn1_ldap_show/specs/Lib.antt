@@ -1,2 +1,4 @@
+pub mod Beginnings
+pub mod Elements
 pub mod Failures
 pub mod Showing

@@ -7,7 +7,7 @@ const ABOUT: &str = "Shows LDAP messages, in BER and one after another, as lines
 
 /// The statuses, in its help.
 const STATUSES: &str =
-    "The status is 0 if the whole input was shown, 1 after a message that is damaged, nested too deep or cut off, and 2 after another error.";
+    "The status is 0 if each message was understood, 1 if one was not, or the input has something else or ends inside a message, and 2 after another error.";
 
 /// The arguments that the program takes.
 fn command<'a>(alloc: Global) -> Result<Command<'a>, AllocError> {

@@ -10,12 +10,9 @@ use thiserror::Error;
 /// The reason that an input is not shown to its end. Positions are those of bytes in the stream, from 0.
 #[derive(Clone, Copy, Debug, Drop, Error)]
 pub(crate) enum Failure {
-    /// No message begins at this position: it is damaged. The error is that of reading it.
+    /// No element begins at this position, or one that does not begin as a message does. The error is that of reading it.
     #[error("byte {0}: no LDAP message: {1}")]
     Damaged(u128, DecodeError),
-    /// The message that begins at this position is nested too deep, by its filters.
-    #[error("byte {0}: filters of an LDAP message are nested more than 64 deep")]
-    TooDeep(u128),
     /// The input ends in the message that begins at this position, of which it has this many bytes.
     #[error("byte {0}: an LDAP message is cut off after {1} bytes")]
     CutOff(u128, usize),
@@ -37,7 +34,6 @@ impl Failure {
     {
         match self {
             Failure::Damaged(_, _) => 1,
-            Failure::TooDeep(_) => 1,
             Failure::CutOff(_, _) => 1,
             Failure::Reading => 2,
             Failure::Writing => 2,

@@ -1,59 +1,71 @@
 //! The input, and the pieces in which it comes.
-ghost use Rattle.std.specs.Prelude.{◌≡◌, ◌<◌, [], IfErr, OnOk, length};
+ghost use Rattle.std.specs.Prelude.{◌≡◌, ◌<◌, [], IfErr, IfOk, OnOk, length};
 ghost use Rattle.asn1_ldap_show.specs.Showing.{Continues, EndsBy, HasNoFront, ShowsAll, StopsAt};
 ghost use Rattle.asn1_rules.specs.Iters.{state};
 ghost use Rattle.asn1_rules.specs.States.{begun};
 
 use crate::failure::Failure;
+use crate::messages::MessageRules;
 use crate::stream::{check_end, show_whole};
-use asn1_ldap::LdapMessage;
-use asn1_rules::{FrontReader, Iter};
-use std::alloc::Global;
+use asn1_rules::{FrontReader, Iter, Rules};
+use asn1_types::Any;
 use std::io::{ErrorKind, Read, Write};
 
 /// The greatest number of bytes of a piece.
 const PIECE_LENGTH: usize = 16 * 1024;
 
-/// Writes the messages of an input, each as soon as it is whole.
-pub(crate) fn show<R: Read, W: Write, F: FrontReader<LdapMessage> + Drop>(
-    alloc: Global,
-    messages_reader: F,
+/// Writes the lines of each element of an input, as soon as the element is whole, and answers whether each was understood.
+pub(crate) fn show<R: Read, W: Write, F: FrontReader<Any> + Drop, M: Rules<Output = Vec<u8>>>(
+    messages: &MessageRules<M>,
+    elements_reader: F,
     reader: &mut R,
     writer: &mut W,
-) -> Result<(), Failure>
-    ensures shown { OnOk result (ShowsAll F.fronts messages_reader
+) -> Result<bool, Failure>
+    ensures shown { IfOk result (ShowsAll F.fronts elements_reader M.format messages.now.depth
         (R.remaining reader.old) (R.remaining reader.new)
         (W.contents writer.old) (W.contents writer.new)) }
-    ensures ended { IfErr result (EndsBy F.fronts messages_reader
+    ensures ended { IfErr result (EndsBy F.fronts elements_reader M.format messages.now.depth
         (R.remaining reader.old) (R.remaining reader.new)
         (W.contents writer.old) (W.contents writer.new)) }
 {
-    let mut piece = vec![in alloc; 0; PIECE_LENGTH]?;
-    let mut messages = Iter::new(alloc, &[], messages_reader);
-    show_pieces(alloc, &mut messages, reader, &mut piece, writer)
+    let mut piece = vec![in messages.alloc; 0; PIECE_LENGTH]?;
+    let mut elements = Iter::new(messages.alloc, &[], elements_reader);
+    show_pieces(messages, &mut elements, reader, &mut piece, writer)
 }
 
-/// Writes the messages of an input, of which nothing is read yet. An interrupted read is tried again.
-fn show_pieces<R: Read, W: Write, F: FrontReader<LdapMessage> + Drop>(
-    alloc: Global,
-    messages: &mut Iter<'_, LdapMessage, F>,
+/// Writes the lines of each element of an input, of which nothing is read yet. An interrupted read is tried again.
+fn show_pieces<R: Read, W: Write, F: FrontReader<Any> + Drop, M: Rules<Output = Vec<u8>>>(
+    messages: &MessageRules<M>,
+    elements: &mut Iter<'_, Any, F>,
     reader: &mut R,
     piece: &mut [u8],
     writer: &mut W,
-) -> Result<(), Failure>
+) -> Result<bool, Failure>
     requires room { 0 < length piece.old }
-    requires begun { state messages.old ≡ begun (state messages.old).reader [] }
-    ensures shown { OnOk result (ShowsAll F.fronts (state messages.old).reader
-        (R.remaining reader.old) (R.remaining reader.new)
+    requires begun { state elements.old ≡ begun (state elements.old).reader [] }
+    ensures shown { IfOk result (ShowsAll F.fronts (state elements.old).reader
+        M.format messages.now.depth (R.remaining reader.old) (R.remaining reader.new)
         (W.contents writer.old) (W.contents writer.new)) }
-    ensures ended { IfErr result (EndsBy F.fronts (state messages.old).reader
-        (R.remaining reader.old) (R.remaining reader.new)
+    ensures ended { IfErr result (EndsBy F.fronts (state elements.old).reader
+        M.format messages.now.depth (R.remaining reader.old) (R.remaining reader.new)
         (W.contents writer.old) (W.contents writer.new)) }
 {
+    let mut all_understood = true;
     for _ in 0..u64::MAX {
         match reader.read(piece) {
-            Ok(0) => return check_end(messages),
-            Ok(size) => show_piece(alloc, messages, &piece[..size], writer)?,
+            Ok(0) => {
+                check_end(elements)?;
+                return Ok(all_understood);
+            }
+            Ok(size) => {
+                show_piece(
+                    messages,
+                    elements,
+                    &piece[..size],
+                    writer,
+                    &mut all_understood,
+                )?
+            }
             Err(error) => {
                 if error.kind() != ErrorKind::Interrupted {
                     return Err(Failure::Reading);
@@ -64,22 +76,23 @@ fn show_pieces<R: Read, W: Write, F: FrontReader<LdapMessage> + Drop>(
     Err(Failure::Reading)
 }
 
-/// Writes the messages that are whole with a piece more.
-fn show_piece<W: Write, F: FrontReader<LdapMessage> + Drop>(
-    alloc: Global,
-    messages: &mut Iter<'_, LdapMessage, F>,
+/// Writes the lines of each element that is whole with a piece more.
+fn show_piece<W: Write, F: FrontReader<Any> + Drop, M: Rules<Output = Vec<u8>>>(
+    messages: &MessageRules<M>,
+    elements: &mut Iter<'_, Any, F>,
     piece: &[u8],
     writer: &mut W,
+    all_understood: &mut bool,
 ) -> Result<(), Failure>
-    ensures shown { OnOk result (Continues F.fronts (state messages.old).reader piece.now
-        (state messages.old) (state messages.new)
-        (W.contents writer.old) (W.contents writer.new)) }
+    ensures shown { OnOk result (Continues F.fronts (state elements.old).reader
+        M.format messages.now.depth piece.now (state elements.old) (state elements.new)
+        (W.contents writer.old) (W.contents writer.new) all_understood.old all_understood.new) }
     ensures no_more { OnOk result
-        (HasNoFront F.fronts (state messages.old).reader (state messages.new).unread) }
-    ensures stopped { IfErr result (StopsAt F.fronts (state messages.old).reader piece.now
-        (state messages.old) (state messages.new)
-        (W.contents writer.old) (W.contents writer.new)) }
+        (HasNoFront F.fronts (state elements.old).reader (state elements.new).unread) }
+    ensures stopped { IfErr result (StopsAt F.fronts (state elements.old).reader
+        M.format messages.now.depth piece.now (state elements.old)
+        (W.contents writer.old) (W.contents writer.new) all_understood.old) }
 {
-    messages.append_bytes(piece)?;
-    show_whole(alloc, messages, writer)
+    elements.append_bytes(piece)?;
+    show_whole(messages, elements, writer, all_understood)
 }

@@ -8,6 +8,7 @@ pub mod Extended
 pub mod Filters
 pub mod Lengths
 pub mod Messages
+pub mod Names
 pub mod Operations
 pub mod Results
 pub mod Searches

@@ -3,6 +3,7 @@
 //! | Item | What it is |
 //! |---|---|
 //! | [`message_text`] | a message: its number and its operation on a line, and a line for each control |
+//! | [`operation_name`] | the name with which the text of an operation begins, by the operation's tag |
 //! | [`filter_text`] | a filter of a search, as RFC 4515, section 3, writes it |
 //! | [`laws`] | what the definitions of these texts amount to |
 //!
@@ -35,6 +36,7 @@ mod items;
 pub mod laws;
 mod lengths;
 mod messages;
+mod names;
 mod operations;
 mod results;
 mod searches;
@@ -43,3 +45,4 @@ mod strings;
 
 pub use filters::filter_text;
 pub use messages::message_text;
+pub use names::operation_name;
