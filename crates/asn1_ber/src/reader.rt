@@ -14,8 +14,8 @@ use std::alloc::Global;
 /// a whole. If the element is not complete, the error is [`DecodeError::Incomplete`]; if the input does not begin with an element, it is
 /// [`DecodeError::Custom`] with the text `bad item`.
 ///
-/// Where octets come in pieces, the search for the end of an element of indefinite length goes on where it came with the piece before
-/// (`read_on`), and the element is read once it is whole.
+/// The search for the end of an element of indefinite length goes on with each piece from where it came (`read_on`), and the element
+/// is read once it is whole.
 #[derive(Clone, Copy, Debug, Drop)]
 pub struct BerReader {
     alloc: Global,

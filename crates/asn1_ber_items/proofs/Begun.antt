@@ -101,7 +101,7 @@ begun_too es e first more last front begun segment index starts inside b = begun
   outer = b;
 })
 
--- An element that was begun ends: its length stands in the place that was left for it.
+-- An element that was begun ends: its length is in the place that was left for it.
 module _ (outer : List OpenElement) (e : OpenElement) (segments : List (List ℕ)) (b : IsBegunIn e (AreBegun outer (λ _. ⊤)) segments) where
   -- the octets before this place, and the octet there
   pub room_last : segments ≡ b.before ++ (((b.outside ++ b.begun.identifier) ++ b.begun.room ∷ []) ++ b.rest) ∷ b.after

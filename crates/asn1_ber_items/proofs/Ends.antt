@@ -1,4 +1,4 @@
--- What is ahead of the search for the end of the first element, and what is ahead behind it.
+-- The octets ahead of the search for the end of the first element, before a step and behind it.
 use Rattle.std.proofs.Common.{◌≡◌, ◌⊎◌, inl, inr, ℕ, zero, suc, true, List, [], ◌∷◌, ◌++◌, Some, append_assoc, refl, ap, sym, subst, ◌∙◌}
 use Rattle.asn1_der_items.proofs.OneElement.{some_bytes as one_has_bytes}
 use Rattle.asn1_ber_items.specs.Ends.{BeginDefinite, BeginIndefinite, IsAhead, IsOver}

@@ -13,7 +13,7 @@ use Rattle.asn1_ber_items.proofs.FlatOctets.{IsPiece, contents_before, element_d
 use Rattle.asn1_ber_items.proofs.Headers.{element_header, header_before}
 use Rattle.asn1_ber_items.proofs.Splits.{one_extent}
 
--- The bytes are pieces, header after header; these are their octets, and so many bits of the last octet are unused.
+-- The bytes are pieces, header after header; these are their octets, and this many bits of the last octet are unused.
 pub data FlatBits : List ℕ → ℕ → List ℕ → Type 0 where
   no_header : FlatBits [] 0 []
   last_bits : (bytes octets : List ℕ) (unused : ℕ) (h : Header) → IsPiece BIT_STRING false h bytes → IsDefinite h (unused ∷ octets) [] → HaveUnused unused octets → FlatBits bytes unused octets

@@ -8,7 +8,7 @@ use Rattle.std.specs.Prelude.{◌/◌, ◌%◌, nat_eq, not, replicate, slice_in
 use Rattle.asn1_items.specs.Bits.{AreBits, bits_of_octet, bits_of_octets}
 use Rattle.asn1_ber_items.specs.LooseContents.{AreLooseBits, AreSameBits, IsTruthValue, other_octet, zero_octet}
 
--- the last octet with so many of its last bits set to 0
+-- the last octet with this many of its last bits set to 0
 abbrev pub IsCleared : ℕ → ℕ → ℕ → Type 0
 IsCleared unused octet new = bits_of_octet new ≡ take (8 - unused) (bits_of_octet octet) ++ replicate unused false
 

@@ -1,4 +1,4 @@
--- What follows a header is the last of the bytes.
+-- The bytes behind a header are the last of the bytes.
 use Rattle.std.proofs.Common.{◌≡◌, ℕ, ◌+◌, ◌-◌, ◌*◌, ◌^◌, Bool, true, false, List, [], ◌∷◌, ◌++◌, Option, None, Some, append_assoc, drop, take, length, refl, ap, sym, ◌∙◌}
 use Rattle.std.proofs.lemmas.List.{take-append-drop}
 use Rattle.std.specs.Prelude.{◌&&◌, ◌==◌, ◌/◌, ◌%◌, nat_eq, nat_le, nat_lt, if◌then◌else◌}

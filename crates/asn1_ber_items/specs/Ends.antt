@@ -40,8 +40,8 @@ pub record IsCutContents (bytes : List ℕ) : Type 0 where
   pub size : header.size ≡ Some long
   pub few : length header.rest < long
 
--- The octets end inside so many open elements of indefinite lengths: in a header, in contents octets, or before end-of-contents
--- octets. Where none is open, they end inside the first element.
+-- The octets end inside this many open elements of indefinite lengths: in a header, in contents octets, or before end-of-contents
+-- octets. With none open they end inside the first element.
 pub data EndsInside : ℕ → List ℕ → Type 0 where
   in_header : (n : ℕ) (octets : List ℕ) → IsCutHeader octets → EndsInside n octets
   in_contents : (n : ℕ) (octets : List ℕ) → IsCutContents octets → EndsInside n octets
@@ -59,7 +59,7 @@ pub record IsClosed (Later : List ℕ → Type 0) (left : List ℕ) : Type 0 whe
   pub spell : Spells left others (0 ∷ 0 ∷ back)
   pub later : Later back
 
--- The bytes begin with what closes so many open elements of indefinite lengths.
+-- The bytes begin with the octets that close this many open elements of indefinite lengths.
 abbrev pub Close : ℕ → List ℕ → Type 0
 Close zero left = ⊤
 Close (suc n) left = IsClosed (Close n) left
@@ -70,7 +70,7 @@ pub record BeginWithOne (bytes : List ℕ) : Type 0 where
   pub rest : List ℕ
   pub one : SpellsOne bytes normal rest
 
--- The bytes begin with what closes the open elements; or with one element, where none is open.
+-- The bytes begin with the octets that close the open elements; or with one element, if none is open.
 abbrev pub IsAhead : ℕ → List ℕ → Type 0
 IsAhead zero left = BeginWithOne left
 IsAhead (suc n) left = Close (suc n) left

@@ -28,7 +28,7 @@ pub record HaveUnused (unused : ℕ) (octets : List ℕ) : Type 0 where
   pub below_eight : unused < 8
   pub without : octets ≡ [] → unused ≡ 0
 
--- The contents octets are pieces of a bit string. These are its octets, and so many bits of the last of them are unused. Each piece
+-- The contents octets are pieces of a bit string. These are its octets, and this many bits of the last of them are unused. Each piece
 -- but the last has no unused bits (8.6.4).
 pub data AreBitPieces : List ℕ → ℕ → List ℕ → Type 0 where
   -- no piece

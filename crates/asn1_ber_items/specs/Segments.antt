@@ -28,8 +28,8 @@ written_in s = joined (segments_of s)
 abbrev pub IsCounted : Segments → Type 0
 IsCounted s = s.counted ≡ length (joined (octets_of_each s.full.items))
 
--- Where one octet was left for it, a length of this size stands, between the octets before and those after. It has so many octets
--- beyond one.
+-- A length of this size is in the place of the one octet that was left for it, between the octets before and those after. It has
+-- this many octets beyond one.
 pub record IsMeasured (size : ℕ) (front rest new : List ℕ) (added : ℕ) : Type 0 where
   pub octets : List ℕ
   pub is_length : IsLength size octets

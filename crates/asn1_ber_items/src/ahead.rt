@@ -1,4 +1,4 @@
-//! What is ahead of the search for the end of the first element.
+//! The octets ahead of the search for the end of the first element.
 ghost use Rattle.asn1_ber_items.specs.Ends.{IsOver, Passes, StopsAt};
 ghost use Rattle.std.specs.Prelude.{◌≡◌, ◌≢◌, ◌+◌, ◌<◌, ◌^◌, ◌∷◌, IfSome, List, MatchOption, MatchResult, length, ℕ};
 
@@ -9,15 +9,15 @@ use asn1_items::ItemError;
 /// The octets that are ahead of the search, and how many elements of indefinite lengths are open there.
 #[derive(Clone, Copy)]
 pub(crate) struct Ahead<'a> {
-    /// The number of the open elements. Where it is 0, the first element is ahead.
+    /// The number of the open elements; with none, the first element is ahead.
     pub(crate) levels: usize,
     /// The octets.
     pub(crate) left: &'a [u8],
 }
 
 impl<'a> Ahead<'a> {
-    /// What is ahead behind one header more and the contents octets of a definite length, or behind end-of-contents octets; or none
-    /// where the first element ends there.
+    /// The octets ahead behind one header more and the contents octets of a definite length, or behind end-of-contents octets; none if
+    /// the first element ends there.
     ///
     /// # Errors
     /// [`ItemError::Missing`] where the octets end before that, and [`ItemError::Malformed`] where no element is there.
@@ -33,7 +33,7 @@ impl<'a> Ahead<'a> {
         self.behind_header()
     }
 
-    /// The same where no end-of-contents octets come next.
+    /// The same, if no end-of-contents octets come next.
     fn behind_header(self) -> Result<Option<Ahead<'a>>, ItemError>
         requires { self.levels + length self.left.now < 2 ^ 64 }
         ensures { ¬ IsOver self.entry.levels self.entry.left.now →
@@ -68,7 +68,7 @@ fn behind_end_of_contents(left: &[u8]) -> Option<&[u8]>
     }
 }
 
-/// What is ahead inside so many open elements, if there are any.
+/// The octets ahead inside this number of open elements, if there are any.
 fn inside(levels: usize, left: &[u8]) -> Option<Ahead<'_>>
     ensures { IfSome result (λ ahead. (ahead.levels ≡ levels) × (ahead.left.now ≡ left.now) × (0 < levels)) }
 {

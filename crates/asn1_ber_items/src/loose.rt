@@ -51,7 +51,7 @@ pub fn strict_bits(alloc: Global, bytes: &[u8]) -> Result<Vec<u8>, ItemError>
     }
 }
 
-/// The octet with so many of its last bits set to 0.
+/// The octet with this many of its last bits set to 0.
 fn without_unused(octet: u8, unused: u8) -> u8
     requires { unused < 8 }
     ensures { bits_of_octet result ≡

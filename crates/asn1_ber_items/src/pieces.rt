@@ -80,7 +80,7 @@ pub fn bits_of_pieces(alloc: Global, contents: &[u8]) -> Result<Vec<u8>, ItemErr
     Ok(bits)
 }
 
-/// The bits with the octets of the last piece, of which so many bits are unused.
+/// The bits with the octets of the last piece, of which this many bits are unused.
 fn with_last(mut bits: Vec<u8>, unused: u8, octets: &[u8]) -> Result<Vec<u8>, ItemError>
     requires some_octet { 0 < length bits.items }
     requires some_bits { 0 < unused }

@@ -1,7 +1,7 @@
 //! How far a search came.
 ghost use Rattle.std.specs.Prelude.{◌≤◌};
 
-/// How far the search for the end of the first element came: behind so many octets, inside so many open elements of indefinite
+/// How far the search for the end of the first element came: behind this many octets, inside this many open elements of indefinite
 /// lengths.
 #[derive(Clone, Copy, Debug)]
 pub struct Progress {
