@@ -1,4 +1,4 @@
-//! The beginning of a message (RFC 4511, 4.1.1): by it a message is known that is not understood.
+//! The beginning of a message (RFC 4511, 4.1.1), which tells a message that is not understood from other elements.
 ghost use Rattle.std.specs.Prelude.{MatchOption};
 ghost use Rattle.asn1_ldap_show.specs.Beginnings.{IsBeginning, IsNoBeginning};
 

@@ -13,8 +13,8 @@ pub(crate) enum Failure {
     /// No element begins at this position, or one that does not begin as a message does. The error is that of reading it.
     #[error("byte {0}: no LDAP message: {1}")]
     Damaged(u128, DecodeError),
-    /// The input ends in the message that begins at this position, of which it has this many bytes.
-    #[error("byte {0}: an LDAP message is cut off after {1} bytes")]
+    /// The input ends inside the element that begins at this position, of which it has this many bytes.
+    #[error("byte {0}: the input ends inside an LDAP message, of which it has {1} bytes")]
     CutOff(u128, usize),
     /// Reading failed.
     #[error("reading failed")]

@@ -3,9 +3,10 @@
 //! `asn1_ldap_text`).
 //!
 //! The stream is read as elements of BER, in any spelling, and each element as a message. An element that begins as a message does, a
-//! SEQUENCE with an INTEGER first, and is not read as one, since it has a value that the module does not list, or filters that are nested
-//! more than 64 deep, has a line in its place: the number of the message, its operation, and the error of reading, as
-//! `20 search done: not understood: ..`. A number or an operation that is not known is left out. The messages behind it are shown.
+//! SEQUENCE with an INTEGER first, and is not read as one has a line in its place: the number of the message, its operation, and the
+//! cause, as `20 search done: not understood: component resultCode: no value of its type`. Its value may be one that the module does
+//! not list, its filters may be nested more than 64 deep, or it may be damaged inside. A number or an operation that is not known is
+//! left out. The messages behind it are shown.
 //!
 //! Any other element, octets that begin no element, and the end of the input inside an element end the display: a line on standard
 //! error tells which of these, and the byte of the stream at which it begins, from 0. All that came before it is shown.
@@ -17,8 +18,8 @@
 //!
 //! The program ends with 0 if the whole input was shown, and each message understood; with 1 after a message that was not, and if the
 //! display ended before the input did; and with 2 if the arguments are none of these, the file was not opened, memory ran out, or
-//! reading or writing failed. The stored run is three conversations of examples/ldap, messages of each operation that are not
-//! understood, among others that are, and the beginning of a message, so its status is 1.
+//! reading or writing failed. The stored run is three conversations of examples/ldap, and messages of each operation that are not
+//! understood, among others that are, so its status is 1.
 //!
 //! The contract of `show` covers this for any reader of elements and any rules of messages (`specs/Showing.antt`), however the input is
 //! cut into pieces. The elements are the reader's answers for the bytes of the input, one after another. The text of each is
