@@ -15,7 +15,7 @@ index_of_name Subject = subject
 -- The first PrintableString of this name with characters outside its alphabet. The name is this component of a certificate with these
 -- octets, and the position is that to which the path of the value leads in them.
 pub record IsFirstOutside (octets : List ℕ) (field : NameField) (name : Name) (o : OutsideAlphabet) : Type 0 where
-  pub field : o.field ≡ field
+  pub of_field : o.field ≡ field
   pub position : o.position ≡ position_of_value octets (index_of_name field) o.string.fault
   pub string : AnswersAlphabets name (Some o.string)
 

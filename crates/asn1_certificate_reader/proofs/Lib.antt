@@ -1,3 +1,4 @@
+mod Alphabets
 mod CharactersOfUnits
 mod NameFaults
 mod OneByOne

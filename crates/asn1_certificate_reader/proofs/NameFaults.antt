@@ -11,7 +11,7 @@ use Rattle.asn1_certificate_reader.specs.declared.name_faults.ValueFault.TheVari
 use Rattle.asn1_der_items.specs.Elements.{Element, element_at}
 
 -- nothing is an error and a success
-never : false ≡ true → ⊥
+pub never : false ≡ true → ⊥
 never same = cc
 
 -- octets in which no element is found

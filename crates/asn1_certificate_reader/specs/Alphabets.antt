@@ -1,6 +1,6 @@
 -- The PrintableStrings in a name with characters outside their alphabet.
 use Rattle.std.specs.List.{list_all, slice_get}
-use Rattle.std.specs.Prelude.{◌≡◌, ◌&&◌, ℕ, Bool, Contains, List, MatchOption, None, Option, Some, if◌then◌else◌, not}
+use Rattle.std.specs.Prelude.{◌≡◌, ℕ, Bool, Contains, List, MatchOption, None, Option, Some, false, if◌then◌else◌}
 use Rattle.asn1_certificate_reader.specs.NameFaults.{AnswersName, value_fault}
 use Rattle.asn1_certificate_reader.specs.declared.alphabets.AlphabetFault.{AlphabetFault}
 use Rattle.asn1_certificate_reader.specs.declared.name_faults.NameFault.{NameFault}
@@ -17,14 +17,18 @@ use Rattle.asn1_x509.specs.declared.attribute_type_and_value.AttributeTypeAndVal
 use Rattle.asn1_x509.specs.declared.name.Name.{Name}
 use Rattle.asn1_x509.specs.declared.name.Name.TheVariants.{RdnSequence}
 
--- whether an element is a PrintableString with octets that are no characters of its alphabet (X.680, 41.4)
-abbrev pub is_outside_alphabet : Element → Bool
-is_outside_alphabet e = not e.constructed && (tag_eq e.tag (universal 19) && not (list_all is_printable e.contents))
+-- whether an element is a PrintableString in the form of DER, by its tag
+abbrev pub is_printable_string : Element → Bool
+is_printable_string e = if e.constructed then false else tag_eq e.tag (universal 19)
 
--- the fault of what may be an element, if it is such a string
+-- the fault of an element, if it is a PrintableString with octets that are no characters of its alphabet (X.680, 41.4)
+abbrev pub string_fault : Element → Option ValueFault
+string_fault e = if is_printable_string e then (if list_all is_printable e.contents then None else Some OutsideAlphabet) else None
+
+-- the same of what may be an element
 abbrev pub alphabet_fault_of : Option Element → Option ValueFault
 alphabet_fault_of None = None
-alphabet_fault_of (Some e) = if is_outside_alphabet e then Some OutsideAlphabet else None
+alphabet_fault_of (Some e) = string_fault e
 
 -- the fault of the octets of a value, if they are such a string
 abbrev pub alphabet_fault : List ℕ → Option ValueFault

@@ -1,7 +1,7 @@
 //! PrintableStrings in a name with characters outside their alphabet.
 ghost use Rattle.std.specs.List.{list_all};
 ghost use Rattle.std.specs.Prelude.{◌≡◌, Contains, MatchOption};
-ghost use Rattle.asn1_certificate_reader.specs.Alphabets.{AnswersAlphabets, IsAttributeAt, IsAttributeIn, alphabet_fault, is_outside_alphabet};
+ghost use Rattle.asn1_certificate_reader.specs.Alphabets.{AnswersAlphabets, IsAttributeAt, IsAttributeIn, alphabet_fault, is_printable_string, string_fault};
 ghost use Rattle.asn1_certificate_reader.specs.NameFaults.{AnswersName};
 ghost use Rattle.asn1_certificate_text.specs.Registry.{NamesObject, known_objects, object_names};
 ghost use Rattle.asn1_der_items.specs.Elements.{element_of};
@@ -70,20 +70,37 @@ fn kind_in(parts: &[RelativeDistinguishedName], fault: NameFault) -> Option<&'st
 }
 
 /// The fault of the octets of a value, if they are such a string.
+#[tactic(auto, using(crate::proofs::Alphabets::no_element))]
 pub(crate) fn alphabet_fault(octets: &[u8]) -> Option<ValueFault>
     ensures { result ≡ alphabet_fault octets.now }
 {
     match find_element(octets) {
-        Ok(element) if is_outside_alphabet(element) => Some(ValueFault::OutsideAlphabet),
-        _ => None,
+        Ok(element) => string_fault(element),
+        Err(_) => None,
     }
 }
 
-/// Whether an element is a PrintableString with octets that are no characters of its alphabet.
-fn is_outside_alphabet(element: Element<'_>) -> bool
-    ensures { result ≡ is_outside_alphabet (element_of element.entry) }
+/// The fault of an element, if it is such a string.
+fn string_fault(element: Element<'_>) -> Option<ValueFault>
+    ensures { result ≡ string_fault (element_of element.entry) }
 {
-    !element.constructed && element.tag == Tag::PRINTABLE_STRING && !are_printable(element.contents)
+    if !is_printable_string(element) {
+        return None;
+    }
+    if !are_printable(element.contents) {
+        return Some(ValueFault::OutsideAlphabet);
+    }
+    None
+}
+
+/// Whether an element is a PrintableString, by its tag.
+fn is_printable_string(element: Element<'_>) -> bool
+    ensures { result ≡ is_printable_string (element_of element.entry) }
+{
+    if element.constructed {
+        return false;
+    }
+    element.tag == Tag::PRINTABLE_STRING
 }
 
 /// Whether each octet is that of a character of the alphabet of PrintableString.
