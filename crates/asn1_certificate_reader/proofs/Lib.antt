@@ -1,4 +1,4 @@
-mod Alphabets
+mod AlphabetFaults
 mod CharactersOfUnits
 mod NameFaults
 mod OneByOne
