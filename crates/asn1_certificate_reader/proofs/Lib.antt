@@ -1,4 +1,3 @@
-mod AlphabetFaults
 mod CharactersOfUnits
 mod NameFaults
 mod OneByOne
