@@ -1,3 +1,4 @@
+mod AlphabetFaults
 mod CharactersOfUnits
 mod NameFaults
 mod OneByOne

@@ -70,7 +70,7 @@ fn kind_in(parts: &[RelativeDistinguishedName], fault: NameFault) -> Option<&'st
 }
 
 /// The fault of the octets of a value, if they are such a string.
-#[tactic(auto, using(crate::proofs::Alphabets::no_element))]
+#[tactic(auto, using(crate::proofs::AlphabetFaults::no_element))]
 pub(crate) fn alphabet_fault(octets: &[u8]) -> Option<ValueFault>
     ensures { result ≡ alphabet_fault octets.now }
 {
