@@ -51,7 +51,7 @@ record Within (inside rest : List ℕ) : Type 0 where
   pub inner : Spells inside held (0 ∷ 0 ∷ back)
   pub later : Spells back others rest
 
-wrong_size : (left contents back inside : List ℕ) (g : Header) → header_at left ≡ Some g → IsDefinite g contents back → BeginIndefinite left inside → ⊥
+pub wrong_size : (left contents back inside : List ℕ) (g : Header) → header_at left ≡ Some g → IsDefinite g contents back → BeginIndefinite left inside → ⊥
 wrong_size left contents back inside g at is b =
     let same : g ≡ b.header = some_is (sym at ∙ b.begin.at) in
     not_both g contents back is (ap (λ (h : Header). h.size) same ∙ b.size)

@@ -1,5 +1,6 @@
 mod Begun
 mod CutHeaders
+mod Inside
 mod Ends
 mod FlatBits
 mod FlatOctets

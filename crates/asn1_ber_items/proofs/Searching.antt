@@ -2,8 +2,8 @@
 use Rattle.std.proofs.Common.{◌≡◌, ◌≢◌, ℕ, zero, suc, ◌+◌, ◌-◌, ◌<◌, ◌≤◌, true, List, [], ◌∷◌, ◌++◌, None, Some, Option, append-nil, append_assoc, length, length-append, length-drop, drop, take, refl, ap, sym, subst, ◌∙◌, arith}
 use Rattle.std.proofs.Math.Seq.{drop-append_seam}
 use Rattle.std.proofs.lemmas.List.{take-append-drop}
-use Rattle.std.specs.Prelude.{IfSome}
-use Rattle.asn1_ber_items.specs.Ends.{BeginDefinite, BeginIndefinite, BeginWithOne, EndsInside, IsAhead, Passes, behind_definite, behind_end, in_indefinite}
+use Rattle.std.specs.Prelude.{MatchOption}
+use Rattle.asn1_ber_items.specs.Ends.{BeginDefinite, BeginIndefinite, BeginWithOne, EndsInside, IsAhead, IsAtEnd, Passes, behind_definite, behind_end, in_indefinite}
 use Rattle.asn1_ber_items.specs.Headers.{Header, end_of_contents, header_at}
 use Rattle.asn1_ber_items.specs.Progress.{HasCome}
 use Rattle.asn1_ber_items.specs.Spellings.{BeginWith, IsDefinite}
@@ -11,12 +11,13 @@ use Rattle.asn1_ber_items.specs.declared.ahead.Ahead.{Ahead}
 use Rattle.asn1_ber_items.specs.declared.progress.Progress.{Progress}
 use Rattle.asn1_ber_items.proofs.Ends.{ahead_behind, ahead_end, ahead_inside, definite_before, indefinite_before}
 use Rattle.asn1_ber_items.proofs.Headers.{cut_shorter, header_shorter}
+use Rattle.asn1_ber_items.proofs.Inside.{EndsOutside, later_definite, later_end, later_indefinite}
 use Rattle.asn1_ber_items.proofs.Suffixes.{header_ends}
 
--- what holds of what is there holds of less
-pub some_weaker : {V : Type 0} (o : Option V) (P Q : V → Type 0) → IfSome o P → ((v : V) → P v → Q v) → IfSome o Q
-some_weaker None P Q is less = tt
-some_weaker (Some v) P Q is less = less v is
+-- what holds of an option holds of less
+pub option_weaker : {V : Type 0} (o : Option V) (N M : Type 0) (P Q : V → Type 0) → MatchOption o N P → (N → M) → ((v : V) → P v → Q v) → MatchOption o M Q
+option_weaker None N M P Q is none some = none is
+option_weaker (Some v) N M P Q is none some = some v is
 
 -- behind an element of a definite length
 definite_ahead : (n : ℕ) → 0 < n → (left contents back behind : List ℕ) → BeginDefinite left contents back → IsAhead n (left ++ behind) → IsAhead n (back ++ behind)
@@ -39,7 +40,10 @@ passes_definite old new h contents back at some is held levels left =
       some = omega (arith, ap length are, length-append (e.front ++ contents) back, cut_shorter old.left.now h contents back at is);
       few = omega (arith, levels);
       ahead = λ behind a. rw (levels, left) (definite_ahead old.levels held old.left.now contents back behind d a);
-      inside = λ behind ends. definite_inside old.levels held old.left.now contents back behind d (rw (levels, left) at ends);
+      inside = λ behind. (
+        λ ends. definite_inside old.levels held old.left.now contents back behind d (rw (levels, left) at ends),
+        λ ends. rw (levels, left) (later_definite old.levels (old.left.now ++ behind) contents (back ++ behind) ends (definite_before old.left.now contents back behind d)).ends,
+      );
     }
 
 -- inside an element of an indefinite length
@@ -53,7 +57,10 @@ passes_indefinite old new h begin size levels left =
       some = omega (arith, ap length e.are, length-append e.front h.rest, header_shorter old.left.now h begin.at);
       few = omega (arith, levels);
       ahead = λ behind a. rw (levels, left) (ahead_inside old.levels (old.left.now ++ behind) (h.rest ++ behind) (indefinite_before old.left.now h.rest behind b) a);
-      inside = λ behind ends. in_indefinite old.levels (old.left.now ++ behind) (h.rest ++ behind) (indefinite_before old.left.now h.rest behind b) (rw (levels, left) at ends);
+      inside = λ behind. (
+        λ ends. in_indefinite old.levels (old.left.now ++ behind) (h.rest ++ behind) (indefinite_before old.left.now h.rest behind b) (rw (levels, left) at ends),
+        λ ends. rw (levels, left) (later_indefinite old.levels (old.left.now ++ behind) (h.rest ++ behind) ends (indefinite_before old.left.now h.rest behind b)),
+      );
     }
 
 -- behind end-of-contents octets
@@ -65,6 +72,9 @@ end_inside : (n : ℕ) → 0 < n → (back : List ℕ) → EndsInside n back →
 end_inside zero some back e = absurd (omega (arith, some))
 end_inside (suc n) some back e = behind_end n back e
 
+outside : (n m : ℕ) (back : List ℕ) → m ≡ suc n → EndsOutside m back → EndsInside n back
+outside n m back is o = subst (λ k. EndsInside k back) (let e : o.outer ≡ n = omega (arith, is, o.is) in e) o.ends
+
 pub passes_end : (old new : Ahead) (back : List ℕ) → old.left.now ≡ 0 ∷ 0 ∷ back → 0 < new.levels → old.levels ≡ suc new.levels → new.left.now ≡ back → Passes old new
 passes_end old new back are held levels left = record {
   front = 0 ∷ 0 ∷ [];
@@ -72,8 +82,22 @@ passes_end old new back are held levels left = record {
   some = omega arith;
   few = omega (arith, levels);
   ahead = λ behind a. rw left (end_ahead new.levels held (back ++ behind) (rw (levels, are) at a));
-  inside = λ behind ends. rw (levels, are) (end_inside new.levels held (back ++ behind) (rw left at ends));
+  inside = λ behind. (
+    λ ends. rw (levels, are) (end_inside new.levels held (back ++ behind) (rw left at ends)),
+    λ ends. rw left (outside new.levels old.levels (back ++ behind) levels (later_end old.levels (old.left.now ++ behind) (back ++ behind) ends (ap (λ l. l ++ behind) are))),
+  );
 }
+
+-- the first element ends behind contents octets, and behind end-of-contents octets
+pub ends_definite : (old : Ahead) (h : Header) (contents back : List ℕ) → header_at old.left.now ≡ Some h → h.tag ≢ end_of_contents → IsDefinite h contents back → old.levels ≡ 0 → IsAtEnd old
+ends_definite old h contents back at some is none behind ends =
+    let d : BeginDefinite old.left.now contents back = record { header = h; at = at; is_element = some; is = is } in
+    omega (arith, none, (later_definite old.levels (old.left.now ++ behind) contents (back ++ behind) ends (definite_before old.left.now contents back behind d)).some)
+
+pub ends_last : (old : Ahead) (back : List ℕ) → old.left.now ≡ 0 ∷ 0 ∷ back → old.levels ≡ 1 → IsAtEnd old
+ends_last old back are last behind ends =
+    let o = later_end old.levels (old.left.now ++ behind) (back ++ behind) ends (ap (λ l. l ++ behind) are) in
+    omega (arith, last, o.is, o.some)
 
 -- what is ahead where a search came
 pub come_ahead : (p : Progress) (octets : List ℕ) (a : Ahead) → HasCome p octets → a.left.now ≡ drop p.offset octets → a.levels ≡ p.levels → BeginWithOne octets → IsAhead a.levels a.left.now
@@ -83,7 +107,11 @@ come_ahead p octets a was left levels one =
 pub come_inside : (p : Progress) (octets : List ℕ) (a : Ahead) → HasCome p octets → a.left.now ≡ drop p.offset octets → a.levels ≡ p.levels → EndsInside a.levels a.left.now → EndsInside 0 octets
 come_inside p octets a was left levels ends =
     let here : EndsInside p.levels (drop p.offset octets) = rw (levels, left) at ends in
-    subst (EndsInside 0) (append-nil octets) (was.inside [] (subst (EndsInside p.levels) (sym (append-nil (drop p.offset octets))) here))
+    subst (EndsInside 0) (append-nil octets) ((was.inside []).0 (subst (EndsInside p.levels) (sym (append-nil (drop p.offset octets))) here))
+
+pub come_ends : (p : Progress) (octets : List ℕ) (a : Ahead) → HasCome p octets → a.left.now ≡ drop p.offset octets → a.levels ≡ p.levels → EndsInside 0 octets → EndsInside a.levels a.left.now
+come_ends p octets a was left levels ends =
+    rw (levels, left) (subst (EndsInside p.levels) (append-nil (drop p.offset octets)) ((was.inside []).1 (subst (EndsInside 0) (sym (append-nil octets)) ends)))
 
 -- how far it comes by a step
 module _ (p : Progress) (octets : List ℕ) (old new : Ahead) (within : p.offset ≤ length octets) (left : old.left.now ≡ drop p.offset octets) (s : Passes old new) where
@@ -105,5 +133,8 @@ module _ (p : Progress) (octets : List ℕ) (old new : Ahead) (within : p.offset
       record {
         within = omega (arith, offset, longer);
         ahead = λ behind one. rw (levels, rest) (s.ahead behind (rw (were, left) (was.ahead behind one)));
-        inside = λ behind ends. was.inside behind (rw (were, left) at (s.inside behind (rw (levels, rest) at ends)));
+        inside = λ behind. (
+          λ ends. (was.inside behind).0 (rw (were, left) at ((s.inside behind).0 (rw (levels, rest) at ends))),
+          λ ends. rw (levels, rest) ((s.inside behind).1 (rw (were, left) ((was.inside behind).1 ends))),
+        );
       }

@@ -5,7 +5,7 @@ use Rattle.asn1_items.specs.declared.error.ItemError.{ItemError}
 use Rattle.asn1_items.specs.declared.error.ItemError.TheVariants.{Malformed, Memory, Missing}
 use Rattle.asn1_der_items.specs.Elements.{IsElement}
 use Rattle.asn1_ber_items.specs.Headers.{Header, end_of_contents, header_at}
-use Rattle.asn1_ber_items.specs.Spellings.{IsMissing}
+use Rattle.asn1_der_items.specs.Cuts.{IsMissing}
 use Rattle.asn1_ber_items.specs.Walks.{Comes, IsAfter, IsClosing, IsCopy, IsOver, IsRefused, Outcome, Remains, Splits, bytes_after, bytes_behind, end_of}
 use Rattle.asn1_ber_items.specs.declared.open_element.Extent.{Extent}
 use Rattle.asn1_ber_items.specs.declared.open_element.Extent.TheVariants.{Definite, Indefinite}

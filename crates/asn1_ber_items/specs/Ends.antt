@@ -1,21 +1,10 @@
 -- The end of the first element, and octets that end inside it (X.690, 8.1).
-use Rattle.std.specs.Prelude.{◌≡◌, ◌≢◌, ⊤, ℕ, zero, suc, ◌+◌, ◌<◌, true, None, Some, List, [], ◌∷◌, ◌++◌, length}
+use Rattle.std.specs.Prelude.{◌≡◌, ◌≢◌, ◌↔◌, ⊤, ℕ, zero, suc, ◌+◌, ◌<◌, true, None, Some, List, [], ◌∷◌, ◌++◌, length}
 use Rattle.asn1_ber_items.specs.Headers.{Header, end_of_contents, header_at}
-use Rattle.asn1_ber_items.specs.Spellings.{BeginWith, IsDefinite, IsMissing, Spells, SpellsOne}
+use Rattle.asn1_ber_items.specs.Spellings.{BeginWith, IsDefinite, Spells, SpellsOne}
 use Rattle.asn1_ber_items.specs.declared.ahead.Ahead.{Ahead}
-use Rattle.asn1_der_items.specs.Identifiers.{Identified, IsCutIdentifier, identifier_at}
+use Rattle.asn1_der_items.specs.Cuts.{EndEarly, IsMissing}
 use Rattle.asn1_items.specs.declared.error.ItemError.{ItemError}
-
--- The octets end before length octets do: there is none; or the first is that of the long form, and fewer follow than it says
--- (8.1.3.5).
-pub data IsCutLength : List ℕ → Type 0 where
-  no_octet : IsCutLength []
-  in_digits : (first : ℕ) (digits : List ℕ) → length digits + 128 < first → first < 255 → IsCutLength (first ∷ digits)
-
--- The octets end in the header of an element: before its identifier octets do, or before its length octets do.
-pub data IsCutHeader : List ℕ → Type 0 where
-  in_identifier : (octets : List ℕ) → IsCutIdentifier octets → IsCutHeader octets
-  in_length : (octets : List ℕ) (i : Identified) → identifier_at octets ≡ Some i → IsCutLength i.rest → IsCutHeader octets
 
 -- The bytes begin with the header of an element of a definite length, with these contents octets, and others follow.
 pub record BeginDefinite (bytes contents back : List ℕ) : Type 0 where
@@ -40,10 +29,10 @@ pub record IsCutContents (bytes : List ℕ) : Type 0 where
   pub size : header.size ≡ Some long
   pub few : length header.rest < long
 
--- The octets end inside this many open elements of indefinite lengths: in a header, in contents octets, or before end-of-contents
--- octets. With none open they end inside the first element.
+-- The octets end inside this many open elements of indefinite lengths: in a header that others complete, in contents octets, or before
+-- end-of-contents octets. With none open they end inside the first element.
 pub data EndsInside : ℕ → List ℕ → Type 0 where
-  in_header : (n : ℕ) (octets : List ℕ) → IsCutHeader octets → EndsInside n octets
+  in_header : (n : ℕ) (octets : List ℕ) → EndEarly header_at octets → EndsInside n octets
   in_contents : (n : ℕ) (octets : List ℕ) → IsCutContents octets → EndsInside n octets
   -- behind an element of a definite length
   behind_definite : (n : ℕ) (octets contents back : List ℕ) → BeginDefinite octets contents back → EndsInside (suc n) back → EndsInside (suc n) octets
@@ -80,16 +69,20 @@ abbrev pub IsOver : ℕ → List ℕ → Type 0
 IsOver zero left = ⊥
 IsOver (suc n) left = (back : List ℕ) × (left ≡ 0 ∷ 0 ∷ back)
 
--- The search passes octets: what is ahead then, whatever follows, was ahead before; and octets that end there ended before.
+-- The search passes octets: what was ahead before, whatever follows, is ahead then; and octets end there if and only if they ended before.
 pub record Passes (old new : Ahead) : Type 0 where
   pub front : List ℕ
   pub are : old.left.now ≡ front ++ new.left.now
   pub some : 0 < length front
   pub few : new.levels < old.levels + 2
   pub ahead : (behind : List ℕ) → IsAhead old.levels (old.left.now ++ behind) → IsAhead new.levels (new.left.now ++ behind)
-  pub inside : (behind : List ℕ) → EndsInside new.levels (new.left.now ++ behind) → EndsInside old.levels (old.left.now ++ behind)
+  pub inside : (behind : List ℕ) → EndsInside new.levels (new.left.now ++ behind) ↔ EndsInside old.levels (old.left.now ++ behind)
 
--- The search stops: nothing is ahead that it looks for, and octets are missing only where they end inside what is open.
+-- The first element ends behind what is next: octets do not end inside it, whatever follows.
+abbrev pub IsAtEnd : Ahead → Type 0
+IsAtEnd old = (behind : List ℕ) → ¬ EndsInside old.levels (old.left.now ++ behind)
+
+-- The search stops: nothing is ahead that it looks for, and octets are missing if and only if they end inside what is open.
 pub record StopsAt (old : Ahead) (e : ItemError) : Type 0 where
   pub none : ¬ IsAhead old.levels old.left.now
-  pub missing : IsMissing e → EndsInside old.levels old.left.now
+  pub missing : IsMissing e ↔ EndsInside old.levels old.left.now

@@ -1,17 +1,9 @@
 -- Elements of BER, and the same elements with definite lengths of the fewest octets (X.690, 8.1 and 10.1).
-use Rattle.std.specs.Prelude.{◌≡◌, ◌≢◌, ⊤, ℕ, Bool, false, true, None, Some, List, [], ◌∷◌, ◌++◌, length}
+use Rattle.std.specs.Prelude.{◌≡◌, ◌≢◌, ℕ, Bool, false, true, None, Some, List, [], ◌∷◌, ◌++◌, length}
 use Rattle.asn1_ber_items.specs.Headers.{Header, end_of_contents, header_at}
 use Rattle.asn1_der_items.specs.Elements.{IsElement}
 use Rattle.asn1_der_items.specs.Series.{is_one_element}
-use Rattle.asn1_items.specs.declared.error.ItemError.{ItemError}
-use Rattle.asn1_items.specs.declared.error.ItemError.TheVariants.{Malformed, Memory, Missing}
 use Rattle.asn1_tags.specs.declared.tags.Tag.{Tag}
-
--- Bytes are missing.
-abbrev pub IsMissing : ItemError → Type 0
-IsMissing (Missing count) = ⊤
-IsMissing Memory = ⊥
-IsMissing Malformed = ⊥
 
 -- The bytes begin with the header of an element of this form.
 pub record BeginWith (constructed : Bool) (h : Header) (bytes : List ℕ) : Type 0 where

@@ -2,12 +2,13 @@
 use Rattle.std.specs.Prelude.{◌≡◌, ◌≢◌, ⊤, ℕ, suc, ◌+◌, ◌*◌, ◌<◌, Some, true, List, [], ◌∷◌, ◌++◌, length, take, drop}
 use Rattle.asn1_ber_items.specs.Headers.{end_of_contents, header_at, header_of}
 use Rattle.asn1_ber_items.specs.Segments.{IsCounted, joined, segments_of, written_in}
-use Rattle.asn1_ber_items.specs.Spellings.{IsMissing, Spells, SpellsOne}
+use Rattle.asn1_ber_items.specs.Spellings.{Spells, SpellsOne}
 use Rattle.asn1_ber_items.specs.declared.header.Header.{Header as HeaderRead}
 use Rattle.asn1_ber_items.specs.declared.open_element.Extent.{Extent}
 use Rattle.asn1_ber_items.specs.declared.open_element.Extent.TheVariants.{Definite, Indefinite}
 use Rattle.asn1_ber_items.specs.declared.open_element.OpenElement.{OpenElement}
 use Rattle.asn1_ber_items.specs.declared.walk.Walk.{Walk}
+use Rattle.asn1_der_items.specs.Cuts.{IsMissing}
 use Rattle.asn1_der_items.specs.Elements.{IsBegun, IsElement}
 use Rattle.asn1_items.specs.declared.error.ItemError.{ItemError}
 use Rattle.asn1_items.specs.declared.error.ItemError.TheVariants.{Memory}

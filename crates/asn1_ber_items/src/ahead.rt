@@ -1,6 +1,6 @@
 //! The octets ahead of the search for the end of the first element.
-ghost use Rattle.asn1_ber_items.specs.Ends.{IsOver, Passes, StopsAt};
-ghost use Rattle.std.specs.Prelude.{◌≡◌, ◌≢◌, ◌+◌, ◌<◌, ◌^◌, ◌∷◌, IfSome, List, MatchOption, MatchResult, length, ℕ};
+ghost use Rattle.asn1_ber_items.specs.Ends.{IsAtEnd, IsOver, Passes, StopsAt};
+ghost use Rattle.std.specs.Prelude.{◌≡◌, ◌≢◌, ◌+◌, ◌<◌, ◌^◌, ◌∷◌, List, MatchOption, MatchResult, length, ℕ};
 
 use crate::header::read_header;
 use crate::walk::is_end_of_contents;
@@ -23,7 +23,8 @@ impl<'a> Ahead<'a> {
     /// [`ItemError::Missing`] where the octets end before that, and [`ItemError::Malformed`] where no element is there.
     pub(crate) fn next(self) -> Result<Option<Ahead<'a>>, ItemError>
         requires { self.levels + length self.left.now < 2 ^ 64 }
-        ensures { MatchResult result (λ next. IfSome next (Passes self.entry)) (StopsAt self.entry) }
+        ensures { MatchResult result (λ next. MatchOption next (IsAtEnd self.entry) (Passes self.entry))
+            (StopsAt self.entry) }
     {
         if self.levels > 0 {
             if let Some(left) = behind_end_of_contents(self.left) {
@@ -37,7 +38,8 @@ impl<'a> Ahead<'a> {
     fn behind_header(self) -> Result<Option<Ahead<'a>>, ItemError>
         requires { self.levels + length self.left.now < 2 ^ 64 }
         ensures { ¬ IsOver self.entry.levels self.entry.left.now →
-            MatchResult result (λ next. IfSome next (Passes self.entry)) (StopsAt self.entry) }
+            MatchResult result (λ next. MatchOption next (IsAtEnd self.entry) (Passes self.entry))
+            (StopsAt self.entry) }
     {
         let header = read_header(self.left)?;
         if is_end_of_contents(header.tag) {
@@ -70,7 +72,8 @@ fn behind_end_of_contents(left: &[u8]) -> Option<&[u8]>
 
 /// The octets ahead inside this number of open elements, if there are any.
 fn inside(levels: usize, left: &[u8]) -> Option<Ahead<'_>>
-    ensures { IfSome result (λ ahead. (ahead.levels ≡ levels) × (ahead.left.now ≡ left.now) × (0 < levels)) }
+    ensures { MatchOption result (levels ≡ 0) (λ ahead.
+        (ahead.levels ≡ levels) × (ahead.left.now ≡ left.now) × (0 < levels)) }
 {
     if levels == 0 {
         return None;

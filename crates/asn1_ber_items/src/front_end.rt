@@ -1,8 +1,9 @@
 //! The search for the end of the first element.
 ghost use Rattle.asn1_ber_items.specs.Ends.{EndsInside};
 ghost use Rattle.asn1_ber_items.specs.Progress.{HasCome};
-ghost use Rattle.asn1_ber_items.specs.Spellings.{IsMissing, SpellsOne};
-ghost use Rattle.std.specs.Prelude.{IfErr, IsOk, List, ℕ};
+ghost use Rattle.asn1_ber_items.specs.Spellings.{SpellsOne};
+ghost use Rattle.asn1_der_items.specs.Cuts.{IsMissing};
+ghost use Rattle.std.specs.Prelude.{IfErr, IsOk, List, MatchResult, ℕ};
 
 use crate::ahead::Ahead;
 use crate::progress::Progress;
@@ -20,6 +21,8 @@ pub fn find_end(octets: &[u8], progress: &mut Progress) -> Result<(), ItemError>
         SpellsOne octets.now normal rest → IsOk result }
     ensures missing { HasCome progress.old octets.now →
         IfErr result (λ e. IsMissing e → EndsInside 0 octets.now) }
+    ensures cut { HasCome progress.old octets.now → EndsInside 0 octets.now →
+        MatchResult result (λ _. ⊥) IsMissing }
 {
     let Some((_behind, left)) = octets.split_at_checked(progress.offset) else {
         return Err(ItemError::Malformed);

@@ -1,8 +1,7 @@
 //! Identifier octets and length octets.
 ghost use Rattle.asn1_ber_items.specs.Headers.{Header as HeaderView, header_at, header_of};
-ghost use Rattle.asn1_ber_items.specs.Ends.{IsCutHeader};
-ghost use Rattle.asn1_items.specs.declared.error.ItemError.TheVariants.{Missing};
-ghost use Rattle.std.specs.Prelude.{◌≡◌, Err, IfOk, IsOk, Some, ℕ};
+ghost use Rattle.asn1_der_items.specs.Cuts.{EndEarly, IsMissing};
+ghost use Rattle.std.specs.Prelude.{◌≡◌, ◌↔◌, IfErr, IfOk, IsOk, Some};
 
 use crate::size::read_size;
 use asn1_der_items::read_identifier;
@@ -25,12 +24,12 @@ pub(crate) struct Header<'a> {
 /// Reads a header.
 ///
 /// # Errors
-/// [`ItemError::Missing`] where the bytes end in the header, and else [`ItemError::Malformed`].
+/// [`ItemError::Missing`] where the bytes end in the header and others complete it, and else [`ItemError::Malformed`].
 #[inline(always)]
 pub(crate) fn read_header(bytes: &[u8]) -> Result<Header<'_>, ItemError>
     ensures only { IfOk result (λ h. header_at bytes.now ≡ Some (header_of h)) }
     ensures found { (h : HeaderView) → header_at bytes.now ≡ Some h → IsOk result }
-    ensures missing { (count : ℕ) → result ≡ Err (Missing count) → IsCutHeader bytes.now }
+    ensures missing { IfErr result (λ e. IsMissing e ↔ EndEarly header_at bytes.now) }
 {
     let identifier = read_identifier(bytes)?;
     let length = read_size(identifier.rest)?;

@@ -1,8 +1,9 @@
 //! The normal form of elements.
 ghost use Rattle.asn1_ber_items.specs.Ends.{EndsInside};
-ghost use Rattle.asn1_ber_items.specs.Spellings.{IsMissing, Spells, SpellsOne};
+ghost use Rattle.asn1_ber_items.specs.Spellings.{Spells, SpellsOne};
+ghost use Rattle.asn1_der_items.specs.Cuts.{IsMissing};
 ghost use Rattle.asn1_items.specs.declared.error.ItemError.TheVariants.{Memory};
-ghost use Rattle.std.specs.Prelude.{◌≡◌, [], IfErr, IfOk, List, MatchResult, ℕ};
+ghost use Rattle.std.specs.Prelude.{◌≡◌, ◌≢◌, [], IfErr, IfOk, List, MatchResult, ℕ};
 
 use crate::front_end::find_end;
 use crate::progress::Progress;
@@ -23,6 +24,7 @@ pub fn normal_form(alloc: Global, bytes: &[u8]) -> Result<Vec<u8>, ItemError>
     ensures whole_front { (normal rest : List ℕ) → SpellsOne bytes.now normal rest →
         IfErr result (λ e. ¬ IsMissing e) }
     ensures missing { IfErr result (λ e. IsMissing e → EndsInside 0 bytes.now) }
+    ensures cut { bytes.now ≢ [] → EndsInside 0 bytes.now → MatchResult result (λ _. ⊥) IsMissing }
 {
     if !bytes.is_empty() {
         find_end(bytes, &mut Progress::new())?;
@@ -55,6 +57,7 @@ pub fn front_element(alloc: Global, bytes: &[u8]) -> Result<FrontElement<'_>, It
         (λ e. e ≡ Memory) }
     ensures only { IfOk result (λ f. SpellsOne bytes.now f.normal.items f.rest.now) }
     ensures missing { IfErr result (λ e. IsMissing e → EndsInside 0 bytes.now) }
+    ensures cut { EndsInside 0 bytes.now → MatchResult result (λ _. ⊥) IsMissing }
 {
     find_end(bytes, &mut Progress::new())?;
     let mut walk = Walk::new(alloc, bytes);

@@ -1,9 +1,9 @@
 //! The length octets of an element.
 ghost use Rattle.asn1_ber_items.specs.Headers.{Measured as MeasuredView, later_size_at, long_size_at, measured_of, size_at};
 ghost use Rattle.asn1_ber_items.specs.Segments.{WritesSize};
-ghost use Rattle.asn1_ber_items.specs.Ends.{IsCutLength};
-ghost use Rattle.asn1_items.specs.declared.error.ItemError.TheVariants.{Missing};
-ghost use Rattle.std.specs.Prelude.{◌≡◌, ◌≢◌, ◌<◌, Err, IfOk, IsOk, Some, length, ℕ};
+ghost use Rattle.asn1_der_items.specs.Cuts.{EndEarly, IsMissing};
+ghost use Rattle.asn1_values.specs.Numbers.{magnitude};
+ghost use Rattle.std.specs.Prelude.{◌≡◌, ◌*◌, ◌<◌, ◌^◌, ◌↔◌, Decides, IfErr, IfOk, IsOk, Some};
 
 use asn1_der_items::number_of;
 use asn1_items::{ItemError, significant};
@@ -23,7 +23,7 @@ pub(crate) struct Measured<'a> {
 pub(crate) fn read_size(bytes: &[u8]) -> Result<Measured<'_>, ItemError>
     ensures only { IfOk result (λ m. size_at bytes.now ≡ Some (measured_of m)) }
     ensures found { (m : MeasuredView) → size_at bytes.now ≡ Some m → IsOk result }
-    ensures missing { (n : ℕ) → result ≡ Err (Missing n) → IsCutLength bytes.now }
+    ensures missing { IfErr result (λ e. IsMissing e ↔ EndEarly size_at bytes.now) }
 {
     let [first, rest @ ..] = bytes else {
         return Err(ItemError::Missing(1));
@@ -41,8 +41,8 @@ pub(crate) fn read_size(bytes: &[u8]) -> Result<Measured<'_>, ItemError>
 fn read_later_size(count: usize, octets: &[u8]) -> Result<Measured<'_>, ItemError>
     ensures only { IfOk result (λ m. later_size_at count octets.now ≡ Some (measured_of m)) }
     ensures found { (m : MeasuredView) → later_size_at count octets.now ≡ Some m → IsOk result }
-    ensures missing { (n : ℕ) → result ≡ Err (Missing n) → length octets.now < count }
-    ensures long_form { (n : ℕ) → result ≡ Err (Missing n) → count ≢ 127 }
+    ensures missing { IfErr result (λ e. IsMissing e ↔
+        EndEarly (later_size_at count) octets.now) }
 {
     match count {
         0 => Ok(Measured {
@@ -58,10 +58,11 @@ fn read_later_size(count: usize, octets: &[u8]) -> Result<Measured<'_>, ItemErro
 fn read_long_size(count: usize, octets: &[u8]) -> Result<Measured<'_>, ItemError>
     ensures only { IfOk result (λ m. long_size_at count octets.now ≡ Some (measured_of m)) }
     ensures found { (m : MeasuredView) → long_size_at count octets.now ≡ Some m → IsOk result }
-    ensures missing { (n : ℕ) → result ≡ Err (Missing n) → length octets.now < count }
+    ensures missing { IfErr result (λ e. IsMissing e ↔
+        EndEarly (long_size_at count) octets.now) }
 {
     let Some((digits, rest)) = octets.split_at_checked(count) else {
-        return Err(ItemError::Missing(count - octets.len()));
+        return Err(error_of_cut(octets, count - octets.len()));
     };
     match number_of(digits) {
         Some(number) => Ok(Measured {
@@ -70,6 +71,30 @@ fn read_long_size(count: usize, octets: &[u8]) -> Result<Measured<'_>, ItemError
         }),
         None => Err(ItemError::Malformed),
     }
+}
+
+/// The error where this many octets of a length are missing after these. No octets complete a length that is 2^64 or more.
+fn error_of_cut(digits: &[u8], missing: usize) -> ItemError
+    ensures { IsMissing result ↔ (magnitude digits.now * 256 ^ missing < 2 ^ 64) }
+{
+    match number_of(digits) {
+        Some(number) if fits_before(number, missing) => ItemError::Missing(missing),
+        _ => ItemError::Malformed,
+    }
+}
+
+/// Whether a number is below 2^64 with this many zeros after its digits to the base 256.
+fn fits_before(number: u64, zeros: usize) -> bool
+    ensures { Decides result (number * 256 ^ zeros < 2 ^ 64) }
+{
+    let mut shifted = number;
+    for _zero in 0..zeros {
+        match shifted.checked_mul(256) {
+            Some(more) => shifted = more,
+            None => return false,
+        }
+    }
+    true
 }
 
 /// Writes a length of this size over the octet at an index, and answers how many octets it has beyond one. Those after it are moved

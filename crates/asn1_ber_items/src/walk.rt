@@ -1,7 +1,7 @@
 //! The walk through elements of BER.
 ghost use Rattle.asn1_ber_items.specs.Headers.{end_of_contents};
 ghost use Rattle.asn1_ber_items.specs.Segments.{written_in};
-ghost use Rattle.asn1_ber_items.specs.Spellings.{IsMissing};
+ghost use Rattle.asn1_der_items.specs.Cuts.{IsMissing};
 ghost use Rattle.asn1_ber_items.specs.Walks.{Goes, GoesOn, IsClosing, IsConsistent, IsCopy, IsElementHere, IsEnding, IsRefused, Outcome, Remains, Splits, Writes, bytes_after};
 ghost use Rattle.asn1_der_items.specs.Elements.{IsElement};
 ghost use Rattle.asn1_items.specs.Numbers.{Appended};

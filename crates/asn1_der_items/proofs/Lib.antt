@@ -1,5 +1,6 @@
 pub mod TrailingBytes
 mod CutIdentifiers
+pub mod Cuts
 mod Comparing
 mod Complements
 mod ElementFronts

@@ -71,7 +71,7 @@ then_last n m o old mid new front last are pushed = record {
 }
 
 -- what is read is no less than the digits before it
-after_ge : (n : ℕ) (xs : List ℕ) (f : Front) → base128_after n xs ≡ Some f → n * 128 ≤ f.number
+pub after_ge : (n : ℕ) (xs : List ℕ) (f : Front) → base128_after n xs ≡ Some f → n * 128 ≤ f.number
 after_ge n [] f e = cc
 after_ge n (o ∷ rest) f e = by (nat_lt o 128) e (after_ge (n * 128 + (o - 128)) rest f)
   where
@@ -81,17 +81,13 @@ after_ge n (o ∷ rest) f e = by (nat_lt o 128) e (after_ge (n * 128 + (o - 128)
     by false e more = let low = more e in omega arith
 
 -- a number that is read does not begin with a 0
-after_of_at : (xs : List ℕ) (f : Front) → base128_at xs ≡ Some f → base128_after 0 xs ≡ Some f
+pub after_of_at : (xs : List ℕ) (f : Front) → base128_at xs ≡ Some f → base128_after 0 xs ≡ Some f
 after_of_at [] f e = cc
 after_of_at (o ∷ rest) f e = by (nat_eq o 128) e
   where
     by : (b : Bool) → (if b then None else base128_after 0 (o ∷ rest)) ≡ Some f → base128_after 0 (o ∷ rest) ≡ Some f
     by true e = cc
     by false e = e
-
--- digits of 2^57 and above are those of a number that is too large
-pub too_large : (bytes left : List ℕ) (n : ℕ) (f : Front) → base128_after n left ≡ base128_after 0 bytes → 144115188075855872 ≤ n → base128_at bytes ≡ Some f → f.number < 2 ^ 64 → ⊥
-too_large bytes left n f same high e small = let low = after_ge n left f (same ∙ after_of_at bytes f e) in omega arith
 
 -- A written number is read again, with any trailing bytes.
 read_digits : (n : ℕ) (leading : List ℕ) (last : ℕ) (back : List ℕ) → AllBelowBase 128 (leading ++ last ∷ []) →
@@ -109,7 +105,7 @@ not_eq m n other = by (nat_eq m n) refl
     by true e = absurd (other (eqb-true m n e))
     by false e = e
 
-at_from_after : (o : ℕ) (rest : List ℕ) → ¬ (o ≡ 128) → base128_at (o ∷ rest) ≡ base128_after 0 (o ∷ rest)
+pub at_from_after : (o : ℕ) (rest : List ℕ) → ¬ (o ≡ 128) → base128_at (o ∷ rest) ≡ base128_after 0 (o ∷ rest)
 at_from_after o rest other = ap (λ b. if b then None else base128_after 0 (o ∷ rest)) (not_eq o 128 other)
 
 first_is_no_zero : (leading : List ℕ) (last : ℕ) (back : List ℕ) → AllBelowBase 128 (leading ++ last ∷ []) → IsShortest leading →

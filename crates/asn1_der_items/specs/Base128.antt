@@ -1,6 +1,6 @@
 -- Numbers to the base 128 (X.690, 8.1.2.4.2 and 8.19.2): seven bits an octet, the highest first. Bit 8 is 1 in each octet but
 -- the last.
-use Rattle.std.specs.Prelude.{◌≡◌, ℕ, ◌+◌, ◌-◌, ◌*◌, Option, None, Some, List, [], ◌∷◌, ◌++◌, map, nat_eq, nat_lt, if◌then◌else◌}
+use Rattle.std.specs.Prelude.{◌≡◌, ℕ, ◌+◌, ◌-◌, ◌*◌, ◌<◌, Option, None, Some, List, [], ◌∷◌, ◌++◌, map, nat_eq, nat_lt, if◌then◌else◌}
 use Rattle.std.specs.Int.Digits.{AllBelowBase, number_from_digits}
 use Rattle.asn1_values.specs.Numbers.{IsShortest}
 
@@ -35,3 +35,10 @@ pub record AreLeading (number : ℕ) (octets : List ℕ) : Type 0 where
   pub below : AllBelowBase 128 digits
   pub value : number_from_digits 128 digits ≡ number
   pub shortest : IsShortest digits
+
+-- The octets are the digits of a number before its last digit, each with bit 8 set. They are a number below this limit.
+pub record LackLast (limit : ℕ) (octets : List ℕ) : Type 0 where
+  pub number : ℕ
+  pub below : number < limit
+  pub none : base128_at octets ≡ None
+  pub completed : (last : ℕ) → last < 128 → base128_at (octets ++ last ∷ []) ≡ Some (record { number = number * 128 + last; rest = [] })

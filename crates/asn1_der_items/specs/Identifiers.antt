@@ -1,5 +1,5 @@
 -- The identifier octets of an element (X.690, 8.1.2): its class, whether it is constructed, and the number of its tag.
-use Rattle.std.specs.Prelude.{◌≡◌, ◌⊎◌, ℕ, ◌+◌, ◌*◌, ◌/◌, ◌%◌, ◌<◌, ◌≤◌, ◌^◌, Bool, ◌&&◌, ◌==◌, All, Option, None, Some, List, [], ◌∷◌, nat_le, nat_lt, if◌then◌else◌}
+use Rattle.std.specs.Prelude.{◌≡◌, ◌⊎◌, ℕ, ◌+◌, ◌*◌, ◌/◌, ◌%◌, ◌<◌, ◌≤◌, ◌^◌, Bool, ◌&&◌, ◌==◌, Option, None, Some, List, [], ◌∷◌, nat_le, nat_lt, if◌then◌else◌}
 use Rattle.std.specs.Option.{option_and_then}
 use Rattle.asn1_tags.specs.Tags.{class_number}
 use Rattle.asn1_tags.specs.declared.classes.Class.{Class}
@@ -31,12 +31,6 @@ pub record IsHighTag (t : Tag) (constructed : Bool) (octets : List ℕ) : Type 0
 -- The octets are this tag, of a primitive or a constructed element.
 abbrev pub IsIdentifier : Tag → Bool → List ℕ → Type 0
 IsIdentifier t constructed octets = IsLowTag t constructed octets ⊎ IsHighTag t constructed octets
-
--- The octets end before the identifier does: there is none; or the first has 31 in place of the number, and the last octet of the
--- number to the base 128 is not there: bit 8 is 1 in each of them (8.1.2.4.2).
-pub data IsCutIdentifier : List ℕ → Type 0 where
-  no_octet : IsCutIdentifier []
-  in_number : (first : ℕ) (number : List ℕ) → first % 32 ≡ 31 → All (λ o. 128 ≤ o) number → IsCutIdentifier (first ∷ number)
 
 -- an identifier that was read in front of some bytes, and the bytes after it
 pub record Identified : Type 0 where

@@ -1,6 +1,7 @@
 pub mod Arcs
 pub mod Base128
 pub mod Contents
+pub mod Cuts
 pub mod Elements
 pub mod Identifiers
 pub mod Integers

@@ -54,7 +54,7 @@ fn read_number(octets: &[u8]) -> Result<Front<'_>, ItemError>
         MatchResult result (λ x. (x.number ≡ f.number) × (x.rest.now ≡ f.rest)) (λ _. ⊥) }
     ensures shorter { IfOk result (λ x. length x.rest.now < length octets.now) }
 {
-    match read_base128(octets) {
+    match read_base128(octets, 0x200_0000_0000_0000) {
         Ok(front) => Ok(front),
         Err(_) => Err(ItemError::Malformed),
     }

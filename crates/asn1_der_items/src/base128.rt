@@ -1,8 +1,8 @@
 //! Numbers to the base 128.
-ghost use Rattle.asn1_der_items.specs.Base128.{AreLeading, Front as FrontView, IsBase128, base128_at};
+ghost use Rattle.asn1_der_items.specs.Base128.{AreLeading, Front as FrontView, IsBase128, LackLast, base128_at};
+ghost use Rattle.asn1_der_items.specs.Cuts.{IsMissing};
 ghost use Rattle.asn1_items.specs.Numbers.{Appended};
-ghost use Rattle.asn1_items.specs.declared.error.ItemError.TheVariants.{Missing};
-ghost use Rattle.std.specs.Prelude.{◌≡◌, ◌<◌, ◌≤◌, ◌^◌, All, Err, IfOk, IsOk, Some, ℕ};
+ghost use Rattle.std.specs.Prelude.{◌≡◌, ◌*◌, ◌<◌, ◌≤◌, ◌^◌, ◌++◌, Decides, IfErr, IfOk, IsOk, List, Some, slice_get, ℕ};
 
 use asn1_items::ItemError;
 use std::alloc::AllocError;
@@ -43,42 +43,50 @@ fn append_leading(bytes: &mut Vec<u8>, number: u64) -> Result<(), AllocError>
     Ok(())
 }
 
-/// Reads a number to the base 128 that is below 2^64.
+/// Reads a number to the base 128, of which the digits before the last are a number below this limit.
+///
+/// # Errors
+/// [`ItemError::Missing`] where the bytes end before its last digit, and else [`ItemError::Malformed`].
 #[inline(always)]
-pub(crate) fn read_base128(bytes: &[u8]) -> Result<Front<'_>, ItemError>
+pub(crate) fn read_base128(bytes: &[u8], limit: u64) -> Result<Front<'_>, ItemError>
+    requires some { 0 < limit }
+    requires fits { limit ≤ 2 ^ 57 }
     ensures only { IfOk result (λ f.
         base128_at bytes.now ≡ Some (record { number = f.number; rest = f.rest.now })) }
-    ensures found { (f : FrontView) → base128_at bytes.now ≡ Some f → f.number < 2 ^ 64 →
+    ensures found { (f : FrontView) → base128_at bytes.now ≡ Some f → f.number < limit * 128 →
         IsOk result }
-    ensures missing { (count : ℕ) → result ≡ Err (Missing count) → All (λ o. 128 ≤ o) bytes.now }
+    ensures missing { IfErr result (λ e. IsMissing e → LackLast limit bytes.now) }
+    ensures completed { IfErr result (λ e. (more : List ℕ) (f : FrontView) →
+        base128_at (bytes.now ++ more) ≡ Some f → f.number < limit * 128 → IsMissing e) }
 {
     match bytes {
         [octet, rest @ ..] if *octet < 128 => Ok(Front {
             number: u64::from(*octet),
             rest,
         }),
-        _ => read_long_base128(bytes),
+        _ => read_long_base128(bytes, limit),
     }
 }
 
 /// The same in the general case, out of line so that the inlined part stays small.
 #[inline(never)]
-fn read_long_base128(bytes: &[u8]) -> Result<Front<'_>, ItemError>
+fn read_long_base128(bytes: &[u8], limit: u64) -> Result<Front<'_>, ItemError>
+    requires some { 0 < limit }
+    requires fits { limit ≤ 2 ^ 57 }
     ensures only { IfOk result (λ f.
         base128_at bytes.now ≡ Some (record { number = f.number; rest = f.rest.now })) }
-    ensures found { (f : FrontView) → base128_at bytes.now ≡ Some f → f.number < 2 ^ 64 →
+    ensures found { (f : FrontView) → base128_at bytes.now ≡ Some f → f.number < limit * 128 →
         IsOk result }
-    ensures missing { (count : ℕ) → result ≡ Err (Missing count) → All (λ o. 128 ≤ o) bytes.now }
+    ensures missing { IfErr result (λ e. IsMissing e → LackLast limit bytes.now) }
+    ensures completed { IfErr result (λ e. (more : List ℕ) (f : FrontView) →
+        base128_at (bytes.now ++ more) ≡ Some f → f.number < limit * 128 → IsMissing e) }
 {
-    if bytes.first() == Some(&128) {
+    if begins_with_zero(bytes) {
         return Err(ItemError::Malformed);
     }
     let mut number = 0u64;
     let mut left = bytes;
     while let [octet, rest @ ..] = left {
-        if number >= 0x200_0000_0000_0000 {
-            return Err(ItemError::Malformed);
-        }
         if *octet < 128 {
             return Ok(Front {
                 number: number * 128 + u64::from(*octet),
@@ -86,7 +94,17 @@ fn read_long_base128(bytes: &[u8]) -> Result<Front<'_>, ItemError>
             });
         }
         number = number * 128 + u64::from(*octet - 128);
+        if number >= limit {
+            return Err(ItemError::Malformed);
+        }
         left = rest;
     }
     Err(ItemError::Missing(1))
+}
+
+/// Whether the first digit is a 0 before others.
+fn begins_with_zero(bytes: &[u8]) -> bool
+    ensures { Decides result (slice_get bytes.now 0 ≡ Some 128) }
+{
+    bytes.first() == Some(&128)
 }

@@ -1,9 +1,9 @@
 //! The identifier octets of an element.
 ghost use Rattle.asn1_items.specs.Numbers.{Appended};
-ghost use Rattle.asn1_der_items.specs.Identifiers.{Identified as IdentifierView, IsCutIdentifier, IsIdentifier, form_bit, high_tag_at, identifier_at};
-ghost use Rattle.asn1_items.specs.declared.error.ItemError.TheVariants.{Missing};
+ghost use Rattle.asn1_der_items.specs.Cuts.{EndEarly, IsMissing};
+ghost use Rattle.asn1_der_items.specs.Identifiers.{Identified as IdentifierView, IsIdentifier, form_bit, high_tag_at, identifier_at};
 ghost use Rattle.asn1_tags.specs.Tags.{class_number};
-ghost use Rattle.std.specs.Prelude.{◌≡◌, ◌+◌, ◌*◌, ◌≤◌, All, Err, IfOk, IsOk, Some, ℕ};
+ghost use Rattle.std.specs.Prelude.{◌≡◌, ◌+◌, ◌*◌, ◌↔◌, IfErr, IfOk, IsOk, Some};
 
 use crate::base128::{append_base128, read_base128};
 use asn1_items::ItemError;
@@ -55,14 +55,14 @@ fn first_octet(class: Class, constructed: bool) -> u8
 /// The identifier octets with which the bytes begin (X.690, 8.1.2).
 ///
 /// # Errors
-/// [`ItemError::Missing`] where the bytes end before the identifier octets do, and [`ItemError::Malformed`] where the number of the
-/// tag is 2^32 or more or not the shortest.
+/// [`ItemError::Missing`] where the bytes end before the identifier octets do and others complete them, and
+/// [`ItemError::Malformed`] where the number of the tag is 2^32 or more or not the shortest, whatever follows.
 #[inline(always)]
 pub fn read_identifier(bytes: &[u8]) -> Result<Identified<'_>, ItemError>
     ensures only { IfOk result (λ i. identifier_at bytes.now ≡
         Some (record { tag = i.tag; constructed = i.constructed; rest = i.rest.now })) }
     ensures found { (i : IdentifierView) → identifier_at bytes.now ≡ Some i → IsOk result }
-    ensures missing { (count : ℕ) → result ≡ Err (Missing count) → IsCutIdentifier bytes.now }
+    ensures missing { IfErr result (λ e. IsMissing e ↔ EndEarly identifier_at bytes.now) }
 {
     let [first, rest @ ..] = bytes else {
         return Err(ItemError::Missing(1));
@@ -94,10 +94,10 @@ fn read_high_tag(
         Some (record { tag = i.tag; constructed = i.constructed; rest = i.rest.now })) }
     ensures found { (i : IdentifierView) → high_tag_at class constructed octets.now ≡ Some i →
         IsOk result }
-    ensures missing { (count : ℕ) → result ≡ Err (Missing count) →
-        All (λ o. 128 ≤ o) octets.now }
+    ensures missing { IfErr result (λ e. IsMissing e ↔
+        EndEarly (high_tag_at class constructed) octets.now) }
 {
-    let front = read_base128(octets)?;
+    let front = read_base128(octets, 0x200_0000)?;
     match u32::try_from(front.number) {
         Ok(value) if value >= 31 => Ok(Identified {
             tag: Tag { class, value },
