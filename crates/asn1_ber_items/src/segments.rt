@@ -8,6 +8,9 @@ use asn1_tags::Tag;
 use std::alloc::{AllocError, Global};
 use std::mem::replace;
 
+/// A segment that has this many octets is followed by another, if a length is to grow at its end.
+const LONG: usize = 256;
+
 /// Octets that are written in segments, so that a length can grow at the end of one without a move of those after it.
 #[derive(Drop)]
 pub(crate) struct Segments {
@@ -63,9 +66,18 @@ impl Segments {
         }
     }
 
-    /// Begins a constructed element: its contents octets are to be written next, and its length then. They are in the same segment if
-    /// they are few.
-    pub(crate) fn begin_constructed(&mut self, tag: Tag, few: bool) -> Result<Room, AllocError>
+    /// Whether the last segment is so short that a length in it may grow: few octets are moved then.
+    pub(crate) fn ends_short(&self) -> bool {
+        self.last.len() < LONG
+    }
+
+    /// Begins a constructed element: its contents octets are to be written next, in the same segment or in another, and its length
+    /// then.
+    pub(crate) fn begin_constructed(
+        &mut self,
+        tag: Tag,
+        same_segment: bool,
+    ) -> Result<Room, AllocError>
         ensures { IsCounted self.old → IfOk result (IsBegunAt tag self.old self.new) }
     {
         begin_element(&mut self.last, tag, true)?;
@@ -73,7 +85,7 @@ impl Segments {
             segment: self.full.len(),
             index: self.last.len() - 1,
         };
-        if few {
+        if same_segment {
             return Ok(room);
         }
         self.begin_segment()?;

@@ -5,8 +5,8 @@ use Rattle.std.specs.declared.alloc.Global.{Global}
 use Rattle.asn1_ber_items.specs.Segments.{octets_of_each}
 use Rattle.asn1_ber_items.proofs.segments.Segments.begin_constructed.Goals as goal
 
-pub returns-then-few : goal.returns-then-few
-returns-then-few c = λ counted.
+pub returns-then-same_segment : goal.returns-then-same_segment
+returns-then-same_segment c = λ counted.
     let a = c.in_ok-begin_element.ensures in
     let full = c.args.self.now.full in
     record {
