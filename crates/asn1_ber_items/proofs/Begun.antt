@@ -9,6 +9,7 @@ use Rattle.asn1_ber_items.proofs.Snoc.{IsSnoc, same_last, view}
 use Rattle.asn1_ber_items.proofs.Walking.{AreOpen, IsOpenIn}
 use Rattle.asn1_der_items.specs.Elements.{IsBegun, IsElement}
 use Rattle.asn1_der_items.specs.Lengths.{IsLength}
+use Rattle.asn1_tags.specs.declared.tags.Tag.{Tag}
 
 -- what was begun in segments was begun in all that was written
 abbrev pub opened : (e : OpenElement) (Before : List (List ℕ) → Type 0) (Outer : List ℕ → Type 0) → ((ss : List (List ℕ)) → Before ss → Outer (joined ss)) → (segments : List (List ℕ)) →
@@ -17,9 +18,9 @@ opened e Before Outer outer segments b = record {
   before = joined b.before ++ b.outside;
   front = b.front;
   contents = b.rest ++ joined b.after;
+  tag = b.tag;
   begun = b.begun;
   are = ap joined b.are ∙ joined_at b.before b.after b.outside b.front b.rest;
-  starts = b.starts;
   inside = b.inside;
   outer = subst Outer (joined-last b.before b.outside) (outer (b.before ++ b.outside ∷ []) b.outer);
 }
@@ -55,11 +56,11 @@ grows_in e Before first more last own b = by b.after b.are (view b.after)
       front = b.front;
       rest = rest;
       after = after;
+      tag = b.tag;
       begun = b.begun;
       are = are;
       segment = b.segment;
       index = b.index;
-      starts = b.starts;
       inside = b.inside;
       outer = b.outer;
     }
@@ -84,19 +85,19 @@ pub grow : (es : List OpenElement) (first more : List (List ℕ)) (last own : Li
 grow es first more last own b = grow_with es (λ _. ⊤) (λ _ _ _ _ _. tt) first more last own b
 
 -- an element that was begun is inside what is open
-pub begun_too : (es : List OpenElement) (e : OpenElement) (first more : List (List ℕ)) (last front : List ℕ) → IsBegun e.tag true front → e.room.segment ≡ length first → suc e.room.index ≡ length (last ++ front) →
-    e.start ≡ length (joined first ++ last) → e.contents ≡ length ((joined first ++ last) ++ front) → AreBegun es (λ _. ⊤) (first ++ last ∷ []) → AreBegun (es ++ e ∷ []) (λ _. ⊤) (first ++ (last ++ front) ∷ more)
-begun_too es e first more last front begun segment index starts inside b = begun_out es e (λ _. ⊤) (first ++ (last ++ front) ∷ more) (record {
+pub begun_too : (es : List OpenElement) (e : OpenElement) (first more : List (List ℕ)) (last front : List ℕ) (tag : Tag) → IsBegun tag true front → e.room.segment ≡ length first → suc e.room.index ≡ length (last ++ front) →
+    e.contents ≡ length ((joined first ++ last) ++ front) → AreBegun es (λ _. ⊤) (first ++ last ∷ []) → AreBegun (es ++ e ∷ []) (λ _. ⊤) (first ++ (last ++ front) ∷ more)
+begun_too es e first more last front tag begun segment index inside b = begun_out es e (λ _. ⊤) (first ++ (last ++ front) ∷ more) (record {
   before = first;
   outside = last;
   front = front;
   rest = [];
   after = more;
+  tag = tag;
   begun = begun;
   are = ap (λ l. first ++ l ∷ more) (sym (append-nil (last ++ front)));
   segment = segment;
   index = index;
-  starts = starts;
   inside = inside;
   outer = b;
 })
@@ -115,7 +116,7 @@ module _ (outer : List OpenElement) (e : OpenElement) (segments : List (List ℕ
   size_is = omega (arith, b.inside, ap length (ap joined b.are ∙ joined_at b.before b.after b.outside b.front b.rest), length-append ((joined b.before ++ b.outside) ++ b.front) (b.rest ++ joined b.after))
 
   module _ (octets : List ℕ) (new : List (List ℕ)) (is_length : IsLength (length (b.rest ++ joined b.after)) octets) (are : new ≡ b.before ++ (((b.outside ++ b.begun.identifier) ++ octets) ++ b.rest) ∷ b.after) where
-    pub ended_is : IsElement e.tag true (b.rest ++ joined b.after) (b.begun.identifier ++ (octets ++ (b.rest ++ joined b.after)))
+    pub ended_is : IsElement b.tag true (b.rest ++ joined b.after) (b.begun.identifier ++ (octets ++ (b.rest ++ joined b.after)))
     ended_is = record { identifier = b.begun.identifier; size = octets; is_identifier = b.begun.is_identifier; is_size = is_length; are = refl }
 
     pub ended_joined : joined new ≡ (joined b.before ++ b.outside) ++ (b.begun.identifier ++ (octets ++ (b.rest ++ joined b.after)))

@@ -3,7 +3,8 @@ use Rattle.std.proofs.Common.{◌≡◌, ◌≢◌, ℕ, ◌+◌, ◌*◌, ◌<�
 use Rattle.std.specs.Bool.{⊤}
 use Rattle.asn1_items.specs.declared.error.ItemError.{ItemError}
 use Rattle.asn1_items.specs.declared.error.ItemError.TheVariants.{Malformed, Memory, Missing}
-use Rattle.asn1_der_items.specs.Elements.{IsElement}
+use Rattle.asn1_tags.specs.declared.tags.Tag.{Tag}
+use Rattle.asn1_der_items.specs.Elements.{IsBegun, IsElement}
 use Rattle.asn1_ber_items.specs.Headers.{Header, end_of_contents, header_at}
 use Rattle.asn1_der_items.specs.Cuts.{IsMissing}
 use Rattle.asn1_ber_items.specs.Walks.{Comes, IsAfter, IsClosing, IsCopy, IsOver, IsRefused, Outcome, Remains, Splits, bytes_after, bytes_behind, end_of}
@@ -25,7 +26,7 @@ bytes_behind-last (f ∷ es) e = omega (arith, bytes_behind-last es e)
 
 -- a constructed element that ends
 pub steps_out : (es outer : List OpenElement) (e : OpenElement) (left back written new own : List ℕ) → es ≡ outer ++ e ∷ [] → left ≡ end_of e.extent back → IsAfter e.extent back →
-    (b : IsOpenIn e (AreOpen outer (λ _. ⊤)) written) → IsElement e.tag true b.contents own → new ≡ b.before ++ own → Steps es outer left back written new
+    (b : IsOpenIn e (AreOpen outer (λ _. ⊤)) written) → IsElement b.tag true b.contents own → new ≡ b.before ++ own → Steps es outer left back written new
 steps_out es outer e left back written new own are ends after b element joined = record {
   ahead = λ outcome more comes. subst (λ l. Comes outer (Remains outcome) back l) (sym joined)
       (ends_ahead outer e left written back own ends after b element outcome (subst (λ fs. Comes fs (Remains outcome) left written) are comes));
@@ -44,17 +45,17 @@ less_out es outer e left back are ends after =
     omega (arith, ap bytes_behind are, ap length are, length-append outer (e ∷ []), bytes_behind-last outer e, extent_less e.extent left back (bytes_behind outer) ends after)
 
 -- a constructed element that begins
-pub steps_in : (es : List OpenElement) (e : OpenElement) (left contents written front new : List ℕ) → Splits (IsClosing e.tag e.extent contents) left →
-    new ≡ written ++ front → e.start ≡ length written → e.contents ≡ length new → AreOpen es (λ _. ⊤) written → Steps es (es ++ e ∷ []) left contents written new
-steps_in es e left contents written front new splits joined starts inside consistent =
+pub steps_in : (es : List OpenElement) (e : OpenElement) (left contents written front new : List ℕ) (tag : Tag) → IsBegun tag true front → Splits (IsClosing tag e.extent contents) left →
+    new ≡ written ++ front → e.contents ≡ length new → AreOpen es (λ _. ⊤) written → Steps es (es ++ e ∷ []) left contents written new
+steps_in es e left contents written front new tag begun splits joined inside consistent =
     let at : e.contents ≡ length (written ++ front) = inside ∙ ap length joined in
     record {
       ahead = λ outcome more comes.
-          let q = consumed (IsClosing e.tag e.extent contents) left splits outcome written es more consistent comes in
-          subst (λ l. Comes (es ++ e ∷ []) (Remains outcome) contents l) (sym joined) (goes_in es e contents written front starts at outcome q.own q.back q.is q.comes);
+          let q = consumed (IsClosing tag e.extent contents) left splits outcome written es more consistent comes in
+          subst (λ l. Comes (es ++ e ∷ []) (Remains outcome) contents l) (sym joined) (goes_in es e contents written front tag begun at outcome q.own q.back q.is q.comes);
       behind = λ outcome more comes.
-          let q = comes_back es e contents written front starts at outcome (subst (λ l. Comes (es ++ e ∷ []) (Remains outcome) contents l) joined comes) in
-          produced (IsClosing e.tag e.extent contents) left splits outcome written es q.own q.back q.is more consistent q.comes;
+          let q = comes_back es e contents written front tag begun at outcome (subst (λ l. Comes (es ++ e ∷ []) (Remains outcome) contents l) joined comes) in
+          produced (IsClosing tag e.extent contents) left splits outcome written es q.own q.back q.is more consistent q.comes;
     }
 
 pub less_in : (es : List OpenElement) (e : OpenElement) (left contents : List ℕ) → length contents + bytes_after e.extent < length left →

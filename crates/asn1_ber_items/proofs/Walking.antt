@@ -1,11 +1,13 @@
 -- Each step of a walk leaves what it will have written.
-use Rattle.std.proofs.Common.{◌≡◌, ◌≢◌, ◌⊎◌, inl, inr, ℕ, ◌≤◌, true, List, [], ◌∷◌, ◌++◌, append-nil, length, length-append, take, drop, refl, ap, sym, subst, ◌∙◌, arith}
+use Rattle.std.proofs.Common.{◌≡◌, ◌≢◌, ◌⊎◌, inl, inr, ℕ, ◌-◌, ◌≤◌, true, List, [], ◌∷◌, ◌++◌, append-nil, length, length-append, take, drop, refl, ap, sym, subst, ◌∙◌, arith}
 use Rattle.std.specs.Bool.{⊤}
 use Rattle.std.proofs.Math.Seq.{drop-append_seam, take-append_seam}
 use Rattle.std.proofs.lemmas.List.{append_assoc, drop-append-le, take-append-le}
-use Rattle.asn1_der_items.proofs.Encodings.{one_element}
+use Rattle.asn1_der_items.proofs.Encodings.{one_identifier, one_length}
 use Rattle.asn1_der_items.proofs.OneElement.{some_bytes as one_has_bytes}
 use Rattle.asn1_der_items.specs.Elements.{IsBegun, IsElement}
+use Rattle.asn1_der_items.specs.Lengths.{IsLength}
+use Rattle.asn1_tags.specs.declared.tags.Tag.{Tag}
 use Rattle.asn1_ber_items.specs.Spellings.{Spells, SpellsOne, nothing}
 use Rattle.asn1_ber_items.specs.Walks.{AreInside, AreLast, Comes, IsAfter, IsClosing, IsEnd, IsFront, IsOver, Outcome, Remains, Splits, end_octets, end_of, nothing_left, of_all, of_first}
 use Rattle.asn1_ber_items.specs.declared.open_element.Extent.{Extent}
@@ -19,9 +21,9 @@ pub record IsOpenIn (e : OpenElement) (Before : List ℕ → Type 0) (written : 
   pub before : List ℕ
   pub front : List ℕ
   pub contents : List ℕ
-  pub begun : IsBegun e.tag true front
+  pub tag : Tag
+  pub begun : IsBegun tag true front
   pub are : written ≡ (before ++ front) ++ contents
-  pub starts : e.start ≡ length before
   pub inside : e.contents ≡ length (before ++ front)
   pub outer : Before before
 
@@ -99,8 +101,8 @@ module _ (Is : List ℕ → List ℕ → Type 0) (left : List ℕ) (splits : Spl
   consumed_inside : (outer : List OpenElement) (e : OpenElement) → IsOpenIn e (AreOpen outer (λ _. ⊤)) written → AreInside e (Comes outer (Remains outcome)) left written → Consumed Is (outer ++ e ∷ []) outcome written
   consumed_inside outer e b i =
       let s = splits.ahead i.others (end_of e.extent i.back) (is_end e.extent i.back) i.spell in
-      let starts : e.start ≤ length written = omega (arith, b.starts, ap length b.are, length-append (b.before ++ b.front) b.contents, length-append b.before b.front) in
       let inside : e.contents ≤ length written = omega (arith, b.inside, ap length b.are, length-append (b.before ++ b.front) b.contents) in
+      let front : e.contents - 1 ≤ length written = omega (arith, inside) in
       let same : drop e.contents written ++ i.others ≡ drop e.contents (written ++ s.own) ++ s.later =
       ap (λ x. drop e.contents written ++ x) s.are ∙ sym (append_assoc (drop e.contents written) s.own s.later) ∙ ap (λ x. x ++ s.later) (sym (drop-append-le e.contents written s.own inside)) in
       record {
@@ -110,11 +112,13 @@ module _ (Is : List ℕ → List ℕ → Type 0) (left : List ℕ) (splits : Spl
         comes = comes_out outer e (Remains outcome) s.back (written ++ s.own) (record {
           others = s.later;
           back = i.back;
-          own = i.own;
+          size = i.size;
           spell = s.spell;
           after = i.after;
-          element = subst (λ l. IsElement e.tag true l i.own) same i.element;
-          later = subst (λ l. Comes outer (Remains outcome) i.back (l ++ i.own)) (sym (take-append-le e.start written s.own starts)) i.later;
+          is_size = subst (λ l. IsLength (length l) i.size) same i.is_size;
+          later =
+              subst (λ l. Comes outer (Remains outcome) i.back (l ++ (i.size ++ (drop e.contents (written ++ s.own) ++ s.later)))) (sym (take-append-le (e.contents - 1) written s.own front))
+              (subst (λ l. Comes outer (Remains outcome) i.back (take (e.contents - 1) written ++ (i.size ++ l))) same i.later);
         });
       }
 
@@ -128,18 +132,20 @@ module _ (Is : List ℕ → List ℕ → Type 0) (left : List ℕ) (splits : Spl
 
   produced_inside : (outer : List OpenElement) (e : OpenElement) (own back : List ℕ) → Is own back → IsOpenIn e (AreOpen outer (λ _. ⊤)) written → AreInside e (Comes outer (Remains outcome)) back (written ++ own) → AreInside e (Comes outer (Remains outcome)) left written
   produced_inside outer e own back is b i =
-      let starts : e.start ≤ length written = omega (arith, b.starts, ap length b.are, length-append (b.before ++ b.front) b.contents, length-append b.before b.front) in
       let inside : e.contents ≤ length written = omega (arith, b.inside, ap length b.are, length-append (b.before ++ b.front) b.contents) in
+      let front : e.contents - 1 ≤ length written = omega (arith, inside) in
       let same : drop e.contents (written ++ own) ++ i.others ≡ drop e.contents written ++ (own ++ i.others) =
       ap (λ x. x ++ i.others) (drop-append-le e.contents written own inside) ∙ append_assoc (drop e.contents written) own i.others in
       record {
         others = own ++ i.others;
         back = i.back;
-        own = i.own;
+        size = i.size;
         spell = splits.behind own back i.others (end_of e.extent i.back) is i.spell;
         after = i.after;
-        element = subst (λ l. IsElement e.tag true l i.own) same i.element;
-        later = subst (λ l. Comes outer (Remains outcome) i.back (l ++ i.own)) (take-append-le e.start written own starts) i.later;
+        is_size = subst (λ l. IsLength (length l) i.size) same i.is_size;
+        later =
+            subst (λ l. Comes outer (Remains outcome) i.back (take (e.contents - 1) written ++ (i.size ++ l))) same
+            (subst (λ l. Comes outer (Remains outcome) i.back (l ++ (i.size ++ (drop e.contents (written ++ own) ++ i.others)))) (take-append-le (e.contents - 1) written own front) i.later);
       }
 
   pub produced : (es : List OpenElement) (own back : List ℕ) → Is own back → ¬ IsOver outcome es left written → AreOpen es (λ _. ⊤) written → Comes es (Remains outcome) back (written ++ own) → Comes es (Remains outcome) left written
@@ -151,33 +157,62 @@ module _ (Is : List ℕ → List ℕ → Type 0) (left : List ℕ) (splits : Spl
           (λ more b c. comes_out s.outer s.innermost (Remains outcome) left written
           (produced_inside s.outer s.innermost own back is (open_in s.outer s.innermost (λ _. ⊤) written b) (comes_in s.outer s.innermost (Remains outcome) back (written ++ own) c)))
 
+-- an element has the identifier with which it was begun
+begun_own : (tag : Tag) (front contents own : List ℕ) (begun : IsBegun tag true front) (element : IsElement tag true contents own) → own ≡ begun.identifier ++ (element.size ++ contents)
+begun_own tag front contents own begun element =
+    element.are ∙ ap (λ l. l ++ (element.size ++ contents)) (one_identifier tag true element.identifier begun.identifier element.is_identifier begun.is_identifier)
+
 -- an element that was begun is inside what is open
-module _ (es : List OpenElement) (e : OpenElement) (contents written front : List ℕ) (starts : e.start ≡ length written) (inside : e.contents ≡ length (written ++ front)) where
-  taken : take e.start (written ++ front) ≡ written
-  taken = ap (λ n. take n (written ++ front)) starts ∙ take-append_seam written front
+module _ (es : List OpenElement) (e : OpenElement) (contents written front : List ℕ) (tag : Tag) (begun : IsBegun tag true front) (inside : e.contents ≡ length (written ++ front)) where
+  parted : written ++ front ≡ (written ++ begun.identifier) ++ begun.room ∷ []
+  parted = ap (λ l. written ++ l) begun.are ∙ sym (append_assoc written begun.identifier (begun.room ∷ []))
+
+  taken : take (e.contents - 1) (written ++ front) ≡ written ++ begun.identifier
+  taken =
+      let long : e.contents - 1 ≡ length (written ++ begun.identifier) = omega (arith, inside, ap length parted, length-append (written ++ begun.identifier) (begun.room ∷ [])) in
+      ap (λ n. take n (written ++ front)) long ∙ ap (take (length (written ++ begun.identifier))) parted ∙ take-append_seam (written ++ begun.identifier) (begun.room ∷ [])
 
   dropped : drop e.contents (written ++ front) ≡ []
   dropped = ap (λ l. drop e.contents l) (sym (append-nil (written ++ front))) ∙ ap (λ n. drop n ((written ++ front) ++ [])) inside ∙ drop-append_seam (written ++ front) []
 
-  pub goes_in : (outcome : Outcome) (own back : List ℕ) → IsClosing e.tag e.extent contents own back → Comes es (Remains outcome) back (written ++ own) → Comes (es ++ e ∷ []) (Remains outcome) contents (written ++ front)
-  goes_in outcome own back c comes = comes_out es e (Remains outcome) contents (written ++ front) (record {
-    others = c.others;
-    back = back;
-    own = own;
-    spell = c.spell;
-    after = c.after;
-    element = subst (λ l. IsElement e.tag true (l ++ c.others) own) (sym dropped) c.element;
-    later = subst (λ l. Comes es (Remains outcome) back (l ++ own)) (sym taken) comes;
-  })
+  pub goes_in : (outcome : Outcome) (own back : List ℕ) → IsClosing tag e.extent contents own back → Comes es (Remains outcome) back (written ++ own) → Comes (es ++ e ∷ []) (Remains outcome) contents (written ++ front)
+  goes_in outcome own back c comes =
+      comes_out es e (Remains outcome) contents (written ++ front) (record {
+        others = c.others;
+        back = back;
+        size = c.element.size;
+        spell = c.spell;
+        after = c.after;
+        is_size = subst (λ l. IsLength (length (l ++ c.others)) c.element.size) (sym dropped) c.element.is_size;
+        later =
+            subst (λ l. Comes es (Remains outcome) back (l ++ (c.element.size ++ (drop e.contents (written ++ front) ++ c.others)))) (sym taken)
+            (subst (λ l. Comes es (Remains outcome) back ((written ++ begun.identifier) ++ (c.element.size ++ (l ++ c.others)))) (sym dropped)
+            (subst (λ l. Comes es (Remains outcome) back l)
+            (ap (λ l. written ++ l) (begun_own tag front c.others own begun c.element) ∙ sym (append_assoc written begun.identifier (c.element.size ++ c.others))) comes));
+      })
 
-  pub comes_back : (outcome : Outcome) → Comes (es ++ e ∷ []) (Remains outcome) contents (written ++ front) → Consumed (IsClosing e.tag e.extent contents) es outcome written
+  pub comes_back : (outcome : Outcome) → Comes (es ++ e ∷ []) (Remains outcome) contents (written ++ front) → Consumed (IsClosing tag e.extent contents) es outcome written
   comes_back outcome comes =
       let i = comes_in es e (Remains outcome) contents (written ++ front) comes in
       record {
-        own = i.own;
+        own = begun.identifier ++ (i.size ++ i.others);
         back = i.back;
-        is = record { others = i.others; spell = i.spell; after = i.after; element = subst (λ l. IsElement e.tag true (l ++ i.others) i.own) dropped i.element };
-        comes = subst (λ l. Comes es (Remains outcome) i.back (l ++ i.own)) taken i.later;
+        is = record {
+          others = i.others;
+          spell = i.spell;
+          after = i.after;
+          element = record {
+            identifier = begun.identifier;
+            size = i.size;
+            is_identifier = begun.is_identifier;
+            is_size = subst (λ l. IsLength (length (l ++ i.others)) i.size) dropped i.is_size;
+            are = refl;
+          };
+        };
+        comes =
+            subst (λ l. Comes es (Remains outcome) i.back l) (append_assoc written begun.identifier (i.size ++ i.others))
+            (subst (λ l. Comes es (Remains outcome) i.back ((written ++ begun.identifier) ++ (i.size ++ (l ++ i.others)))) dropped
+            (subst (λ l. Comes es (Remains outcome) i.back (l ++ (i.size ++ (drop e.contents (written ++ front) ++ i.others)))) taken i.later));
       }
 
 -- what follows an element that ends here
@@ -187,12 +222,24 @@ same_back Indefinite back other a b e = cc
 
 -- an open element that ends
 module _ (outer : List OpenElement) (e : OpenElement) (left written back own : List ℕ) (ends : left ≡ end_of e.extent back) (after : IsAfter e.extent back)
-    (b : IsOpenIn e (AreOpen outer (λ _. ⊤)) written) (element : IsElement e.tag true b.contents own) where
-  taken_before : take e.start written ≡ b.before
-  taken_before = ap (λ n. take n written) b.starts ∙ ap (λ l. take (length b.before) l) (b.are ∙ append_assoc b.before b.front b.contents) ∙ take-append_seam b.before (b.front ++ b.contents)
+    (b : IsOpenIn e (AreOpen outer (λ _. ⊤)) written) (element : IsElement b.tag true b.contents own) where
+  apart : written ≡ (b.before ++ b.begun.identifier) ++ b.begun.room ∷ b.contents
+  apart = b.are ∙ ap (λ l. (b.before ++ l) ++ b.contents) b.begun.are ∙ ap (λ l. l ++ b.contents) (sym (append_assoc b.before b.begun.identifier (b.begun.room ∷ [])))
+      ∙ append_assoc (b.before ++ b.begun.identifier) (b.begun.room ∷ []) b.contents
+
+  taken_before : take (e.contents - 1) written ≡ b.before ++ b.begun.identifier
+  taken_before =
+      let long : e.contents - 1 ≡ length (b.before ++ b.begun.identifier) = omega (arith, b.inside, ap (λ l. length (b.before ++ l)) b.begun.are,
+      length-append b.before (b.begun.identifier ++ b.begun.room ∷ []), length-append b.begun.identifier (b.begun.room ∷ []), length-append b.before b.begun.identifier) in
+      ap (λ n. take n written) long ∙ ap (take (length (b.before ++ b.begun.identifier))) apart ∙ take-append_seam (b.before ++ b.begun.identifier) (b.begun.room ∷ b.contents)
 
   dropped_front : drop e.contents written ≡ b.contents
   dropped_front = ap (λ n. drop n written) b.inside ∙ ap (λ l. drop (length (b.before ++ b.front)) l) b.are ∙ drop-append_seam (b.before ++ b.front) b.contents
+
+  whole : b.before ++ own ≡ take (e.contents - 1) written ++ (element.size ++ b.contents)
+  whole =
+      ap (λ l. b.before ++ l) (begun_own b.tag b.front b.contents own b.begun element) ∙ sym (append_assoc b.before b.begun.identifier (element.size ++ b.contents))
+      ∙ ap (λ l. l ++ (element.size ++ b.contents)) (sym taken_before)
 
   pub ends_ahead : (outcome : Outcome) → Comes (outer ++ e ∷ []) (Remains outcome) left written → Comes outer (Remains outcome) back (b.before ++ own)
   ends_ahead outcome comes = by (comes_in outer e (Remains outcome) left written comes)
@@ -205,20 +252,23 @@ module _ (outer : List OpenElement) (e : OpenElement) (left written back own : L
           at (inl none) =
               let same : i.back ≡ back = sym (same_back e.extent back i.back after i.after (sym ends ∙ none.0)) in
               let contents : drop e.contents written ++ i.others ≡ b.contents = ap (λ l. drop e.contents written ++ l) none.1 ∙ append-nil (drop e.contents written) ∙ dropped_front in
-              let one : i.own ≡ own = one_element e.tag true b.contents i.own own (subst (λ l. IsElement e.tag true l i.own) contents i.element) element in
+              let one : i.size ≡ element.size = one_length (length b.contents) i.size element.size (subst (λ l. IsLength (length l) i.size) contents i.is_size) element.is_size in
               subst (λ l. Comes outer (Remains outcome) l (b.before ++ own)) same
-              (subst (λ l. Comes outer (Remains outcome) i.back (b.before ++ l)) one
-              (subst (λ l. Comes outer (Remains outcome) i.back (l ++ i.own)) taken_before i.later))
+              (subst (λ l. Comes outer (Remains outcome) i.back l) (sym whole)
+              (subst (λ l. Comes outer (Remains outcome) i.back (take (e.contents - 1) written ++ (l ++ b.contents))) one
+              (subst (λ l. Comes outer (Remains outcome) i.back (take (e.contents - 1) written ++ (i.size ++ l))) contents i.later)))
 
   pub ends_behind : (outcome : Outcome) → Comes outer (Remains outcome) back (b.before ++ own) → Comes (outer ++ e ∷ []) (Remains outcome) left written
   ends_behind outcome comes = comes_out outer e (Remains outcome) left written (record {
     others = [];
     back = back;
-    own = own;
+    size = element.size;
     spell = subst (λ l. Spells l [] (end_of e.extent back)) (sym ends) (nothing (end_of e.extent back));
     after = after;
-    element = subst (λ l. IsElement e.tag true l own) (sym dropped_front ∙ sym (append-nil (drop e.contents written))) element;
-    later = subst (λ l. Comes outer (Remains outcome) back (l ++ own)) (sym taken_before) comes;
+    is_size = subst (λ l. IsLength (length l) element.size) (sym dropped_front ∙ sym (append-nil (drop e.contents written))) element.is_size;
+    later =
+        subst (λ l. Comes outer (Remains outcome) back (take (e.contents - 1) written ++ (element.size ++ l))) (sym dropped_front ∙ sym (append-nil (drop e.contents written)))
+        (subst (λ l. Comes outer (Remains outcome) back l) whole comes);
   })
 
 -- where nothing ends and the walk goes on, an element begins, if the walk has an outcome

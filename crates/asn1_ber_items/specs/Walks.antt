@@ -1,5 +1,5 @@
 -- The walk through elements of BER: the elements that are open, and what is to come.
-use Rattle.std.specs.Prelude.{◌≡◌, ◌≢◌, ⊤, ℕ, suc, ◌+◌, ◌*◌, ◌<◌, Some, true, List, [], ◌∷◌, ◌++◌, length, take, drop}
+use Rattle.std.specs.Prelude.{◌≡◌, ◌≢◌, ⊤, ℕ, suc, ◌+◌, ◌-◌, ◌*◌, ◌<◌, Some, true, List, [], ◌∷◌, ◌++◌, length, take, drop}
 use Rattle.asn1_ber_items.specs.Headers.{end_of_contents, header_at, header_of}
 use Rattle.asn1_ber_items.specs.Segments.{IsCounted, joined, segments_of, written_in}
 use Rattle.asn1_ber_items.specs.Spellings.{Spells, SpellsOne}
@@ -10,6 +10,7 @@ use Rattle.asn1_ber_items.specs.declared.open_element.OpenElement.{OpenElement}
 use Rattle.asn1_ber_items.specs.declared.walk.Walk.{Walk}
 use Rattle.asn1_der_items.specs.Cuts.{IsMissing}
 use Rattle.asn1_der_items.specs.Elements.{IsBegun, IsElement}
+use Rattle.asn1_der_items.specs.Lengths.{IsLength}
 use Rattle.asn1_items.specs.declared.error.ItemError.{ItemError}
 use Rattle.asn1_items.specs.declared.error.ItemError.TheVariants.{Memory}
 use Rattle.asn1_tags.specs.declared.tags.Tag.{Tag}
@@ -50,15 +51,16 @@ abbrev pub IsAfter : Extent → List ℕ → Type 0
 IsAfter (Definite after) back = after.now ≡ back
 IsAfter Indefinite back = ⊤
 
--- The bytes left are elements inside the open element, which ends then, and the rest comes.
+-- The bytes left are elements inside the open element, which ends then, and the rest comes. Its length is written over an octet before
+-- its contents octets.
 pub record AreInside (e : OpenElement) (Later : List ℕ → List ℕ → Type 0) (left written : List ℕ) : Type 0 where
   pub others : List ℕ
   pub back : List ℕ
-  pub own : List ℕ
+  pub size : List ℕ
   pub spell : Spells left others (end_of e.extent back)
   pub after : IsAfter e.extent back
-  pub element : IsElement e.tag true (drop e.contents written ++ others) own
-  pub later : Later back (take e.start written ++ own)
+  pub is_size : IsLength (length (drop e.contents written ++ others)) size
+  pub later : Later back (take (e.contents - 1) written ++ (size ++ (drop e.contents written ++ others)))
 
 -- what is to come inside the open elements, the outermost first
 abbrev pub Comes : List OpenElement → (List ℕ → List ℕ → Type 0) → List ℕ → List ℕ → Type 0
@@ -81,11 +83,11 @@ pub record IsBegunIn (e : OpenElement) (Before : List (List ℕ) → Type 0) (se
   pub front : List ℕ
   pub rest : List ℕ
   pub after : List (List ℕ)
-  pub begun : IsBegun e.tag true front
+  pub tag : Tag
+  pub begun : IsBegun tag true front
   pub are : segments ≡ before ++ ((outside ++ front) ++ rest) ∷ after
   pub segment : e.room.segment ≡ length before
   pub index : suc e.room.index ≡ length (outside ++ front)
-  pub starts : e.start ≡ length (joined before ++ outside)
   pub inside : e.contents ≡ length ((joined before ++ outside) ++ front)
   pub outer : Before (before ++ outside ∷ [])
 

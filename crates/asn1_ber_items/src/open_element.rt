@@ -1,14 +1,9 @@
 //! Elements whose end has not been reached.
 use crate::segments::Room;
-use asn1_tags::Tag;
 
 /// A constructed element whose end has not been reached.
 #[derive(Clone, Copy, Drop)]
 pub(crate) struct OpenElement<'a> {
-    /// The tag.
-    pub(crate) tag: Tag,
-    /// The index of its first octet in what was written.
-    pub(crate) start: usize,
     /// The index of its contents octets in what was written.
     pub(crate) contents: usize,
     /// The octet that is left for its length.

@@ -160,13 +160,10 @@ impl<'a> Walk<'a> {
             IsConsistent self.old →
             MatchResult result (λ _. Goes self.old self.new) (λ e. e ≡ Memory) }
     {
-        let start = self.written.len()?;
         let same_segment = are_few(contents, extent) || self.written.ends_short();
         let room = self.written.begin_constructed(tag, same_segment)?;
         let inside = self.written.len()?;
         let element = OpenElement {
-            tag,
-            start,
             contents: inside,
             room,
             extent,

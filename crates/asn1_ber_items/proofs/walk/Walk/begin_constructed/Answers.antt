@@ -18,14 +18,13 @@ returns-in-Ok c = λ splits less consistent.
     let last = c.args.self.now.written.last.items in
     let segments = segments_of c.args.self.now.written in
     let new = segments_of c.begin_constructed.new.self in
-    let e : OpenElement = record { tag = c.args.tag; start = c.in_ok-start.start; contents = c.in_ok-inside.inside; room = c.in_ok-room.room; extent = c.args.extent } in
-    let starts : e.start ≡ length (joined segments) = c.in_ok-start.ensures consistent.counted in
+    let e : OpenElement = record { contents = c.in_ok-inside.inside; room = c.in_ok-room.room; extent = c.args.extent } in
     let inside : e.contents ≡ length (joined new) = c.in_ok-inside.ensures a.counted in
     let more : joined new ≡ joined segments ++ a.front = ap joined a.are ∙ joined-more full a.after last a.front a.none_after in
     let pushed = c.in-Ok.ensures.items in
-    let begun = begun_too es e full a.after last a.front a.begun a.segment a.index (starts ∙ ap length (joined-last full last)) (inside ∙ ap length more ∙ ap (λ l. length (l ++ a.front)) (joined-last full last)) consistent.begun in
+    let begun = begun_too es e full a.after last a.front c.args.tag a.begun a.segment a.index (inside ∙ ap length more ∙ ap (λ l. length (l ++ a.front)) (joined-last full last)) consistent.begun in
     let s = subst (λ (fs : List OpenElement). Steps es fs left contents (joined segments) (joined new)) (sym pushed)
-    (steps_in es e left contents (joined segments) a.front (joined new) splits more starts inside (all_opened es segments consistent.begun)) in
+    (steps_in es e left contents (joined segments) a.front (joined new) c.args.tag a.begun splits more inside (all_opened es segments consistent.begun)) in
     record {
       consistent = record {
         begun = subst (λ fs. AreBegun fs (λ _. ⊤) new) (sym pushed) (subst (AreBegun (es ++ e ∷ []) (λ _. ⊤)) (sym a.are) begun);
