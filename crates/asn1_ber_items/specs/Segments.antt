@@ -28,6 +28,13 @@ written_in s = joined (segments_of s)
 abbrev pub IsCounted : Segments → Type 0
 IsCounted s = s.counted ≡ length (joined (octets_of_each s.full.items))
 
+-- Other segments may follow, without octets.
+pub record IsExtended (old new : Segments) : Type 0 where
+  pub after : List (List ℕ)
+  pub are : segments_of new ≡ octets_of_each old.full.items ++ old.last.items ∷ after
+  pub none_after : joined after ≡ []
+  pub counted : IsCounted new
+
 -- A length of this size is in the place of the one octet that was left for it, between the octets before and those after. It has
 -- this many octets beyond one.
 pub record IsMeasured (size : ℕ) (front rest new : List ℕ) (added : ℕ) : Type 0 where

@@ -1,5 +1,5 @@
 //! Octets in segments: the buffers in which the normal form is written. (A segment of X.690, 8.7.3, is a piece here.)
-ghost use Rattle.asn1_ber_items.specs.Segments.{IsBegunAt, IsCounted, WritesSizeIn, segments_of, written_in};
+ghost use Rattle.asn1_ber_items.specs.Segments.{IsBegunAt, IsCounted, IsExtended, WritesSizeIn, segments_of, written_in};
 ghost use Rattle.std.specs.Prelude.{◌≡◌, ◌++◌, ◌∷◌, [], Decides, IfOk, length};
 
 use crate::size::write_size;
@@ -8,10 +8,10 @@ use asn1_tags::Tag;
 use std::alloc::{AllocError, Global};
 use std::mem::replace;
 
-/// A segment that has this many octets is followed by another, if a length is to grow at its end.
-const LONG: usize = 256;
+/// A segment with this many octets is followed by another, so that a length that grows moves few octets.
+const LONG: usize = 512;
 
-/// Octets that are written in segments, so that a length can grow at the end of one without a move of those after it.
+/// Octets that are written in segments, so that a length can grow in one without a move of those in others.
 #[derive(Drop)]
 pub(crate) struct Segments {
     alloc: Global,
@@ -90,6 +90,17 @@ impl Segments {
         }
         self.begin_segment()?;
         Ok(room)
+    }
+
+    /// Makes room for so many octets, which are to be written next: they are in another segment, if they are many, or the last is long.
+    pub(crate) fn make_room(&mut self, count: usize) -> Result<(), AllocError>
+        ensures { IsCounted self.old → IfOk result (λ _. IsExtended self.old self.new) }
+    {
+        if self.ends_short() && count < LONG {
+            return Ok(());
+        }
+        self.begin_segment()?;
+        Ok(())
     }
 
     /// Begins another segment.

@@ -184,6 +184,7 @@ impl<'a> Walk<'a> {
             length back.now < length self.old.left.now → IsConsistent self.old →
             MatchResult result (λ _. Goes self.old self.new) (λ e. e ≡ Memory) }
     {
+        self.written.make_room(contents.len())?;
         append_element(&mut self.written.last, tag, contents)?;
         self.left = back;
         Ok(())
