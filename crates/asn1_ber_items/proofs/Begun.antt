@@ -1,10 +1,11 @@
 -- Where open elements were begun, by segments and in all that was written.
 use Rattle.std.proofs.Common.{◌≡◌, ◌⊎◌, inl, inr, ℕ, suc, true, List, [], ◌∷◌, ◌++◌, ◌-◌, append-nil, append_assoc, length, length-append, refl, ap, sym, subst, ◌∙◌, arith}
 use Rattle.std.specs.Bool.{⊤}
-use Rattle.asn1_ber_items.specs.Segments.{joined}
+use Rattle.asn1_ber_items.specs.Segments.{IsExtended, joined, octets_of_each, segments_of}
+use Rattle.asn1_ber_items.specs.declared.segments.Segments.{Segments}
 use Rattle.asn1_ber_items.specs.Walks.{AreBegun, IsBegunIn}
 use Rattle.asn1_ber_items.specs.declared.open_element.OpenElement.{OpenElement}
-use Rattle.asn1_ber_items.proofs.Joined.{joined-last, joined_at}
+use Rattle.asn1_ber_items.proofs.Joined.{joined-last, joined-more, joined_at}
 use Rattle.asn1_ber_items.proofs.Snoc.{IsSnoc, same_last, view}
 use Rattle.asn1_ber_items.proofs.Walking.{AreOpen, IsOpenIn}
 use Rattle.asn1_der_items.specs.Elements.{IsBegun, IsElement}
@@ -84,8 +85,20 @@ grow_with (e ∷ es) Before grows first more last own b = grow_with es (IsBegunI
 pub grow : (es : List OpenElement) (first more : List (List ℕ)) (last own : List ℕ) → AreBegun es (λ _. ⊤) (first ++ last ∷ []) → AreBegun es (λ _. ⊤) (first ++ (last ++ own) ∷ more)
 grow es first more last own b = grow_with es (λ _. ⊤) (λ _ _ _ _ _. tt) first more last own b
 
+-- so where segments without octets follow
+module _ (old new : Segments) (x : IsExtended old new) where
+  no_more : octets_of_each old.full.items ++ (old.last.items ++ []) ∷ x.after ≡ segments_of new
+  no_more = ap (λ l. octets_of_each old.full.items ++ l ∷ x.after) (append-nil old.last.items) ∙ sym x.are
+
+  pub extended : (es : List OpenElement) → AreBegun es (λ _. ⊤) (segments_of old) → AreBegun es (λ _. ⊤) (segments_of new)
+  extended es b = subst (AreBegun es (λ _. ⊤)) no_more (grow es (octets_of_each old.full.items) x.after old.last.items [] b)
+
+  pub extended_joined : joined (segments_of new) ≡ joined (segments_of old)
+  extended_joined =
+      ap joined (sym no_more) ∙ joined-more (octets_of_each old.full.items) x.after old.last.items [] x.none_after ∙ append-nil (joined (segments_of old))
+
 -- an element that was begun is inside what is open
-pub begun_too : (es : List OpenElement) (e : OpenElement) (first more : List (List ℕ)) (last front : List ℕ) (tag : Tag) → IsBegun tag true front → e.room.segment ≡ length first → suc e.room.index ≡ length (last ++ front) →
+pub begun_too : (es : List OpenElement) (e : OpenElement) (first more : List (List ℕ)) (last front : List ℕ) (tag : Tag) → IsBegun tag true front → e.segment ≡ length first → suc e.index ≡ length (last ++ front) →
     e.contents ≡ length ((joined first ++ last) ++ front) → AreBegun es (λ _. ⊤) (first ++ last ∷ []) → AreBegun (es ++ e ∷ []) (λ _. ⊤) (first ++ (last ++ front) ∷ more)
 begun_too es e first more last front tag begun segment index inside b = begun_out es e (λ _. ⊤) (first ++ (last ++ front) ∷ more) (record {
   before = first;
@@ -109,7 +122,7 @@ module _ (outer : List OpenElement) (e : OpenElement) (segments : List (List ℕ
   room_last = b.are ∙ ap (λ l. b.before ++ ((b.outside ++ l) ++ b.rest) ∷ b.after) b.begun.are
       ∙ ap (λ l. b.before ++ (l ++ b.rest) ∷ b.after) (sym (append_assoc b.outside b.begun.identifier (b.begun.room ∷ [])))
 
-  pub room_at : e.room.index ≡ length (b.outside ++ b.begun.identifier)
+  pub room_at : e.index ≡ length (b.outside ++ b.begun.identifier)
   room_at = omega (arith, b.index, ap (λ l. length (b.outside ++ l)) b.begun.are, length-append b.outside (b.begun.identifier ++ b.begun.room ∷ []), length-append b.begun.identifier (b.begun.room ∷ []), length-append b.outside b.begun.identifier)
 
   pub size_is : length (joined segments) - e.contents ≡ length (b.rest ++ joined b.after)

@@ -7,7 +7,7 @@ use Rattle.asn1_tags.specs.declared.tags.Tag.{Tag}
 use Rattle.asn1_der_items.specs.Elements.{IsBegun, IsElement}
 use Rattle.asn1_ber_items.specs.Headers.{Header, end_of_contents, header_at}
 use Rattle.asn1_der_items.specs.Cuts.{IsMissing}
-use Rattle.asn1_ber_items.specs.Walks.{Comes, IsAfter, IsClosing, IsCopy, IsOver, IsRefused, Outcome, Remains, Splits, bytes_after, bytes_behind, end_of}
+use Rattle.asn1_ber_items.specs.Walks.{Comes, IsAfter, IsClosing, IsCopy, IsOver, IsRefused, Outcome, Remains, Splits, bytes_after, bytes_behind, end_of, extent_of}
 use Rattle.asn1_ber_items.specs.declared.open_element.Extent.{Extent}
 use Rattle.asn1_ber_items.specs.declared.open_element.Extent.TheVariants.{Definite, Indefinite}
 use Rattle.asn1_ber_items.specs.declared.open_element.OpenElement.{OpenElement}
@@ -20,12 +20,12 @@ pub record Steps (es fs : List OpenElement) (left back written new : List ℕ) :
   pub ahead : (outcome : Outcome) → ¬ IsOver outcome es left written → Comes es (Remains outcome) left written → Comes fs (Remains outcome) back new
   pub behind : (outcome : Outcome) → ¬ IsOver outcome es left written → Comes fs (Remains outcome) back new → Comes es (Remains outcome) left written
 
-bytes_behind-last : (es : List OpenElement) (e : OpenElement) → bytes_behind (es ++ e ∷ []) ≡ bytes_behind es + bytes_after e.extent
+bytes_behind-last : (es : List OpenElement) (e : OpenElement) → bytes_behind (es ++ e ∷ []) ≡ bytes_behind es + bytes_after (extent_of e)
 bytes_behind-last [] e = omega arith
 bytes_behind-last (f ∷ es) e = omega (arith, bytes_behind-last es e)
 
 -- a constructed element that ends
-pub steps_out : (es outer : List OpenElement) (e : OpenElement) (left back written new own : List ℕ) → es ≡ outer ++ e ∷ [] → left ≡ end_of e.extent back → IsAfter e.extent back →
+pub steps_out : (es outer : List OpenElement) (e : OpenElement) (left back written new own : List ℕ) → es ≡ outer ++ e ∷ [] → left ≡ end_of (extent_of e) back → IsAfter (extent_of e) back →
     (b : IsOpenIn e (AreOpen outer (λ _. ⊤)) written) → IsElement b.tag true b.contents own → new ≡ b.before ++ own → Steps es outer left back written new
 steps_out es outer e left back written new own are ends after b element joined = record {
   ahead = λ outcome more comes. subst (λ l. Comes outer (Remains outcome) back l) (sym joined)
@@ -39,26 +39,26 @@ extent_less : (x : Extent) (left back : List ℕ) (n : ℕ) → left ≡ end_of 
 extent_less (Definite after) left back n ends after_is = omega (arith, ap length ends, ap length after_is)
 extent_less Indefinite left back n ends after_is = omega (arith, ap length ends)
 
-pub less_out : (es outer : List OpenElement) (e : OpenElement) (left back : List ℕ) → es ≡ outer ++ e ∷ [] → left ≡ end_of e.extent back → IsAfter e.extent back →
+pub less_out : (es outer : List OpenElement) (e : OpenElement) (left back : List ℕ) → es ≡ outer ++ e ∷ [] → left ≡ end_of (extent_of e) back → IsAfter (extent_of e) back →
     2 * (length back + bytes_behind outer) + length outer < 2 * (length left + bytes_behind es) + length es
 less_out es outer e left back are ends after =
-    omega (arith, ap bytes_behind are, ap length are, length-append outer (e ∷ []), bytes_behind-last outer e, extent_less e.extent left back (bytes_behind outer) ends after)
+    omega (arith, ap bytes_behind are, ap length are, length-append outer (e ∷ []), bytes_behind-last outer e, extent_less (extent_of e) left back (bytes_behind outer) ends after)
 
 -- a constructed element that begins
-pub steps_in : (es : List OpenElement) (e : OpenElement) (left contents written front new : List ℕ) (tag : Tag) → IsBegun tag true front → Splits (IsClosing tag e.extent contents) left →
+pub steps_in : (es : List OpenElement) (e : OpenElement) (left contents written front new : List ℕ) (tag : Tag) → IsBegun tag true front → Splits (IsClosing tag (extent_of e) contents) left →
     new ≡ written ++ front → e.contents ≡ length new → AreOpen es (λ _. ⊤) written → Steps es (es ++ e ∷ []) left contents written new
 steps_in es e left contents written front new tag begun splits joined inside consistent =
     let at : e.contents ≡ length (written ++ front) = inside ∙ ap length joined in
     record {
       ahead = λ outcome more comes.
-          let q = consumed (IsClosing tag e.extent contents) left splits outcome written es more consistent comes in
+          let q = consumed (IsClosing tag (extent_of e) contents) left splits outcome written es more consistent comes in
           subst (λ l. Comes (es ++ e ∷ []) (Remains outcome) contents l) (sym joined) (goes_in es e contents written front tag begun at outcome q.own q.back q.is q.comes);
       behind = λ outcome more comes.
           let q = comes_back es e contents written front tag begun at outcome (subst (λ l. Comes (es ++ e ∷ []) (Remains outcome) contents l) joined comes) in
-          produced (IsClosing tag e.extent contents) left splits outcome written es q.own q.back q.is more consistent q.comes;
+          produced (IsClosing tag (extent_of e) contents) left splits outcome written es q.own q.back q.is more consistent q.comes;
     }
 
-pub less_in : (es : List OpenElement) (e : OpenElement) (left contents : List ℕ) → length contents + bytes_after e.extent < length left →
+pub less_in : (es : List OpenElement) (e : OpenElement) (left contents : List ℕ) → length contents + bytes_after (extent_of e) < length left →
     2 * (length contents + bytes_behind (es ++ e ∷ [])) + length (es ++ e ∷ []) < 2 * (length left + bytes_behind es) + length es
 less_in es e left contents less = omega (arith, less, bytes_behind-last es e, length-append es (e ∷ []))
 

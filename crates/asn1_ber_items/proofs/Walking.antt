@@ -9,7 +9,7 @@ use Rattle.asn1_der_items.specs.Elements.{IsBegun, IsElement}
 use Rattle.asn1_der_items.specs.Lengths.{IsLength}
 use Rattle.asn1_tags.specs.declared.tags.Tag.{Tag}
 use Rattle.asn1_ber_items.specs.Spellings.{Spells, SpellsOne, nothing}
-use Rattle.asn1_ber_items.specs.Walks.{AreInside, AreLast, Comes, IsAfter, IsClosing, IsEnd, IsFront, IsOver, Outcome, Remains, Splits, end_octets, end_of, nothing_left, of_all, of_first}
+use Rattle.asn1_ber_items.specs.Walks.{AreInside, AreLast, Comes, IsAfter, IsClosing, IsEnd, IsFront, IsOver, Outcome, Remains, Splits, end_octets, end_of, nothing_left, of_all, of_first, extent_of}
 use Rattle.asn1_ber_items.specs.declared.open_element.Extent.{Extent}
 use Rattle.asn1_ber_items.specs.declared.open_element.Extent.TheVariants.{Definite, Indefinite}
 use Rattle.asn1_ber_items.specs.declared.open_element.OpenElement.{OpenElement}
@@ -100,7 +100,7 @@ module _ (Is : List ℕ → List ℕ → Type 0) (left : List ℕ) (splits : Spl
 module _ (Is : List ℕ → List ℕ → Type 0) (left : List ℕ) (splits : Splits Is left) (outcome : Outcome) (written : List ℕ) where
   consumed_inside : (outer : List OpenElement) (e : OpenElement) → IsOpenIn e (AreOpen outer (λ _. ⊤)) written → AreInside e (Comes outer (Remains outcome)) left written → Consumed Is (outer ++ e ∷ []) outcome written
   consumed_inside outer e b i =
-      let s = splits.ahead i.others (end_of e.extent i.back) (is_end e.extent i.back) i.spell in
+      let s = splits.ahead i.others (end_of (extent_of e) i.back) (is_end (extent_of e) i.back) i.spell in
       let inside : e.contents ≤ length written = omega (arith, b.inside, ap length b.are, length-append (b.before ++ b.front) b.contents) in
       let front : e.contents - 1 ≤ length written = omega (arith, inside) in
       let same : drop e.contents written ++ i.others ≡ drop e.contents (written ++ s.own) ++ s.later =
@@ -140,7 +140,7 @@ module _ (Is : List ℕ → List ℕ → Type 0) (left : List ℕ) (splits : Spl
         others = own ++ i.others;
         back = i.back;
         size = i.size;
-        spell = splits.behind own back i.others (end_of e.extent i.back) is i.spell;
+        spell = splits.behind own back i.others (end_of (extent_of e) i.back) is i.spell;
         after = i.after;
         is_size = subst (λ l. IsLength (length l) i.size) same i.is_size;
         later =
@@ -175,7 +175,7 @@ module _ (es : List OpenElement) (e : OpenElement) (contents written front : Lis
   dropped : drop e.contents (written ++ front) ≡ []
   dropped = ap (λ l. drop e.contents l) (sym (append-nil (written ++ front))) ∙ ap (λ n. drop n ((written ++ front) ++ [])) inside ∙ drop-append_seam (written ++ front) []
 
-  pub goes_in : (outcome : Outcome) (own back : List ℕ) → IsClosing tag e.extent contents own back → Comes es (Remains outcome) back (written ++ own) → Comes (es ++ e ∷ []) (Remains outcome) contents (written ++ front)
+  pub goes_in : (outcome : Outcome) (own back : List ℕ) → IsClosing tag (extent_of e) contents own back → Comes es (Remains outcome) back (written ++ own) → Comes (es ++ e ∷ []) (Remains outcome) contents (written ++ front)
   goes_in outcome own back c comes =
       comes_out es e (Remains outcome) contents (written ++ front) (record {
         others = c.others;
@@ -191,7 +191,7 @@ module _ (es : List OpenElement) (e : OpenElement) (contents written front : Lis
             (ap (λ l. written ++ l) (begun_own tag front c.others own begun c.element) ∙ sym (append_assoc written begun.identifier (c.element.size ++ c.others))) comes));
       })
 
-  pub comes_back : (outcome : Outcome) → Comes (es ++ e ∷ []) (Remains outcome) contents (written ++ front) → Consumed (IsClosing tag e.extent contents) es outcome written
+  pub comes_back : (outcome : Outcome) → Comes (es ++ e ∷ []) (Remains outcome) contents (written ++ front) → Consumed (IsClosing tag (extent_of e) contents) es outcome written
   comes_back outcome comes =
       let i = comes_in es e (Remains outcome) contents (written ++ front) comes in
       record {
@@ -221,7 +221,7 @@ same_back (Definite after) back other a b e = sym a ∙ b
 same_back Indefinite back other a b e = cc
 
 -- an open element that ends
-module _ (outer : List OpenElement) (e : OpenElement) (left written back own : List ℕ) (ends : left ≡ end_of e.extent back) (after : IsAfter e.extent back)
+module _ (outer : List OpenElement) (e : OpenElement) (left written back own : List ℕ) (ends : left ≡ end_of (extent_of e) back) (after : IsAfter (extent_of e) back)
     (b : IsOpenIn e (AreOpen outer (λ _. ⊤)) written) (element : IsElement b.tag true b.contents own) where
   apart : written ≡ (b.before ++ b.begun.identifier) ++ b.begun.room ∷ b.contents
   apart = b.are ∙ ap (λ l. (b.before ++ l) ++ b.contents) b.begun.are ∙ ap (λ l. l ++ b.contents) (sym (append_assoc b.before b.begun.identifier (b.begun.room ∷ [])))
@@ -245,12 +245,12 @@ module _ (outer : List OpenElement) (e : OpenElement) (left written back own : L
   ends_ahead outcome comes = by (comes_in outer e (Remains outcome) left written comes)
     where
       by : AreInside e (Comes outer (Remains outcome)) left written → Comes outer (Remains outcome) back (b.before ++ own)
-      by i = at (none_or_more left i.others (end_of e.extent i.back) i.spell)
+      by i = at (none_or_more left i.others (end_of (extent_of e) i.back) i.spell)
         where
-          at : ((left ≡ end_of e.extent i.back) × (i.others ≡ [])) ⊎ Begins left → Comes outer (Remains outcome) back (b.before ++ own)
-          at (inr b) = absurd (none_begins (end_of e.extent back) (is_end e.extent back) (subst Begins ends b))
+          at : ((left ≡ end_of (extent_of e) i.back) × (i.others ≡ [])) ⊎ Begins left → Comes outer (Remains outcome) back (b.before ++ own)
+          at (inr b) = absurd (none_begins (end_of (extent_of e) back) (is_end (extent_of e) back) (subst Begins ends b))
           at (inl none) =
-              let same : i.back ≡ back = sym (same_back e.extent back i.back after i.after (sym ends ∙ none.0)) in
+              let same : i.back ≡ back = sym (same_back (extent_of e) back i.back after i.after (sym ends ∙ none.0)) in
               let contents : drop e.contents written ++ i.others ≡ b.contents = ap (λ l. drop e.contents written ++ l) none.1 ∙ append-nil (drop e.contents written) ∙ dropped_front in
               let one : i.size ≡ element.size = one_length (length b.contents) i.size element.size (subst (λ l. IsLength (length l) i.size) contents i.is_size) element.is_size in
               subst (λ l. Comes outer (Remains outcome) l (b.before ++ own)) same
@@ -263,7 +263,7 @@ module _ (outer : List OpenElement) (e : OpenElement) (left written back own : L
     others = [];
     back = back;
     size = element.size;
-    spell = subst (λ l. Spells l [] (end_of e.extent back)) (sym ends) (nothing (end_of e.extent back));
+    spell = subst (λ l. Spells l [] (end_of (extent_of e) back)) (sym ends) (nothing (end_of (extent_of e) back));
     after = after;
     is_size = subst (λ l. IsLength (length l) element.size) (sym dropped_front ∙ sym (append-nil (drop e.contents written))) element.is_size;
     later =
@@ -286,18 +286,18 @@ begins_last (of_first normal rest) left [] more s = by (none_or_more left normal
 begins_last (of_first normal rest) left (o ∷ written) more s = absurd (more (refl, λ e. cc))
 
 module _ (es : List OpenElement) (left written : List ℕ) (outcome : Outcome) (more : ¬ IsOver outcome es left written)
-    (none : (outer : List OpenElement) (e : OpenElement) (back : List ℕ) → es ≡ outer ++ e ∷ [] → left ≡ end_of e.extent back → IsAfter e.extent back → ⊥) where
+    (none : (outer : List OpenElement) (e : OpenElement) (back : List ℕ) → es ≡ outer ++ e ∷ [] → left ≡ end_of (extent_of e) back → IsAfter (extent_of e) back → ⊥) where
   pub begins : Comes es (Remains outcome) left written → Begins left
   begins = by es more none (view es)
     where
-      inside : (outer : List OpenElement) (e : OpenElement) → ((back : List ℕ) → left ≡ end_of e.extent back → IsAfter e.extent back → ⊥) → AreInside e (Comes outer (Remains outcome)) left written → Begins left
-      inside outer e not i = at (none_or_more left i.others (end_of e.extent i.back) i.spell)
+      inside : (outer : List OpenElement) (e : OpenElement) → ((back : List ℕ) → left ≡ end_of (extent_of e) back → IsAfter (extent_of e) back → ⊥) → AreInside e (Comes outer (Remains outcome)) left written → Begins left
+      inside outer e not i = at (none_or_more left i.others (end_of (extent_of e) i.back) i.spell)
         where
-          at : ((left ≡ end_of e.extent i.back) × (i.others ≡ [])) ⊎ Begins left → Begins left
+          at : ((left ≡ end_of (extent_of e) i.back) × (i.others ≡ [])) ⊎ Begins left → Begins left
           at (inl ended) = absurd (not i.back ended.0 i.after)
           at (inr b) = b
 
-      by : (fs : List OpenElement) → ¬ IsOver outcome fs left written → ((outer : List OpenElement) (e : OpenElement) (back : List ℕ) → fs ≡ outer ++ e ∷ [] → left ≡ end_of e.extent back → IsAfter e.extent back → ⊥) → (fs ≡ []) ⊎ IsSnoc fs →
+      by : (fs : List OpenElement) → ¬ IsOver outcome fs left written → ((outer : List OpenElement) (e : OpenElement) (back : List ℕ) → fs ≡ outer ++ e ∷ [] → left ≡ end_of (extent_of e) back → IsAfter (extent_of e) back → ⊥) → (fs ≡ []) ⊎ IsSnoc fs →
           Comes fs (Remains outcome) left written → Begins left
       by fs more none (inl empty) comes =
           begins_last outcome left written (subst (λ gs. ¬ IsOver outcome gs left written) empty more) (subst (λ gs. Comes gs (Remains outcome) left written) empty comes)

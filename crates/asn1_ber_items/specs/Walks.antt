@@ -1,5 +1,5 @@
 -- The walk through elements of BER: the elements that are open, and what is to come.
-use Rattle.std.specs.Prelude.{◌≡◌, ◌≢◌, ⊤, ℕ, suc, ◌+◌, ◌-◌, ◌*◌, ◌<◌, Some, true, List, [], ◌∷◌, ◌++◌, length, take, drop}
+use Rattle.std.specs.Prelude.{◌≡◌, ◌≢◌, ⊤, ℕ, suc, ◌+◌, ◌-◌, ◌*◌, ◌<◌, Some, true, List, [], ◌∷◌, ◌++◌, length, take, drop, if◌then◌else◌}
 use Rattle.asn1_ber_items.specs.Headers.{end_of_contents, header_at, header_of}
 use Rattle.asn1_ber_items.specs.Segments.{IsCounted, joined, segments_of, written_in}
 use Rattle.asn1_ber_items.specs.Spellings.{Spells, SpellsOne}
@@ -41,6 +41,10 @@ abbrev pub IsOver : Outcome → List OpenElement → List ℕ → List ℕ → T
 IsOver (of_all normal) es left written = (es ≡ []) × (left ≡ [])
 IsOver (of_first normal rest) es left written = (es ≡ []) × (written ≢ [])
 
+-- where an open element ends
+abbrev pub extent_of : OpenElement → Extent
+extent_of e = if e.is_definite then Definite e.after else Indefinite
+
 -- what is left after the elements inside an open element, if these bytes follow it
 abbrev pub end_of : Extent → List ℕ → List ℕ
 end_of (Definite after) back = []
@@ -57,8 +61,8 @@ pub record AreInside (e : OpenElement) (Later : List ℕ → List ℕ → Type 0
   pub others : List ℕ
   pub back : List ℕ
   pub size : List ℕ
-  pub spell : Spells left others (end_of e.extent back)
-  pub after : IsAfter e.extent back
+  pub spell : Spells left others (end_of (extent_of e) back)
+  pub after : IsAfter (extent_of e) back
   pub is_size : IsLength (length (drop e.contents written ++ others)) size
   pub later : Later back (take (e.contents - 1) written ++ (size ++ (drop e.contents written ++ others)))
 
@@ -86,8 +90,8 @@ pub record IsBegunIn (e : OpenElement) (Before : List (List ℕ) → Type 0) (se
   pub tag : Tag
   pub begun : IsBegun tag true front
   pub are : segments ≡ before ++ ((outside ++ front) ++ rest) ∷ after
-  pub segment : e.room.segment ≡ length before
-  pub index : suc e.room.index ≡ length (outside ++ front)
+  pub segment : e.segment ≡ length before
+  pub index : suc e.index ≡ length (outside ++ front)
   pub inside : e.contents ≡ length ((joined before ++ outside) ++ front)
   pub outer : Before (before ++ outside ∷ [])
 
@@ -109,7 +113,7 @@ bytes_after Indefinite = 0
 -- how many bytes follow elements of definite lengths
 abbrev pub bytes_behind : List OpenElement → ℕ
 bytes_behind [] = 0
-bytes_behind (e ∷ es) = bytes_after e.extent + bytes_behind es
+bytes_behind (e ∷ es) = bytes_after (extent_of e) + bytes_behind es
 
 -- how much is left to do: each octet twice at most, and each open element once
 abbrev pub work : Walk → ℕ
@@ -153,8 +157,8 @@ pub record IsEnding (walk : Walk) (back : List ℕ) : Type 0 where
   pub outer : List OpenElement
   pub innermost : OpenElement
   pub are : walk.begun.items ≡ outer ++ innermost ∷ []
-  pub ends : walk.left.now ≡ end_of innermost.extent back
-  pub after : IsAfter innermost.extent back
+  pub ends : walk.left.now ≡ end_of (extent_of innermost) back
+  pub after : IsAfter (extent_of innermost) back
 
 -- The header is that of the next element.
 pub record IsElementHere (header : HeaderRead) (walk : Walk) : Type 0 where

@@ -26,10 +26,10 @@ pub(crate) struct Segments {
 /// The octet that is left for the length of an element.
 #[derive(Clone, Copy, Drop)]
 pub(crate) struct Room {
-    /// The number of its segment.
-    segment: usize,
-    /// Its index there.
-    index: usize,
+    /// The number of its segment. There are fewer than 2^32, since each has many octets.
+    pub(crate) segment: u32,
+    /// Its index there. It is small, since a long segment is followed by another.
+    pub(crate) index: u16,
 }
 
 impl Segments {
@@ -66,37 +66,25 @@ impl Segments {
         }
     }
 
-    /// Whether the last segment is so short that a length in it may grow: few octets are moved then.
-    pub(crate) fn ends_short(&self) -> bool {
-        self.last.len() < LONG
-    }
-
-    /// Begins a constructed element: its contents octets are to be written next, in the same segment or in another, and its length
-    /// then.
-    pub(crate) fn begin_constructed(
-        &mut self,
-        tag: Tag,
-        same_segment: bool,
-    ) -> Result<Room, AllocError>
+    /// Begins a constructed element: its contents octets are to be written next, and its length then.
+    pub(crate) fn begin_constructed(&mut self, tag: Tag) -> Result<Room, AllocError>
         ensures { IsCounted self.old → IfOk result (IsBegunAt tag self.old self.new) }
     {
         begin_element(&mut self.last, tag, true)?;
-        let room = Room {
-            segment: self.full.len(),
-            index: self.last.len() - 1,
+        let Ok(segment) = u32::try_from(self.full.len()) else {
+            return Err(AllocError);
         };
-        if same_segment {
-            return Ok(room);
-        }
-        self.begin_segment()?;
-        Ok(room)
+        let Ok(index) = u16::try_from(self.last.len() - 1) else {
+            return Err(AllocError);
+        };
+        Ok(Room { segment, index })
     }
 
     /// Makes room for so many octets, which are to be written next: they are in another segment, if they are many, or the last is long.
     pub(crate) fn make_room(&mut self, count: usize) -> Result<(), AllocError>
         ensures { IsCounted self.old → IfOk result (λ _. IsExtended self.old self.new) }
     {
-        if self.ends_short() && count < LONG {
+        if self.last.len() < LONG && count < LONG {
             return Ok(());
         }
         self.begin_segment()?;
@@ -119,9 +107,10 @@ impl Segments {
     pub(crate) fn write_size(&mut self, room: Room, size: usize) -> Result<(), AllocError>
         ensures { WritesSizeIn room size self.old self.new result }
     {
-        match self.full.get_mut(room.segment) {
+        let index = room.index as usize;
+        match self.full.get_mut(room.segment as usize) {
             Some(octets) => {
-                let added = write_size(octets, room.index, size)?;
+                let added = write_size(octets, index, size)?;
                 match self.counted.checked_add(added) {
                     Some(counted) => {
                         self.counted = counted;
@@ -131,7 +120,7 @@ impl Segments {
                 }
             }
             None => {
-                write_size(&mut self.last, room.index, size)?;
+                write_size(&mut self.last, index, size)?;
                 Ok(())
             }
         }

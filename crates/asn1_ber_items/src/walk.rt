@@ -84,7 +84,7 @@ impl<'a> Walk<'a> {
         let [.., innermost] = self.begun.as_slice() else {
             return None;
         };
-        match innermost.extent {
+        match innermost.extent() {
             Extent::Definite(after) if self.left.is_empty() => Some(after),
             Extent::Definite(_) => None,
             Extent::Indefinite => match self.left {
@@ -104,7 +104,7 @@ impl<'a> Walk<'a> {
         };
         let written = self.written.len()?;
         let size = written.saturating_sub(element.contents);
-        self.written.write_size(element.room, size)?;
+        self.written.write_size(element.room(), size)?;
         self.left = back;
         Ok(())
     }
@@ -160,14 +160,9 @@ impl<'a> Walk<'a> {
             IsConsistent self.old →
             MatchResult result (λ _. Goes self.old self.new) (λ e. e ≡ Memory) }
     {
-        let same_segment = are_few(contents, extent) || self.written.ends_short();
-        let room = self.written.begin_constructed(tag, same_segment)?;
-        let inside = self.written.len()?;
-        let element = OpenElement {
-            contents: inside,
-            room,
-            extent,
-        };
+        self.written.make_room(0)?;
+        let room = self.written.begin_constructed(tag)?;
+        let element = OpenElement::new(self.written.len()?, room, extent);
         match self.begun.push(element) {
             Ok(()) => {
                 self.left = contents;
@@ -200,14 +195,6 @@ fn error_of_form(error: ItemError) -> ItemError
         ItemError::Memory => ItemError::Memory,
         ItemError::Missing(_) => ItemError::Malformed,
         ItemError::Malformed => ItemError::Malformed,
-    }
-}
-
-/// Whether contents octets are so few that their length has one octet, also in the normal form.
-fn are_few(contents: &[u8], extent: Extent<'_>) -> bool {
-    match extent {
-        Extent::Definite(_) => contents.len() < 128,
-        Extent::Indefinite => false,
     }
 }
 

@@ -1,12 +1,12 @@
-use Rattle.std.proofs.Common.{◌∷◌, ◌++◌, [], append_assoc, length, length-append, refl, ap, ◌∙◌, arith}
+use Rattle.std.proofs.Common.{◌∷◌, ◌++◌, [], length, length-append, refl, ap, arith}
 use Rattle.std.proofs.lemmas.List.{length-map}
 use Rattle.std.specs.Prelude.{Vec, ℕ}
 use Rattle.std.specs.declared.alloc.Global.{Global}
 use Rattle.asn1_ber_items.specs.Segments.{octets_of_each}
 use Rattle.asn1_ber_items.proofs.segments.Segments.begin_constructed.Goals as goal
 
-pub returns-then-same_segment : goal.returns-then-same_segment
-returns-then-same_segment c = λ counted.
+pub returns : goal.returns
+returns c = λ counted.
     let a = c.in_ok-begin_element.ensures in
     let full = c.args.self.now.full in
     record {
@@ -18,19 +18,4 @@ returns-then-same_segment c = λ counted.
       segment = omega (arith, c.len.ensures, full.ok.0, length-map full.items (λ (b : Vec ℕ Global). b.items));
       index = omega (arith, c.len-2.ensures, c.begin_element.new.bytes.ok.0, ap length a.joined, ap length a.is.are, length-append a.is.identifier (a.is.room ∷ []), length-append c.args.self.now.last.items a.added);
       counted = counted;
-    }
-
-pub returns : goal.returns
-returns c = λ counted.
-    let a = c.in_ok-begin_element.ensures in
-    let full = c.args.self.now.full in
-    record {
-      front = a.added;
-      after = [] ∷ [];
-      begun = a.is;
-      are = c.in_ok-begin_segment.ensures.segments ∙ append_assoc (octets_of_each full.items) (c.begin_element.new.bytes.items ∷ []) ([] ∷ []) ∙ ap (λ l. octets_of_each full.items ++ l ∷ [] ∷ []) a.joined;
-      none_after = refl;
-      segment = omega (arith, c.len.ensures, full.ok.0, length-map full.items (λ (b : Vec ℕ Global). b.items));
-      index = omega (arith, c.len-2.ensures, c.begin_element.new.bytes.ok.0, ap length a.joined, ap length a.is.are, length-append a.is.identifier (a.is.room ∷ []), length-append c.args.self.now.last.items a.added);
-      counted = c.in_ok-begin_segment.ensures.counted counted;
     }
