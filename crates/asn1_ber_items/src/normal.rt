@@ -33,7 +33,7 @@ pub fn normal_form(alloc: Global, bytes: &[u8]) -> Result<Vec<u8>, ItemError>
     while !walk.is_at_end() {
         walk.step()?;
     }
-    let normal = walk.written.join()?;
+    let normal = walk.finish()?;
     Ok(normal)
 }
 
@@ -64,9 +64,7 @@ pub fn front_element(alloc: Global, bytes: &[u8]) -> Result<FrontElement<'_>, It
     while !walk.is_after_front() {
         walk.step()?;
     }
-    let normal = walk.written.join()?;
-    Ok(FrontElement {
-        normal,
-        rest: walk.left,
-    })
+    let rest = walk.left;
+    let normal = walk.finish()?;
+    Ok(FrontElement { normal, rest })
 }

@@ -6,7 +6,7 @@ ghost use Rattle.asn1_ber_items.specs.Walks.{Goes, GoesOn, IsClosing, IsConsiste
 ghost use Rattle.asn1_der_items.specs.Elements.{IsElement};
 ghost use Rattle.asn1_items.specs.Numbers.{Appended};
 ghost use Rattle.asn1_items.specs.declared.error.ItemError.TheVariants.{Memory};
-ghost use Rattle.std.specs.Prelude.{◌≡◌, ◌≢◌, ◌∷◌, ◌++◌, ◌+◌, ◌<◌, ◌↔◌, [], Decides, List, MatchOption, MatchResult, Some, false, length, true, ℕ};
+ghost use Rattle.std.specs.Prelude.{◌≡◌, ◌≢◌, ◌∷◌, ◌++◌, ◌+◌, ◌<◌, ◌↔◌, [], Decides, IfOk, List, MatchOption, MatchResult, Some, false, length, true, ℕ};
 
 use crate::header::{Header, read_header};
 use crate::open_element::{Extent, OpenElement};
@@ -14,7 +14,7 @@ use crate::segments::Segments;
 use asn1_der_items::{begin_element, end_element};
 use asn1_items::ItemError;
 use asn1_tags::{Class, Tag};
-use std::alloc::Global;
+use std::alloc::{AllocError, Global};
 
 /// The tag of end-of-contents octets, which no element has (X.690, 8.1.5).
 const END_OF_CONTENTS: Tag = Tag {
@@ -60,6 +60,15 @@ impl<'a> Walk<'a> {
             (written_in self.now.written ≢ [])) }
     {
         self.begun.is_empty() && !self.written.is_empty()
+    }
+
+    /// What was written, in one buffer, without the memory of the open elements.
+    pub(crate) fn finish(self) -> Result<Vec<u8>, AllocError>
+        ensures { IfOk result (λ own. own.items ≡ written_in self.entry.written) }
+    {
+        let written = self.written;
+        drop(self.begun);
+        written.join()
     }
 
     /// Goes on.
