@@ -1,10 +1,9 @@
 -- Octets that end too early in a length, and in a header.
-use Rattle.std.proofs.Common.{◌≡◌, ◌≢◌, ℕ, zero, suc, ◌+◌, ◌-◌, ◌*◌, ◌^◌, ◌<◌, ◌≤◌, Bool, true, false, List, [], ◌∷◌, ◌++◌, Option, None, Some, append-nil, append_assoc, length, length-append, drop, take, slice_index_or, ap, refl, sym, subst, ◌∙◌, arith}
+use Rattle.std.proofs.Common.{◌≡◌, ◌≢◌, ℕ, zero, suc, ◌+◌, ◌-◌, ◌*◌, ◌^◌, ◌<◌, ◌≤◌, Bool, true, false, List, [], ◌∷◌, ◌++◌, Option, None, Some, append_assoc, length, length-append, drop, take, slice_index_or, ap, refl, sym, subst, ◌∙◌, arith}
 use Rattle.std.proofs.Math.Nat.{pow-suc}
-use Rattle.std.proofs.Math.Seq.{take-append_seam}
 use Rattle.std.proofs.lemmas.Bool.{le-leb, le-ltb, leb-true, lt-leb, lt-ltb, ltb-true, ne_eqb}
 use Rattle.std.proofs.lemmas.Int.Digits.{number_after_append}
-use Rattle.std.proofs.lemmas.List.{length-replicate, length-take-le, take-append-drop, take-append-le, take_all}
+use Rattle.std.proofs.lemmas.List.{length-replicate, length-take-le, take-append-le, take_all}
 use Rattle.std.specs.Int.Digits.{number_from_digits_after}
 use Rattle.std.specs.Option.{option_and_then, option_map}
 use Rattle.std.specs.Prelude.{◌↔◌, ◌&&◌, nat_eq, nat_le, nat_lt, replicate, if◌then◌else◌}
@@ -13,7 +12,7 @@ use Rattle.asn1_der_items.proofs.Cuts.{completed, early_behind, early_same}
 use Rattle.asn1_der_items.proofs.TrailingBytes.{identifier_at-append}
 use Rattle.asn1_der_items.specs.Cuts.{EndEarly}
 use Rattle.asn1_der_items.specs.Identifiers.{Identified, identifier_at}
-use Rattle.asn1_ber_items.specs.Headers.{Header, Measured, header_at, later_size_at, long_size_at, of_identifier, size_at, with_size}
+use Rattle.asn1_ber_items.specs.Headers.{Measured, header_at, later_size_at, long_size_at, of_identifier, size_at, with_size}
 
 some_is : {A : Type 0} {x y : A} → Some x ≡ Some y → x ≡ y
 some_is e = cc

@@ -1,5 +1,5 @@
 -- Octets that end inside the first element end inside what follows its header.
-use Rattle.std.proofs.Common.{◌≡◌, ◌≢◌, ℕ, suc, ◌<◌, true, false, List, [], ◌∷◌, ◌++◌, None, Some, length, length-append, refl, ap, sym, subst, ◌∙◌, arith}
+use Rattle.std.proofs.Common.{◌≡◌, ◌≢◌, ℕ, suc, ◌<◌, true, false, List, ◌∷◌, None, Some, length, length-append, refl, ap, sym, subst, ◌∙◌, arith}
 use Rattle.asn1_der_items.specs.Cuts.{EndEarly}
 use Rattle.asn1_ber_items.specs.Ends.{BeginDefinite, BeginIndefinite, EndsInside, IsCutContents, IsOver, behind_definite, behind_end, in_contents, in_header, in_indefinite}
 use Rattle.asn1_ber_items.specs.Headers.{Header, end_of_contents, header_at}
@@ -71,7 +71,7 @@ later_end _ _ back (behind_definite n octets held after d ends) is = absurd (no_
 later_end _ _ back (in_indefinite n octets inside b ends) is = absurd (no_end b.header back (sym (ap header_at is) ∙ b.begin.at) b.begin.is_element)
 later_end _ _ back (behind_end n after ends) is = record { outer = suc n; is = refl; some = omega arith; ends = subst (EndsInside (suc n)) (later_two after back is) ends }
 
--- where no header is there, it ends early
+-- the header ends early, if none is there
 pub no_header : (n : ℕ) (octets : List ℕ) → EndsInside n octets → ((h : Header) → header_at octets ≡ Some h → ⊥) → EndEarly header_at octets
 no_header _ _ (in_header n octets cut) none = cut
 no_header _ _ (in_contents n octets cut) none = absurd (none cut.header cut.at)

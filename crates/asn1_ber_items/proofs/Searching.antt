@@ -14,7 +14,7 @@ use Rattle.asn1_ber_items.proofs.Headers.{cut_shorter, header_shorter}
 use Rattle.asn1_ber_items.proofs.Inside.{EndsOutside, later_definite, later_end, later_indefinite}
 use Rattle.asn1_ber_items.proofs.Suffixes.{header_ends}
 
--- what holds of an option holds of less
+-- a property of an option, and a weaker one
 pub option_weaker : {V : Type 0} (o : Option V) (N M : Type 0) (P Q : V → Type 0) → MatchOption o N P → (N → M) → ((v : V) → P v → Q v) → MatchOption o M Q
 option_weaker None N M P Q is none some = none is
 option_weaker (Some v) N M P Q is none some = some v is

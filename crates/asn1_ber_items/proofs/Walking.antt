@@ -229,8 +229,14 @@ module _ (outer : List OpenElement) (e : OpenElement) (left written back own : L
 
   taken_before : take (e.contents - 1) written ≡ b.before ++ b.begun.identifier
   taken_before =
-      let long : e.contents - 1 ≡ length (b.before ++ b.begun.identifier) = omega (arith, b.inside, ap (λ l. length (b.before ++ l)) b.begun.are,
-      length-append b.before (b.begun.identifier ++ b.begun.room ∷ []), length-append b.begun.identifier (b.begun.room ∷ []), length-append b.before b.begun.identifier) in
+      let long : e.contents - 1 ≡ length (b.before ++ b.begun.identifier) = omega (
+        arith,
+        b.inside,
+        ap (λ l. length (b.before ++ l)) b.begun.are,
+        length-append b.before (b.begun.identifier ++ b.begun.room ∷ []),
+        length-append b.begun.identifier (b.begun.room ∷ []),
+        length-append b.before b.begun.identifier,
+      ) in
       ap (λ n. take n written) long ∙ ap (take (length (b.before ++ b.begun.identifier))) apart ∙ take-append_seam (b.before ++ b.begun.identifier) (b.begun.room ∷ b.contents)
 
   dropped_front : drop e.contents written ≡ b.contents

@@ -1,5 +1,5 @@
 -- The end of the first element, and octets that end inside it (X.690, 8.1).
-use Rattle.std.specs.Prelude.{◌≡◌, ◌≢◌, ◌↔◌, ⊤, ℕ, zero, suc, ◌+◌, ◌<◌, true, None, Some, List, [], ◌∷◌, ◌++◌, length}
+use Rattle.std.specs.Prelude.{◌≡◌, ◌≢◌, ◌↔◌, ⊤, ℕ, zero, suc, ◌+◌, ◌<◌, true, None, Some, List, ◌∷◌, ◌++◌, length}
 use Rattle.asn1_ber_items.specs.Headers.{Header, end_of_contents, header_at}
 use Rattle.asn1_ber_items.specs.Spellings.{BeginWith, IsDefinite, Spells, SpellsOne}
 use Rattle.asn1_ber_items.specs.declared.ahead.Ahead.{Ahead}

@@ -64,13 +64,10 @@ WritesSizeIn room size old new result =
     room.index ≡ length front → IsCounted old → IfOk result (λ _. IsMeasuredIn size before after front rest new)
 
 -- A constructed element was begun in the last segment: its identifier octets are there, and an octet in the place of its length.
--- What is written next follows them, in the same segment or in another.
 pub record IsBegunAt (tag : Tag) (old new : Segments) (room : Room) : Type 0 where
   pub front : List ℕ
-  pub after : List (List ℕ)
   pub begun : IsBegun tag true front
-  pub are : segments_of new ≡ octets_of_each old.full.items ++ (old.last.items ++ front) ∷ after
-  pub none_after : joined after ≡ []
+  pub are : segments_of new ≡ octets_of_each old.full.items ++ (old.last.items ++ front) ∷ []
   pub segment : room.segment ≡ length (octets_of_each old.full.items)
   pub index : suc room.index ≡ length (old.last.items ++ front)
   pub counted : IsCounted new

@@ -41,7 +41,7 @@ abbrev pub IsOver : Outcome → List OpenElement → List ℕ → List ℕ → T
 IsOver (of_all normal) es left written = (es ≡ []) × (left ≡ [])
 IsOver (of_first normal rest) es left written = (es ≡ []) × (written ≢ [])
 
--- where an open element ends
+-- the end of an open element
 abbrev pub extent_of : OpenElement → Extent
 extent_of e = if e.is_definite then Definite e.after else Indefinite
 

@@ -20,18 +20,20 @@
 //!   octets if it is primitive (`only`, by `Spells`).
 //! - Bytes that are elements of BER, with tag numbers below 2^32, have one normal form, and it is the answer, unless memory runs out
 //!   (`found`).
-//! - [`ItemError::Missing`](asn1_items::ItemError::Missing), on which a reader of a stream waits, comes only of bytes that end inside
-//!   their first element (`missing`, by `EndsInside`), and not where it is whole (`whole_front`; `found` of [`front_element`] and of
-//!   [`find_end`]).
+//! - [`ItemError::Missing`](asn1_items::ItemError::Missing), on which a reader of a stream waits, comes of bytes that end inside their
+//!   first element (`cut`), and of no others (`missing`): by `EndsInside` they end in an identifier or a length that other octets
+//!   complete, in contents octets of a definite length, or before end-of-contents octets. A header that no octets complete is
+//!   malformed. The error does not come of a whole element (`whole_front`; `found` of [`front_element`] and of [`find_end`]).
 //! - The first element of some bytes has one normal form and one end ([`laws::normal_forms_are_unique`]), whatever follows it
 //!   ([`laws::trailing_bytes_stay`]). An element of DER is its own normal form ([`laws::der_is_normal`]).
 //! - The octets of a string in pieces are those of its primitive pieces, one after another (`AreOctetPieces`). Of a bit string each piece
 //!   but the last has whole octets (`AreBitPieces`).
 //! - TRUE is any octet but zero (`IsTruthValue`), and unused bits may be any (`AreLooseBits`).
 //!
-//! Elements may be nested to any depth: the walk (`specs/Walks.antt`) keeps the open elements in a list and does not call itself, the
-//! search for an end counts them, and pieces are read with no list. It writes in segments (`specs/Segments.antt`), so a length moves none of the octets after it. No
-//! length in the bytes reserves memory. A normal form leaves contents octets as they are.
+//! Elements may be nested to any depth: the walk (`specs/Walks.antt`) keeps the open elements in a list, of 32 octets each, and does not
+//! call itself. The search for an end counts them, and pieces are read with no list. The walk writes in segments
+//! (`specs/Segments.antt`), so a length that grows moves few octets. No length in the bytes reserves memory. A normal form leaves
+//! contents octets as they are.
 #![tactic(auto)]
 
 mod ahead;

@@ -19,7 +19,7 @@ pub(crate) struct OpenElement<'a> {
     is_definite: bool,
 }
 
-/// Where an element ends.
+/// The end of an element.
 #[derive(Clone, Copy, Drop)]
 pub(crate) enum Extent<'a> {
     /// The length is definite, and these bytes follow the element.
@@ -54,7 +54,7 @@ impl<'a> OpenElement<'a> {
         }
     }
 
-    /// Where it ends.
+    /// Its end.
     pub(crate) fn extent(self) -> Extent<'a>
         ensures { result ≡ extent_of self.entry }
     {

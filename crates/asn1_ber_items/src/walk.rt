@@ -62,7 +62,7 @@ impl<'a> Walk<'a> {
         self.begun.is_empty() && !self.written.is_empty()
     }
 
-    /// What was written, in one buffer, without the memory of the open elements.
+    /// All octets that were written, in one buffer. The memory of the open elements is let go first.
     pub(crate) fn finish(self) -> Result<Vec<u8>, AllocError>
         ensures { IfOk result (λ own. own.items ≡ written_in self.entry.written) }
     {

@@ -16,9 +16,7 @@ use Rattle.asn1_model.specs.Records.{Head, Record, Records, none, more, scope, h
 use Rattle.asn1_model.specs.Tags.{Has, head_tag, record_tags}
 use Rattle.asn1_tags.specs.Tags.{tag_cmp}
 use Rattle.asn1_tags.specs.declared.tags.Tag.{Tag}
-use Rattle.asn1_der_items.specs.declared.content_order.ContentOrder.{ContentOrder}
-use Rattle.asn1_der_items.specs.declared.content_order.ContentOrder.TheVariants.{AsDefined, ByTag, ByEncoding, Chosen}
-use Rattle.asn1_der_items.specs.Bytes.{HasDer, HaveDer, HoldsInOrder, content_order_of}
+use Rattle.asn1_der_items.specs.Bytes.{HasDer, HaveDer, content_order_of}
 use Rattle.asn1_der_items.specs.DistinctTags.{AreDistinctIn, HasDistinctSets, HaveDistinctSets, HaveDistinctTags, SharesNoTag}
 use Rattle.asn1_der_items.specs.Series.{AreElements, HoldsContents, is_one_element, tag_of}
 use Rattle.asn1_der_items.proofs.Comparing.{AreAlike, alike_elements, alike_scopes}

@@ -4,7 +4,7 @@
 //! | Item | What it is | In `specs/` |
 //! |---|---|---|
 //! | [`find_element`], [`Element`], [`is_one_element`] | the element with which some bytes begin, and whether they are one | `Elements` |
-//! | [`read_identifier`], [`Identified`] | the identifier octets with which some bytes begin | `Identifiers`, `Base128` |
+//! | [`read_identifier`], [`Identified`] | the identifier octets with which some bytes begin | `Identifiers`, `Base128`, `Cuts` |
 //! | [`number_of`] | the number of some bytes, the highest first | `Lengths` |
 //! | [`begin_element`], [`end_element`], [`ElementError`] | write an element around its contents octets | `Elements` |
 //! | [`append_primitive`], [`append_contents`] | write an element of a content, and the contents octets alone | `Contents` |

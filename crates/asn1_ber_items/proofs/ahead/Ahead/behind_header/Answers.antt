@@ -52,14 +52,17 @@ returns-in-None-split_at_checked c = λ more.
     let h = header_of c.in_ok-header.header in
     record {
       none = λ ahead. (let enough = has_contents left h c.in-Some.size c.in_ok-header.ensures.only c.in-Some.is (begins n left more ahead) in absurd (omega (arith, enough, c.in-None-split_at_checked.ensures.cases)));
-      missing = (λ missing. in_contents n left (record {
-        header = h;
-        long = c.in-Some.size;
-        at = c.in_ok-header.ensures.only;
-        is_element = λ same. (let wrong = c.if-is_end_of_contents.ensures.1 same in cc);
-        size = c.in-Some.is;
-        few = omega (arith, c.in-None-split_at_checked.ensures.cases);
-      }), λ ends. tt);
+      missing = (
+        λ missing. in_contents n left (record {
+          header = h;
+          long = c.in-Some.size;
+          at = c.in_ok-header.ensures.only;
+          is_element = λ same. (let wrong = c.if-is_end_of_contents.ensures.1 same in cc);
+          size = c.in-Some.is;
+          few = omega (arith, c.in-None-split_at_checked.ensures.cases);
+        }),
+        λ ends. tt,
+      );
     }
 
 pub returns-in-None : goal.returns-in-None

@@ -1,4 +1,4 @@
-use Rattle.std.proofs.Common.{◌∷◌, ◌++◌, [], length, length-append, refl, ap, arith}
+use Rattle.std.proofs.Common.{◌∷◌, ◌++◌, [], length, length-append, ap, arith}
 use Rattle.std.proofs.lemmas.List.{length-map}
 use Rattle.std.specs.Prelude.{Vec, ℕ}
 use Rattle.std.specs.declared.alloc.Global.{Global}
@@ -11,10 +11,8 @@ returns c = λ counted.
     let full = c.args.self.now.full in
     record {
       front = a.added;
-      after = [];
       begun = a.is;
       are = ap (λ l. octets_of_each full.items ++ l ∷ []) a.joined;
-      none_after = refl;
       segment = omega (arith, c.len.ensures, full.ok.0, length-map full.items (λ (b : Vec ℕ Global). b.items));
       index = omega (arith, c.len-2.ensures, c.begin_element.new.bytes.ok.0, ap length a.joined, ap length a.is.are, length-append a.is.identifier (a.is.room ∷ []), length-append c.args.self.now.last.items a.added);
       counted = counted;

@@ -1,4 +1,4 @@
-use Rattle.std.proofs.Common.{◌≡◌, ◌+◌, ◌*◌, ◌<◌, ◌++◌, ◌∷◌, [], List, suc, length, ap, sym, subst, ◌∙◌}
+use Rattle.std.proofs.Common.{◌≡◌, ◌+◌, ◌*◌, ◌<◌, ◌++◌, ◌∷◌, [], List, suc, length, refl, ap, sym, subst, ◌∙◌}
 use Rattle.std.specs.Bool.{⊤}
 use Rattle.asn1_ber_items.specs.Segments.{joined, octets_of_each, segments_of}
 use Rattle.asn1_ber_items.specs.Walks.{AreBegun, IsClosing, Splits, bytes_after, bytes_behind}
@@ -24,10 +24,10 @@ returns-in-Ok c = λ splits less consistent.
     let e = c.new-element.result in
     let is = c.new-element.ensures in
     let inside : e.contents ≡ length (joined new) = is.contents ∙ c.in_ok-len.ensures a.counted in
-    let more : joined new ≡ joined segments ++ a.front = ap joined a.are ∙ joined-more full a.after last a.front a.none_after in
+    let more : joined new ≡ joined segments ++ a.front = ap joined a.are ∙ joined-more full [] last a.front refl in
     let pushed = c.in-Ok.ensures.items in
     let all = extended old middle x es consistent.begun in
-    let begun = begun_too es e full a.after last a.front c.args.tag a.begun (is.segment ∙ a.segment) (ap suc is.index ∙ a.index)
+    let begun = begun_too es e full [] last a.front c.args.tag a.begun (is.segment ∙ a.segment) (ap suc is.index ∙ a.index)
     (inside ∙ ap length more ∙ ap (λ l. length (l ++ a.front)) (joined-last full last)) all in
     let closing = subst (λ x. Splits (IsClosing c.args.tag x contents) left) (sym is.extent) splits in
     let steps = steps_in es e left contents (joined segments) a.front (joined new) c.args.tag a.begun closing more inside (all_opened es segments all) in
