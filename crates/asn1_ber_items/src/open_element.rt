@@ -3,8 +3,9 @@ ghost use Rattle.asn1_ber_items.specs.Walks.{extent_of};
 ghost use Rattle.std.specs.Prelude.{◌≡◌};
 
 use crate::segments::Room;
+use std::mem::size_of;
 
-/// A constructed element whose end has not been reached. It has 32 octets.
+/// A constructed element whose end has not been reached.
 #[derive(Clone, Copy, Drop)]
 pub(crate) struct OpenElement<'a> {
     /// The index of its contents octets in what was written.
@@ -18,6 +19,9 @@ pub(crate) struct OpenElement<'a> {
     /// Whether its length is definite.
     is_definite: bool,
 }
+
+// An open element costs a walk at most 32 octets.
+const _: () = prove!(size_of::<OpenElement<'static>>() <= 32);
 
 /// The end of an element.
 #[derive(Clone, Copy, Drop)]
