@@ -7,12 +7,13 @@ ghost use Rattle.std.specs.Prelude.{◌≡◌, ◌≢◌, ◌≤◌};
 
 use crate::digits::integer_digits;
 use crate::layout::{Layout, Opening};
-use crate::names::{alternative_name, only_length};
+use crate::sizes::only_length;
 use crate::text_form::{Scalar, TextForm};
 use asn1_bounds::{Codec, Constraints};
 use asn1_buffers::WriteError;
 use asn1_components::{Choice, EnumeratedTable, FieldTable};
 use asn1_enc::{EncodeError, Encoder};
+use asn1_paths::alternative_name;
 use asn1_tags::{Identifier, Tag};
 use asn1_types::{Any, CodecString};
 use asn1_values::IntegerType;

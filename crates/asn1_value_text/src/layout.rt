@@ -6,6 +6,7 @@ use crate::scope::{Scope, ScopeKind};
 use crate::text_form::{Brackets, Scalar, TextForm};
 use asn1_buffers::WriteError;
 use asn1_components::FieldTable;
+use asn1_paths::push_component_names;
 use std::alloc::{AllocError, Global};
 
 /// A scope that is to be opened.
@@ -136,7 +137,7 @@ impl<F: TextForm> Layout<F> {
         ensures refused { MayFail F.MayRefuse result }
     {
         self.open_scope(Opening::Components)?;
-        push_names::<C>(self.alloc, &mut self.names)?;
+        push_component_names::<C>(self.alloc, &mut self.names)?;
         Ok(())
     }
 
@@ -147,7 +148,7 @@ impl<F: TextForm> Layout<F> {
     {
         self.pass_component();
         self.push_scope(ScopeKind::Group)?;
-        push_names::<C>(self.alloc, &mut self.names)
+        push_component_names::<C>(self.alloc, &mut self.names)
     }
 
     fn push_scope(&mut self, kind: ScopeKind) -> Result<(), AllocError>
@@ -186,35 +187,4 @@ impl<F: TextForm> Layout<F> {
 fn name_at(names: &[String], place: usize) -> Option<&str> {
     let name = names.get(place)?;
     Some(name.as_str())
-}
-
-/// Appends the names of a table, in the order of the definition.
-fn push_names<C: FieldTable>(alloc: Global, names: &mut Vec<String>) -> Result<(), AllocError> {
-    for index in 0..C::field_count() {
-        names.push(component_name::<C>(alloc, index)?)?;
-    }
-    Ok(())
-}
-
-/// The name of the component of that index in the definition; an empty one if there is none.
-fn component_name<C: FieldTable>(alloc: Global, index: usize) -> Result<String, AllocError> {
-    if let Some(name) = name_at_place::<C>(index, index) {
-        return String::from_str(alloc, name);
-    }
-    for place in 0..C::field_count() {
-        if let Some(name) = name_at_place::<C>(place, index) {
-            return String::from_str(alloc, name);
-        }
-    }
-    Ok(String::new(alloc))
-}
-
-/// The name of the field at a place of a table, if that is the field of the component of that index.
-fn name_at_place<C: FieldTable>(place: usize, index: usize) -> Option<&'static str> {
-    let field = C::field_at(place)?;
-    if field.index == index {
-        Some(field.name)
-    } else {
-        None
-    }
 }

@@ -15,9 +15,9 @@ mod document;
 mod encoder;
 mod jer;
 mod layout;
-mod names;
 mod notation;
 mod scope;
+mod sizes;
 mod text_form;
 
 use crate::document::check_document;
