@@ -1,12 +1,12 @@
 //! The octets of a value by one codec, of those by another.
 
 use crate::form::{CodecForm, OutputForm};
-use asn1_ber::BerRules;
 use asn1_bench::BenchRules;
-use asn1_der::DerRules;
-use asn1_rules::{RecodeError, Rules, recode};
+use asn1_ber::BerRules;
 use asn1_dec::{Decode, DecodeError};
+use asn1_der::DerRules;
 use asn1_enc::{Encode, EncodeError};
+use asn1_rules::{RecodeError, Rules, recode};
 use asn1_value_text::{json_text, value_text};
 use std::alloc::Global;
 
