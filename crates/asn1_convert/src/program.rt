@@ -3,7 +3,6 @@
 use crate::arguments::{action_of, matches_of};
 use crate::hexadecimal::octets_of_digits;
 use crate::task::{Answer, Task, TypeList};
-use std::alloc::{AllocError, Global};
 use std::env;
 use std::io::{self, Read, Write};
 use std::process::ExitCode;
@@ -24,7 +23,7 @@ pub fn run<L: TypeList>(rt: &HostRuntime, program: &'static str) -> ExitCode {
         Ok(Ok(words)) => words,
         _ => return fail(rt, "the arguments were not read"),
     };
-    let Ok(types) = list_of(alloc, L::names()) else {
+    let Ok(types) = format!(in alloc; "Types: {}", L::names()) else {
         return fail(rt, "no memory");
     };
     let matches = match matches_of(alloc, program, types.as_str(), words.as_slice()) {
@@ -56,16 +55,6 @@ pub fn run<L: TypeList>(rt: &HostRuntime, program: &'static str) -> ExitCode {
         Some(Err(_)) => fail(rt, "no memory"),
         Some(Ok(answer)) => give(rt, &answer),
     }
-}
-
-/// The names of types for the help.
-fn list_of(alloc: Global, names: &[&'static str]) -> Result<String, AllocError> {
-    let mut text = String::from_str(alloc, "Types:")?;
-    for name in names {
-        text.push(' ')?;
-        text.push_str(name)?;
-    }
-    Ok(text)
 }
 
 /// The octets of standard input.

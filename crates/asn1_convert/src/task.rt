@@ -46,8 +46,8 @@ pub struct Answer {
 
 /// The names of types, and what each does with a task.
 pub trait TypeList {
-    /// The names of the types.
-    fn names() -> &'static [&'static str];
+    /// The names of the types, with spaces between them.
+    fn names() -> &'static str;
 
     /// The answer of the type of that name, by [`Task::perform`]; `None` if no type has the name.
     fn answer(name: &str, task: Task<'_>) -> Option<Result<Answer, AllocError>>;
