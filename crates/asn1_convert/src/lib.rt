@@ -21,5 +21,5 @@ pub use fronts::front_length;
 pub use program::run;
 pub use recoding::{convert_value, recode_between};
 pub use report::stop_line;
-pub use stream::{Cause, Stop, convert_values};
+pub use stream::{Cause, Conversion, Stop, convert_values};
 pub use task::{Action, Answer, Task, TypeList};

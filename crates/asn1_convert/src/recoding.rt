@@ -1,4 +1,8 @@
 //! The octets of a value by one codec, of those by another.
+ghost use Rattle.asn1_convert.specs.Conversions.{Converts};
+ghost use Rattle.asn1_convert.specs.Forms.{format_of};
+ghost use Rattle.asn1_rules.specs.Recoding.{Recodes, WritingFailsAsItMay};
+ghost use Rattle.std.specs.Prelude.{IfErr};
 
 use crate::form::{CodecForm, OutputForm};
 use asn1_bench::BenchRules;
@@ -17,7 +21,11 @@ pub fn recode_between<T: Encode + Decode>(
     octets: &Vec<u8>,
     to: CodecForm,
     depth: usize,
-) -> Result<Vec<u8>, RecodeError> {
+) -> Result<Vec<u8>, RecodeError>
+    ensures recoded { Recodes (format_of to) T.meaning (format_of from) octets.now T.eq depth
+        result }
+    ensures writing { IfErr result (WritingFailsAsItMay (format_of to) T.meaning depth) }
+{
     let (der, ber, packed) = (
         DerRules::new(alloc),
         BerRules::new(alloc),
@@ -59,7 +67,9 @@ pub fn convert_value<T: Encode + Decode>(
     octets: &Vec<u8>,
     to: OutputForm,
     depth: usize,
-) -> Result<Vec<u8>, RecodeError> {
+) -> Result<Vec<u8>, RecodeError>
+    ensures { Converts T.meaning T.eq depth from octets.now.items to result }
+{
     match to {
         OutputForm::Codec(to) => recode_between::<T>(alloc, from, octets, to, depth),
         OutputForm::Notation => {

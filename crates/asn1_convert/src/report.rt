@@ -18,11 +18,11 @@ pub fn stop_line<T: Decode>(
     depth: usize,
 ) -> Result<String, AllocError> {
     let mut text = format!(in alloc; "value {}, ", stop.before.saturating_add(1))?;
-    push_octets(&mut text, stop.start, stop.end)?;
+    push_octets(&mut text, stop.start, stop.length)?;
     text.push_str(": ")?;
     match stop.cause {
         Cause::NotRecoded(RecodeError::Read(error)) => {
-            let octets = octets_between(input, stop.start, stop.end);
+            let octets = octets_of(input, stop.start, stop.length);
             push_read_error::<T>(&mut text, alloc, from, octets, stop.start, error, depth)?;
         }
         Cause::NotRecoded(RecodeError::Write(error)) => write!(&mut text, "not written: {error}")?,
@@ -35,14 +35,24 @@ pub fn stop_line<T: Decode>(
 }
 
 /// Appends the first and the last octet of a value, or the first alone.
-fn push_octets(text: &mut String, start: usize, end: Option<usize>) -> Result<(), AllocError> {
-    match end {
-        Some(end) if end > start => write!(text, "octets {start} to {}", end - 1),
+fn push_octets(text: &mut String, start: usize, length: Option<usize>) -> Result<(), AllocError> {
+    match length {
+        Some(length) if length > 0 => {
+            write!(
+                text,
+                "octets {start} to {}",
+                start.saturating_add(length - 1)
+            )
+        }
         _ => write!(text, "octet {start}"),
     }
 }
 
-fn octets_between(input: &[u8], start: usize, end: Option<usize>) -> &[u8] {
-    let end = end.unwrap_or(input.len());
-    input.get(start..end).unwrap_or(&[])
+/// The octets of a value, or all from its first one on.
+fn octets_of(input: &[u8], start: usize, length: Option<usize>) -> &[u8] {
+    let left = input.get(start..).unwrap_or(&[]);
+    match length {
+        Some(length) => left.get(..length).unwrap_or(left),
+        None => left,
+    }
 }

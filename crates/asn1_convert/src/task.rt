@@ -67,20 +67,15 @@ impl<'a> Task<'a> {
         from: CodecForm,
         to: OutputForm,
     ) -> Result<Answer, AllocError> {
-        let mut output = Vec::new(self.alloc);
-        let converted = convert_values::<T>(
-            self.alloc,
-            from,
-            self.input,
-            to,
-            self.depth,
-            &mut output,
-        );
-        let failure = match converted {
-            Ok(()) => None,
-            Err(stop) => Some(stop_line::<T>(self.alloc, from, self.input, stop, self.depth)?),
+        let conversion = convert_values::<T>(self.alloc, from, self.input, to, self.depth);
+        let failure = match conversion.stop {
+            None => None,
+            Some(stop) => Some(stop_line::<T>(self.alloc, from, self.input, stop, self.depth)?),
         };
-        Ok(Answer { output, failure })
+        Ok(Answer {
+            output: conversion.output,
+            failure,
+        })
     }
 
     fn check<T: Encode + Decode + Drop>(self) -> Result<Answer, AllocError> {
