@@ -1,4 +1,8 @@
 //! Whether octets are the DER of a type.
+ghost use Rattle.asn1_convert.specs.Checks.{IsCheckError};
+ghost use Rattle.asn1_der.specs.Format.{der_format};
+ghost use Rattle.asn1_rules.specs.CanonicalReading.{IsWrittenAs};
+ghost use Rattle.std.specs.Prelude.{IfErr, IfOk};
 
 use crate::form::CodecForm;
 use crate::places::push_read_error;
@@ -19,12 +23,22 @@ pub enum CheckError {
     NotCanonical(CanonicalError),
 }
 
-/// Succeeds if octets are the DER of a value of a type.
+/// The value of which octets are the DER, with at most this many nested scopes: they break none of the rules of X.690 that reading
+/// asks for, and are what writing the value makes.
+///
+/// # Errors
+/// [`CheckError::Broken`] with a rule that they break and the position, or the position of elements that lie too deep;
+/// [`CheckError::NotCanonical`] with the error of [`read_canonical`].
 pub fn check_der<T: Encode + Decode>(
     alloc: Global,
     octets: &Vec<u8>,
     depth: usize,
-) -> Result<T, CheckError> {
+) -> Result<T, CheckError>
+    ensures canonical { IfOk result (λ w.
+        IsWrittenAs der_format T.meaning depth w octets.now.items) }
+    ensures departs { IfErr result
+        (IsCheckError T.meaning T.eq T.refusals depth octets.now) }
+{
     if let Some(finding) = find_broken_rule(octets, Part::Other, RuleSet::OfReading, depth) {
         return Err(CheckError::Broken(finding));
     }
