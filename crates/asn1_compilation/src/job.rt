@@ -30,4 +30,6 @@ pub struct Job<'a> {
     pub externs: &'a [Extern<'a>],
     /// Modules whose other types exist already.
     pub extern_modules: &'a [ExternModule<'a>],
+    /// Whether a program that converts values of the types is printed too.
+    pub has_program: bool,
 }

@@ -14,7 +14,7 @@ use crate::problems::syntax_problems;
 use asn1_grammar::{Parsed, parse};
 use asn1_module_check::check_tags;
 use asn1_modules::Source;
-use asn1_print::{Extern, Printed, Request, print_crate};
+use asn1_print::{Extern, Printed, Request, print_crate, print_program};
 use asn1_resolved::{Problem, Schema};
 use asn1_resolver::{Resolution, resolve};
 use std::alloc::{AllocError, Global};
@@ -192,22 +192,26 @@ fn print_schema<'a>(
     for found in &known {
         externs.push(found.as_extern())?;
     }
-    print_with(alloc, job.crate_name, externs.as_slice(), sources, schema)
+    print_with(alloc, job, externs.as_slice(), sources, schema)
 }
 
 // Prints the files of a schema, of which these types exist already.
 fn print_with<'a>(
     alloc: Global,
-    crate_name: &str,
+    job: Job<'_>,
     externs: &[Extern<'_>],
     sources: &[Source<'a>],
     schema: &Schema<'a>,
 ) -> Result<Printed, AllocError> {
     let request = Request {
-        crate_name: &*crate_name,
+        crate_name: &*job.crate_name,
         sources: &*sources,
         schema: &*schema,
         externs: &*externs,
     };
-    print_crate(alloc, request)
+    let mut printed = print_crate(alloc, request)?;
+    if job.has_program {
+        printed.files.push(print_program(alloc, request)?)?;
+    }
+    Ok(printed)
 }

@@ -40,6 +40,12 @@ fn command<'a>(alloc: Global) -> Result<Command<'a>, AllocError> {
         .action(ArgAction::Append)
         .value_name("MODULE=CRATE")
         .help("A module that was compiled to a crate already, as PKIX1Explicit88=certificates");
+    let program = Arg::new(alloc, "program")
+        .long("program")
+        .action(ArgAction::SetTrue)
+        .help(
+            "Write, beside the crate, the program CRATE_convert, which converts values of its types",
+        );
     let check = Arg::new(alloc, "check")
         .long("check")
         .action(ArgAction::SetTrue)
@@ -50,6 +56,7 @@ fn command<'a>(alloc: Global) -> Result<Command<'a>, AllocError> {
         .arg(out)?
         .arg(externs)?
         .arg(extern_modules)?
+        .arg(program)?
         .arg(check)?
         .arg(name)?
         .arg(files)

@@ -7,9 +7,10 @@
 //! |---|---|
 //! | `CRATE` | the name of the crate |
 //! | `FILE`.. | reads these files as one set of modules, or standard input for `-` or if there is none |
-//! | `--out DIR` | writes the files into this folder; otherwise they go to standard output, each behind a line `=== PATH` |
+//! | `--out DIR` | writes the files into this folder; otherwise they go to standard output, each behind a line `=== PATH`. Of a folder crates/NAME beside a file crates.txt, the lines of the crate and of its program are added to that file, if they are not there |
 //! | `--extern NAME=PATH` | a type that exists already, as `Filter=asn1_recursive::Filter`, or with its module, `Module.Filter=..` |
 //! | `--extern-module MODULE=CRATE` | a module that was compiled already, as `PKIX1Explicit88=certificates` |
+//! | `--program` | writes, beside the crate, the program CRATE_convert, which converts values of the types (docs/USING.md) |
 //! | `--check` | writes no file |
 //! | `--help` | writes the usage |
 //!
@@ -21,6 +22,7 @@
 ghost use Rattle.std.specs.Prelude.{◌≡◌};
 
 mod arguments;
+mod crate_list;
 mod failure;
 mod inputs;
 mod outputs;
@@ -28,6 +30,7 @@ mod outputs;
 use arguments::{crate_name_of, extern_modules_of, externs_of, matches_of};
 use asn1_compilation::{Compiled, Job, compile};
 use clap::ArgMatches;
+use crate_list::list_crates;
 use failure::Failure;
 use inputs::read_inputs;
 use outputs::write_files;
@@ -76,6 +79,7 @@ fn run<'a>(rt: &HostRuntime, matches: &ArgMatches<'a>) -> Result<u8, Failure<'a>
         inputs: inputs.as_slice(),
         externs: externs.as_slice(),
         extern_modules: extern_modules.as_slice(),
+        has_program: matches.get_flag("program"),
     };
     let compiled = compile(rt.alloc(), job)?;
     finish(rt, matches, &compiled)
@@ -100,6 +104,10 @@ fn finish<'a>(
     if matches.get_flag("check") {
         return Ok(0);
     }
-    write_files(rt, matches.get_str("out"), files.as_slice())?;
+    let folder = matches.get_str("out");
+    write_files(rt, folder, files.as_slice())?;
+    if let Some(folder) = folder {
+        list_crates(rt, folder, matches)?;
+    }
     Ok(0)
 }

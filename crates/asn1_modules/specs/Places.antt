@@ -1,7 +1,6 @@
 -- The places of the names that modules define and import.
 use Rattle.std.specs.Prelude.{ℕ, ◌+◌, ◌++◌, List, [], ◌∷◌, map}
 use Rattle.std.specs.List.{flat_map}
-use Rattle.asn1_notation.specs.declared.modules.Assignment.{Assignment}
 use Rattle.asn1_notation.specs.declared.modules.Import.{Import}
 use Rattle.asn1_notation.specs.declared.modules.Module.{Module}
 use Rattle.asn1_notation.specs.declared.names.Span.{Span}

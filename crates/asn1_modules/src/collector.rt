@@ -2,6 +2,7 @@
 use asn1_names::{Place, UsedName};
 use asn1_notation::{NumberName, Reference, Span};
 use std::alloc::{AllocError, Global};
+use std::collections::HashSet;
 
 /// The references of the modules that were passed.
 #[derive(Drop)]
@@ -13,7 +14,7 @@ pub(crate) struct Collector<'a> {
     module: &'a [u8],
     used: Vec<UsedName<'a>>,
     // The names of numbers, bits and items.
-    items: Vec<&'a [u8]>,
+    items: HashSet<&'a [u8]>,
     // References to values, of which some are the names of items.
     values: Vec<UsedName<'a>>,
 }
@@ -26,7 +27,7 @@ impl<'a> Collector<'a> {
             index: 0,
             module: &[],
             used: Vec::new(alloc),
-            items: Vec::new(alloc),
+            items: HashSet::new(alloc),
             values: Vec::new(alloc),
         }
     }
@@ -88,7 +89,7 @@ impl<'a> Collector<'a> {
 
     /// Adds the name of an item.
     pub(crate) fn name_item(&mut self, name: Span) -> Result<(), AllocError> {
-        self.items.push(name.octets(self.text))?;
+        self.items.insert(name.octets(self.text))?;
         Ok(())
     }
 
@@ -117,9 +118,6 @@ impl<'a> Collector<'a> {
 }
 
 // Whether a name of a value is the name of an item.
-fn is_item(items: &[&[u8]], value: &UsedName<'_>) -> bool {
-    match value.qualifier {
-        Some(_) => false,
-        None => items.iter().any(|item| *item == value.name),
-    }
+fn is_item(items: &HashSet<&[u8]>, value: &UsedName<'_>) -> bool {
+    value.qualifier.is_none() && items.contains(value.name)
 }

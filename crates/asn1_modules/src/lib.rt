@@ -4,7 +4,7 @@
 //! |---|---|
 //! | [`Source`] | a text with the modules that were read of it; several are one set of modules |
 //! | [`collect_names`] | the names that the modules define, import and use, as `asn1_names` checks them |
-//! | [`append_problem`] | appends the message of what is wrong with a name |
+//! | [`NameMessages`] | the messages of what is wrong with names, with a name that may be meant for the first hundred |
 //! | [`standard_arc`] | the number of an arc that has a name of its own |
 //!
 //! The contract of [`collect_names`] promises that the names of all definitions of all modules are listed, in the order of the
@@ -22,6 +22,7 @@
 #![tactic(auto)]
 
 mod arcs;
+mod built_in;
 mod collector;
 mod definitions;
 mod messages;
@@ -31,6 +32,6 @@ mod types;
 mod values;
 
 pub use arcs::standard_arc;
-pub use messages::append_problem;
+pub use messages::NameMessages;
 pub use modules::collect_names;
 pub use source::Source;

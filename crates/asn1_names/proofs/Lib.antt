@@ -1,3 +1,5 @@
+pub mod Found
+pub mod Indexed
 pub mod NamedTwice
 pub mod NothingWrong
 pub mod Resolved

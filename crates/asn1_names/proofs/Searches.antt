@@ -1,5 +1,6 @@
 -- Searches of lists, and what they decide.
-use Rattle.std.proofs.Common.{◌≡◌, ◌↔◌, Bool, true, false, not, cond, List, [], ◌∷◌, refl, rules}
+use Rattle.std.proofs.Common.{◌≡◌, ◌↔◌, Bool, true, false, not, cond, List, [], ◌∷◌, ◌++◌, ◌<◌, ◌+◌, ℕ, length, take, get_or, refl, rules, arith}
+use Rattle.std.proofs.lemmas.Grind.{common_steps}
 use Rattle.std.specs.Bool.{Decides}
 use Rattle.std.specs.List.{All, Any, filter, list_any}
 use Rattle.std.proofs.lemmas.List.Folds.{Any-from_list_any, list_any-from_Any}
@@ -32,3 +33,10 @@ none_left {X} {P} p each (x ∷ xs) all =
 -- no element is left out of a list by a test exactly if each has the property that the test decides
 pub none_fail : {X : Type 0} {P : X → Type 0} (p : X → Bool) → ((x : X) → Decides (p x) (P x)) → (xs : List X) → (filter (λ x. not (p x)) xs ≡ []) ↔ All P xs
 none_fail p each xs = (all_pass p each xs, none_left p each xs)
+
+-- one more element of a list that passes a test, or does not
+pub filter_put : {X : Type 0} (p : X → Bool) (xs : List X) (i : ℕ) (x : X) (before after : List X) → i < length xs → p (get_or xs i x) ≡ true → before ≡ filter p (take i xs) → after ≡ before ++ get_or xs i x ∷ [] → after ≡ filter p (take (i + 1) xs)
+filter_put p xs i x before after within passes so_far more = grind (arith, common_steps)
+
+pub filter_left : {X : Type 0} (p : X → Bool) (xs : List X) (i : ℕ) (x : X) (before after : List X) → i < length xs → p (get_or xs i x) ≡ false → before ≡ filter p (take i xs) → after ≡ before → after ≡ filter p (take (i + 1) xs)
+filter_left p xs i x before after within fails so_far same = grind (arith, common_steps)

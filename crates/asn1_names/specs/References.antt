@@ -1,7 +1,7 @@
 -- References to definitions.
-use Rattle.std.specs.Prelude.{◌≡◌, ◌⊎◌, ℕ, Bool, ◌&&◌, ◌||◌, not, List, Option, None, Some}
+use Rattle.std.specs.Prelude.{◌≡◌, ◌⊎◌, ℕ, Bool, ◌&&◌, ◌||◌, not, List, Option, None, Some, map}
 use denote.Ref.{Bor}
-use Rattle.std.specs.List.{Any, list_any}
+use Rattle.std.specs.List.{Any, filter, list_any}
 use Rattle.std.specs.Str.{bytes_eq}
 use Rattle.asn1_names.specs.declared.names.DefinedName.{DefinedName}
 use Rattle.asn1_names.specs.declared.names.ImportedName.{ImportedName}
@@ -23,6 +23,15 @@ ResolvesWith defined imported used None =
 -- The reference is to a definition.
 abbrev pub IsResolved : List DefinedName → List ImportedName → UsedName → Type 0
 IsResolved defined imported used = ResolvesWith defined imported used used.qualifier
+
+-- the name that is imported, as one of the module that imports it
+abbrev pub name_brought_in : ImportedName → DefinedName
+name_brought_in import = record { «module» = import.module; name = import.name; place = import.place }
+
+-- the names that modules import from modules that define them
+abbrev pub brought_in : List DefinedName → List ImportedName → List DefinedName
+brought_in defined imported =
+    map name_brought_in (filter (λ import. is_defined defined import.from.now import.name.now) imported)
 
 -- whether the module of the reference imports its name, from a module that defines it
 abbrev pub provides : List DefinedName → UsedName → ImportedName → Bool

@@ -1,8 +1,10 @@
 //! Names that a module defines twice.
-ghost use Rattle.std.specs.Prelude.{◌≡◌, ◌↔◌, [], IfOk};
+ghost use Rattle.std.specs.Prelude.{◌≡◌, ◌↔◌, ◌++◌, List, [], IfOk};
 ghost use Rattle.std.specs.List.{AllPairs, find};
 ghost use Rattle.asn1_names.specs.Distinct as spec;
+ghost use Rattle.asn1_names.specs.Index.{IsIndexOf};
 
+use crate::index::NameIndex;
 use crate::names::DefinedName;
 use std::alloc::{AllocError, Global};
 
@@ -15,28 +17,18 @@ pub struct DoubledName<'a> {
     pub again: DefinedName<'a>,
 }
 
-// Whether two definitions have one name, and are in one module.
-fn has_same_name(definition: &DefinedName<'_>, earlier: &DefinedName<'_>) -> bool
-    ensures { result ≡ spec.has_same_name definition.now earlier.now }
-{
-    earlier.module == definition.module && earlier.name == definition.name
-}
-
 // The first of the earlier definitions that has the name of this one, and is in its module.
 fn first_of_name<'a>(
-    earlier: &[DefinedName<'a>],
+    names: &NameIndex<'_>,
+    defined: &[DefinedName<'a>],
     definition: &DefinedName<'_>,
 ) -> Option<DefinedName<'a>>
-    ensures { result ≡ find (spec.has_same_name definition.now) earlier.now }
+    ensures { (earlier later : List DefinedName) → IsIndexOf earlier names.now →
+        defined.now ≡ earlier ++ later →
+        result ≡ find (spec.has_same_name definition.now) earlier }
 {
-    let mut rest = earlier;
-    while let [candidate, after @ ..] = rest {
-        if has_same_name(definition, candidate) {
-            return Some(*candidate);
-        }
-        rest = after;
-    }
-    None
+    let first = names.position(definition.module, definition.name)?;
+    defined.get(first).copied()
 }
 
 /// The definitions whose name an earlier definition of the same module has, in the order of the list.
@@ -49,14 +41,16 @@ pub fn find_doubled<'a>(
         AllPairs spec.IsDistinct defined.now) }
     ensures report { IfOk result (λ found. found.items ≡ spec.doubled [] defined.now) }
 {
+    let mut names = NameIndex::empty(alloc);
     let mut found = Vec::new(alloc);
     for (index, definition) in defined.iter().enumerate() {
-        if let Some(first) = first_of_name(&defined[..index], definition) {
+        if let Some(first) = first_of_name(&names, defined, definition) {
             found.push(DoubledName {
                 first,
                 again: *definition,
             })?;
         }
+        names.add(definition, index)?;
     }
     Ok(found)
 }

@@ -3,7 +3,7 @@ ghost use Rattle.std.specs.Prelude.{◌≡◌, ◌↔◌, [], IfOk};
 ghost use Rattle.std.specs.List.{All, filter};
 ghost use Rattle.asn1_names.specs.Imports as spec;
 
-use crate::defined::is_defined;
+use crate::index::NameIndex;
 use crate::names::{DefinedName, ImportedName};
 use std::alloc::{AllocError, Global};
 
@@ -19,9 +19,10 @@ pub fn find_unknown_imports<'a>(
     ensures report { IfOk result (λ found. found.items ≡
         filter (spec.is_unknown defined.now) imported.now) }
 {
+    let index = NameIndex::of(alloc, defined)?;
     let mut found = Vec::new(alloc);
     for import in imported {
-        if !is_defined(defined, import.from, import.name) {
+        if !index.is_defined(import.from, import.name) {
             found.push(*import)?;
         }
     }

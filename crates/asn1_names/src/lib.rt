@@ -9,7 +9,7 @@
 //! | [`find_unknown_imports`] | the imported names that the module behind FROM does not define |
 //! | [`find_undefined`] | the references that are to no definition |
 //! | [`check_names`], [`NameProblem`] | all of these |
-//! | [`is_defined`] | whether a module defines a name |
+//! | [`NameIndex`] | where the first definition of each name is |
 //! | [`nearest_name`] | the defined name that is most like another |
 //!
 //! The contracts promise:
@@ -18,24 +18,26 @@
 //!   and every reference is to a definition (`accepted`; `IsAccepted` in `specs/Accepted.antt`). A reference is to a
 //!   definition of its own module, of one from which its module imports the name, or of the module that it names
 //!   (`IsResolved` in `specs/References.antt`). Everything that is wrong is found, in the order of the lists (`report`).
+//! - A `NameIndex` of definitions answers the position of the first with a name, and whether there is one (`IsIndexOf` in
+//!   `specs/Index.antt`).
 //! - `nearest_name` answers a defined name with few letters that differ, and no other has fewer (`nearest`); `None` if no
 //!   name is so near (`none`).
 //!
-//! Calls fail only if memory runs out. The lists are compared name by name, so the cost is in line with the number of
-//! references times that of definitions.
+//! Calls fail only if memory runs out. Definitions are found by a hash of their names, so the cost of `check_names` is in
+//! line with the number of names, and that of `nearest_name` with the number of definitions.
 #![tactic(auto)]
 
-mod defined;
 mod doubled;
 mod imports;
+mod index;
 mod names;
 mod nearest;
 mod problems;
 mod undefined;
 
-pub use defined::is_defined;
 pub use doubled::{DoubledName, find_doubled};
 pub use imports::find_unknown_imports;
+pub use index::NameIndex;
 pub use names::{DefinedName, ImportedName, Names, Place, UsedName};
 pub use nearest::nearest_name;
 pub use problems::{NameProblem, check_names};

@@ -7,6 +7,7 @@
 //! | Item | What it is |
 //! |---|---|
 //! | [`print_crate`] | the files of a crate |
+//! | [`print_program`] | the program that converts values of its types |
 //! | [`Request`], [`Extern`] | a schema with its texts, and the types that exist already |
 //! | [`Printed`], [`PrintedFile`] | the files, and what cannot be printed |
 //! | [`rust_name`] | the name of a type |
@@ -25,6 +26,7 @@ mod lowering;
 mod notation;
 mod plan;
 mod printing;
+mod program;
 mod recursion;
 mod request;
 mod strings;
@@ -34,4 +36,5 @@ mod values;
 
 pub use plan::rust_name;
 pub use printing::print_crate;
+pub use program::print_program;
 pub use request::{Extern, Printed, PrintedFile, Request};

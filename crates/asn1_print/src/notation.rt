@@ -102,7 +102,8 @@ pub(crate) fn component_text(
     Ok(text)
 }
 
-// Appends the text of the component in modules whose name is at an offset.
+// Appends the text of the component in modules whose name is at an offset: it is in the last module, and there in the last
+// definition, whose name is before it.
 fn push_in_modules(
     alloc: Global,
     text: &mut String,
@@ -110,10 +111,13 @@ fn push_in_modules(
     modules: &[Module],
     start: usize,
 ) -> Result<(), AllocError> {
-    for module in modules {
-        push_in_assignments(alloc, text, source, module.assignments.as_slice(), start)?;
+    let behind = modules.partition_point(|module| module.name.start <= start);
+    match modules.get(behind.saturating_sub(1)) {
+        Some(module) => {
+            push_in_assignments(alloc, text, source, module.assignments.as_slice(), start)
+        }
+        None => Ok(()),
     }
-    Ok(())
 }
 
 // Appends the text of the component in definitions whose name is at an offset.
@@ -124,12 +128,14 @@ fn push_in_assignments(
     assignments: &[Assignment],
     start: usize,
 ) -> Result<(), AllocError> {
-    for assignment in assignments {
-        if let Definition::Type(definition) = &assignment.definition {
-            push_found(alloc, text, source, definition, start)?;
-        }
+    let behind = assignments.partition_point(|assignment| assignment.name.start <= start);
+    let Some(assignment) = assignments.get(behind.saturating_sub(1)) else {
+        return Ok(());
+    };
+    match &assignment.definition {
+        Definition::Type(definition) => push_found(alloc, text, source, definition, start),
+        Definition::Value(_, _) => Ok(()),
     }
-    Ok(())
 }
 
 // Appends the text of the component in a type whose name is at an offset.

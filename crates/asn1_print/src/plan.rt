@@ -8,6 +8,7 @@ use asn1_rust_components::{Alias, Constant, Marker};
 use asn1_rust_names::{TakenNames, camel_case, snake_case};
 use asn1_rust_types::ModuleNames;
 use std::alloc::{AllocError, Global};
+use std::collections::HashMap;
 
 /// The names that a file of a type imports or brings in, so that no type of a schema has one of them.
 const RESERVED: &[&str] = &[
@@ -118,7 +119,6 @@ pub(crate) struct PlannedType {
 /// A type without a name in ASN.1, for which a file was made.
 #[derive(Drop)]
 pub(crate) struct UnnamedType {
-    place: Place,
     name: String,
     module: String,
 }
@@ -129,7 +129,8 @@ pub(crate) struct Plan<'r, 'a> {
     pub(crate) alloc: Global,
     pub(crate) request: Request<'r, 'a>,
     pub(crate) types: Vec<PlannedType>,
-    unnamed_types: Vec<UnnamedType>,
+    // By the texts and the offsets at which they begin.
+    unnamed_types: HashMap<(usize, usize), UnnamedType>,
     taken_names: TakenNames,
     taken_modules: TakenNames,
     pub(crate) files: Vec<PrintedFile>,
@@ -224,7 +225,7 @@ fn empty_plan<'r, 'a>(alloc: Global, request: Request<'r, 'a>) -> Plan<'r, 'a> {
         alloc,
         request,
         types: Vec::new(alloc),
-        unnamed_types: Vec::new(alloc),
+        unnamed_types: HashMap::new(alloc),
         taken_names: TakenNames::new(alloc),
         taken_modules: TakenNames::new(alloc),
         files: Vec::new(alloc),
@@ -306,13 +307,13 @@ impl Plan<'_, '_> {
 
     /// The type without a name at a place, if its file was made: COMPONENTS OF takes a component over with its type.
     pub(crate) fn unnamed_type(&self, place: Place) -> Result<Option<TypeName>, AllocError> {
-        for known in &self.unnamed_types {
-            if known.place == place {
+        match self.unnamed_types.get(&(place.text, place.span.start)) {
+            Some(known) => {
                 let name = self.local_type(known.module.as_str(), known.name.as_str())?;
-                return Ok(Some(name));
+                Ok(Some(name))
             }
+            None => Ok(None),
         }
-        Ok(None)
     }
 
     /// Keeps the type without a name at a place, and answers its name.
@@ -323,12 +324,9 @@ impl Plan<'_, '_> {
         module: String,
     ) -> Result<TypeName, AllocError> {
         let answer = self.local_type(module.as_str(), name.as_str())?;
-        let kept = UnnamedType {
-            place,
-            name,
-            module,
-        };
-        self.unnamed_types.push(kept)?;
+        let begin = (place.text, place.span.start);
+        self.unnamed_types
+            .insert(begin, UnnamedType { name, module })?;
         Ok(answer)
     }
 

@@ -2,13 +2,14 @@
 use crate::notation::text_of;
 use crate::plan::Plan;
 use asn1_resolved::{Addition, Alternative, Component, Type, TypeKind};
-use std::alloc::AllocError;
+use std::alloc::{AllocError, Global};
 
 /// Reports each type that holds itself, by a reference to a type that does not exist already.
 pub(crate) fn report_cycles(plan: &mut Plan<'_, '_>) -> Result<(), AllocError> {
-    let count = plan.request.schema.types.len();
-    for index in 0..count {
-        if !plan.is_external(index) && holds_itself(plan, index)? {
+    let references = list_references(plan)?;
+    let groups = groups_of(plan.alloc, references.as_slice())?;
+    for (index, referred) in references.iter().enumerate() {
+        if is_in_cycle(groups.as_slice(), index, referred.as_slice()) {
             report_cycle(plan, index)?;
         }
     }
@@ -29,33 +30,128 @@ fn report_cycle(plan: &mut Plan<'_, '_>, index: usize) -> Result<(), AllocError>
     Ok(())
 }
 
-// Whether the type with an index holds itself: it is reached by the references of those that it refers to.
-fn holds_itself(plan: &Plan<'_, '_>, index: usize) -> Result<bool, AllocError> {
-    let count = plan.request.schema.types.len();
-    let mut reached: Vec<bool> = Vec::new(plan.alloc);
-    for _ in 0..count {
-        reached.push(false)?;
-    }
-    let mut waiting = Vec::new(plan.alloc);
-    waiting.push(index)?;
-    for _ in 0..=count {
-        let Some(next) = waiting.pop() else {
-            return Ok(false);
-        };
+// The references of each type to types that do not exist already.
+fn list_references(plan: &Plan<'_, '_>) -> Result<Vec<Vec<usize>>, AllocError> {
+    let mut list = Vec::new(plan.alloc);
+    for (index, definition) in plan.request.schema.types.iter().enumerate() {
+        let mut all = Vec::new(plan.alloc);
+        if !plan.is_external(index) {
+            push_type(&mut all, &definition.definition)?;
+        }
         let mut references = Vec::new(plan.alloc);
-        if let Some(definition) = plan.request.schema.types.get(next) {
-            push_type(&mut references, &definition.definition)?;
-        }
-        for reference in &references {
-            if *reference == index {
-                return Ok(true);
+        for reference in &all {
+            if !plan.is_external(*reference) {
+                references.push(*reference)?;
             }
-            if !plan.is_external(*reference) && mark(&mut reached, *reference) {
-                waiting.push(*reference)?;
+        }
+        list.push(references)?;
+    }
+    Ok(list)
+}
+
+// Whether a type refers to one of its own group: these hold one another, or it refers to itself.
+fn is_in_cycle(groups: &[usize], index: usize, references: &[usize]) -> bool {
+    for reference in references {
+        if groups.get(*reference) == groups.get(index) {
+            return true;
+        }
+    }
+    false
+}
+
+// The group of each type: types of one group are those that hold one another. It is found by a walk in the direction of the
+// references, and one against it (Kosaraju and Sharir).
+fn groups_of(alloc: Global, references: &[Vec<usize>]) -> Result<Vec<usize>, AllocError> {
+    let order = leaving_order(alloc, references)?;
+    let backward = backward_references(alloc, references)?;
+    let mut reached = flags(alloc, references.len())?;
+    let mut groups = Vec::new(alloc);
+    for index in 0..references.len() {
+        groups.push(index)?;
+    }
+    for start in order.iter().rev() {
+        let mut group = Vec::new(alloc);
+        walk(alloc, backward.as_slice(), *start, &mut reached, &mut group)?;
+        for index in &group {
+            if let Some(known) = groups.get_mut(*index) {
+                *known = *start;
             }
         }
     }
-    Ok(false)
+    Ok(groups)
+}
+
+// The types in the order in which a walk in the direction of the references leaves them.
+fn leaving_order(alloc: Global, references: &[Vec<usize>]) -> Result<Vec<usize>, AllocError> {
+    let mut reached = flags(alloc, references.len())?;
+    let mut order = Vec::new(alloc);
+    for start in 0..references.len() {
+        walk(alloc, references, start, &mut reached, &mut order)?;
+    }
+    Ok(order)
+}
+
+// The types that refer to each.
+fn backward_references(
+    alloc: Global,
+    references: &[Vec<usize>],
+) -> Result<Vec<Vec<usize>>, AllocError> {
+    let mut backward: Vec<Vec<usize>> = Vec::new(alloc);
+    for _ in references {
+        backward.push(Vec::new(alloc))?;
+    }
+    for (index, referred) in references.iter().enumerate() {
+        for reference in referred {
+            if let Some(list) = backward.get_mut(*reference) {
+                list.push(index)?;
+            }
+        }
+    }
+    Ok(backward)
+}
+
+// As many flags that are not set.
+fn flags(alloc: Global, count: usize) -> Result<Vec<bool>, AllocError> {
+    let mut flags = Vec::new(alloc);
+    for _ in 0..count {
+        flags.push(false)?;
+    }
+    Ok(flags)
+}
+
+// Appends the types that a walk from one reaches, unless they were reached before, each behind those that it leads to.
+fn walk(
+    alloc: Global,
+    references: &[Vec<usize>],
+    start: usize,
+    reached: &mut Vec<bool>,
+    left: &mut Vec<usize>,
+) -> Result<(), AllocError> {
+    // The types on the way, each with the number of its references that were followed.
+    let mut way = Vec::new(alloc);
+    if mark(reached, start) {
+        way.push((start, 0usize))?;
+    }
+    for _ in 0..usize::MAX {
+        let Some((index, followed)) = way.pop() else {
+            return Ok(());
+        };
+        match reference_at(references, index, followed) {
+            Some(reference) => {
+                way.push((index, followed.saturating_add(1)))?;
+                if mark(reached, reference) {
+                    way.push((reference, 0))?;
+                }
+            }
+            None => left.push(index)?,
+        }
+    }
+    Ok(())
+}
+
+// A reference of a type, by its index among these.
+fn reference_at(references: &[Vec<usize>], index: usize, which: usize) -> Option<usize> {
+    references.get(index)?.get(which).copied()
 }
 
 // Marks an index, and answers whether it was not marked.

@@ -1,15 +1,21 @@
 //! References to names that a module imports from several modules.
 use crate::resolver::Resolver;
-use asn1_names::{Names, UsedName, is_defined};
+use asn1_names::{NameIndex, Names};
 use asn1_resolved::Severity;
-use std::alloc::AllocError;
+use std::alloc::{AllocError, Global};
+use std::collections::{HashMap, HashSet};
 
 impl Resolver<'_, '_> {
     /// Refuses each reference to a name that its module imports from several modules, unless it names the module (X.680, 13.16).
     pub(crate) fn report_ambiguous(&mut self) -> Result<(), AllocError> {
         let names = self.names;
+        let defined = NameIndex::of(self.alloc, &names.defined)?;
+        let ambiguous = ambiguous_names(self.alloc, names, &defined)?;
         for used in &names.used {
-            if is_ambiguous(names, used) {
+            if used.qualifier.is_none()
+                && ambiguous.contains(&(used.module, used.name))
+                && !defined.is_defined(used.module, used.name)
+            {
                 self.report(
                     used.place,
                     Severity::Error,
@@ -26,26 +32,23 @@ impl Resolver<'_, '_> {
     }
 }
 
-// Whether a reference names no module, and may be to definitions of several from which its module imports the name.
-fn is_ambiguous(names: &Names<'_>, used: &UsedName<'_>) -> bool {
-    used.qualifier.is_none()
-        && !is_defined(names.defined.as_slice(), used.module, used.name)
-        && has_several_sources(names, used)
-}
-
-// Whether the module of a reference imports its name from several modules that define it.
-fn has_several_sources(names: &Names<'_>, used: &UsedName<'_>) -> bool {
-    let mut source: Option<&[u8]> = None;
+// The names that a module imports from several modules that define them, each with the module that imports it.
+fn ambiguous_names<'a>(
+    alloc: Global,
+    names: &Names<'a>,
+    defined: &NameIndex<'a>,
+) -> Result<HashSet<(&'a [u8], &'a [u8])>, AllocError> {
+    let mut sources: HashMap<(&[u8], &[u8]), &[u8]> = HashMap::new(alloc);
+    let mut ambiguous = HashSet::new(alloc);
     for import in &names.imported {
-        if import.module == used.module
-            && import.name == used.name
-            && is_defined(names.defined.as_slice(), import.from, import.name)
-        {
-            match source {
-                Some(first) if first != import.from => return true,
-                _ => source = Some(import.from),
+        if defined.is_defined(import.from, import.name) {
+            let name = (import.module, import.name);
+            if let Some(earlier) = sources.insert(name, import.from)? {
+                if earlier != import.from {
+                    ambiguous.insert(name)?;
+                }
             }
         }
     }
-    false
+    Ok(ambiguous)
 }

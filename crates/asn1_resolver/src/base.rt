@@ -1,8 +1,8 @@
 //! The types behind references and tags.
 use crate::fault::Fault;
-use crate::governed::Governed;
+use crate::governed::{Governed, Scope};
 use crate::resolver::Resolver;
-use asn1_notation::{Type, TypeKind};
+use asn1_notation::{Reference, Type, TypeKind};
 
 // How many tags a type may be under.
 const MAX_TAGS: usize = 100;
@@ -14,31 +14,50 @@ impl<'a> Resolver<'_, 'a> {
         definitions.saturating_add(1).saturating_mul(MAX_TAGS)
     }
 
-    /// The type behind references and tags.
+    /// The type behind references and tags. Each definition on the way keeps it.
     pub(crate) fn base(&mut self, governed: Governed<'a>) -> Result<Governed<'a>, Fault> {
         let mut current = governed;
+        let mut passed = Vec::new(self.alloc);
         for _ in 0..self.most_steps() {
-            match self.step(current)? {
-                Some(next) => current = next,
-                None => return Ok(current),
-            }
+            let scope = current.scope;
+            current = match &current.definition.kind {
+                TypeKind::Tagged(_, inner) => Governed {
+                    scope,
+                    definition: inner,
+                },
+                TypeKind::Reference(reference) => {
+                    let index = self.find_type(scope, reference)?;
+                    passed.push(index)?;
+                    self.known_base(scope, reference, index)?
+                }
+                _ => {
+                    self.keep_base(&passed, current);
+                    return Ok(current);
+                }
+            };
         }
         Err(self.refuse(governed.place(), &[b"the type is defined by itself"]))
     }
 
-    // The type behind a reference or a tag.
-    fn step(&mut self, governed: Governed<'a>) -> Result<Option<Governed<'a>>, Fault> {
-        let scope = governed.scope;
-        match &governed.definition.kind {
-            TypeKind::Tagged(_, inner) => Ok(Some(Governed {
-                scope,
-                definition: inner,
-            })),
-            TypeKind::Reference(reference) => {
-                let referenced = self.referenced(scope, reference)?;
-                Ok(Some(referenced))
+    // The type behind the references and tags of a definition, if they were followed, or else that of the definition.
+    fn known_base(
+        &mut self,
+        scope: Scope<'a>,
+        reference: &Reference,
+        index: usize,
+    ) -> Result<Governed<'a>, Fault> {
+        match self.bases.get(index) {
+            Some(Some(base)) => Ok(*base),
+            _ => self.type_at(scope, reference, index),
+        }
+    }
+
+    // Keeps the type behind the references and tags of definitions.
+    fn keep_base(&mut self, passed: &[usize], base: Governed<'a>) {
+        for index in passed {
+            if let Some(known) = self.bases.get_mut(*index) {
+                *known = Some(base);
             }
-            _ => Ok(None),
         }
     }
 

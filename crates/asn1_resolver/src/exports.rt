@@ -1,18 +1,21 @@
 //! Imports of names that their module does not export.
 use crate::resolver::Resolver;
 use asn1_modules::Source;
-use asn1_names::is_defined;
-use asn1_notation::{Exports, Module, Span};
+use asn1_names::NameIndex;
+use asn1_notation::{Exports, Module};
 use asn1_resolved::Severity;
-use std::alloc::AllocError;
+use std::alloc::{AllocError, Global};
+use std::collections::HashSet;
 
 impl<'a> Resolver<'_, 'a> {
     /// Warns of each imported name that its module defines, and does not export (X.680, 13.16).
     pub(crate) fn report_exports(&mut self, sources: &[Source<'a>]) -> Result<(), AllocError> {
         let names = self.names;
+        let defined = NameIndex::of(self.alloc, &names.defined)?;
+        let exported = exported_names(self.alloc, sources)?;
         for import in &names.imported {
-            if is_defined(names.defined.as_slice(), import.from, import.name)
-                && !is_exported(sources, import.from, import.name)
+            if defined.is_defined(import.from, import.name)
+                && exported.leaves_out(import.from, import.name)
             {
                 self.report(
                     import.place,
@@ -31,40 +34,47 @@ impl<'a> Resolver<'_, 'a> {
     }
 }
 
-// Whether each module of this name exports a name.
-fn is_exported(sources: &[Source<'_>], module: &[u8], name: &[u8]) -> bool {
+// The names that modules export.
+#[derive(Drop)]
+struct ExportedNames<'a> {
+    // The modules that list the names that they export.
+    modules: HashSet<&'a [u8]>,
+    // The names behind the EXPORTS of these, with the modules.
+    names: HashSet<(&'a [u8], &'a [u8])>,
+}
+
+impl<'a> ExportedNames<'a> {
+    // Whether a module lists the names that it exports, and this is none.
+    fn leaves_out(&self, module: &[u8], name: &[u8]) -> bool {
+        self.modules.contains(module) && !self.names.contains(&(module, name))
+    }
+
+    // Adds the names that a module exports.
+    fn add(&mut self, text: &'a [u8], module: &Module) -> Result<(), AllocError> {
+        if let Exports::Names(names) = &module.exports {
+            self.modules.insert(module.name.octets(text))?;
+            for name in names {
+                self.names
+                    .insert((module.name.octets(text), name.octets(text)))?;
+            }
+        }
+        Ok(())
+    }
+}
+
+// The names that the modules of some texts export.
+fn exported_names<'a>(
+    alloc: Global,
+    sources: &[Source<'a>],
+) -> Result<ExportedNames<'a>, AllocError> {
+    let mut exported = ExportedNames {
+        modules: HashSet::new(alloc),
+        names: HashSet::new(alloc),
+    };
     for source in sources {
-        if !is_exported_in(*source, module, name) {
-            return false;
+        for module in source.modules {
+            exported.add(source.text, module)?;
         }
     }
-    true
-}
-
-// Whether each module of this name in a text exports a name.
-fn is_exported_in(source: Source<'_>, module: &[u8], name: &[u8]) -> bool {
-    for candidate in source.modules {
-        if candidate.name.octets(source.text) == module && !exports(source.text, candidate, name) {
-            return false;
-        }
-    }
-    true
-}
-
-// Whether a module exports a name.
-fn exports(text: &[u8], module: &Module, name: &[u8]) -> bool {
-    match &module.exports {
-        Exports::All => true,
-        Exports::Names(names) => has_name(text, names.as_slice(), name),
-    }
-}
-
-// Whether a name is one of these.
-fn has_name(text: &[u8], names: &[Span], name: &[u8]) -> bool {
-    for known in names {
-        if known.octets(text) == name {
-            return true;
-        }
-    }
-    false
+    Ok(exported)
 }

@@ -37,6 +37,7 @@ mod distinct;
 mod enumerations;
 mod exports;
 mod fault;
+mod finder;
 mod followed;
 mod governed;
 mod included;

@@ -1,16 +1,17 @@
 //! References to definitions.
-ghost use Rattle.std.specs.Prelude.{◌≡◌, ◌<◌, IfNone, IfSome, length};
-ghost use Rattle.std.specs.List.{All, HoldsAt, list_any, position};
-ghost use Rattle.asn1_resolver.specs.References.{IsMeant};
+ghost use Rattle.std.specs.Prelude.{◌≡◌, ◌<◌, IfNone, IfSome, IsTrue, length};
+ghost use Rattle.std.specs.List.{All, Any, HoldsAt, list_any, position};
+ghost use Rattle.asn1_resolver.specs.References.{IsImportOf, IsMeant, Reaches};
 ghost use Rattle.asn1_resolver.specs.References as spec;
 
 use crate::definitions::Defined;
 use crate::fault::Fault;
+use crate::finder::{Candidate, Finder};
 use crate::governed::{Governed, Scope, Written};
 use crate::resolver::Resolver;
-use asn1_modules::append_problem;
 use asn1_names::{ImportedName, NameProblem, UsedName};
 use asn1_notation::{Reference, TypeKind};
+use asn1_resolved::Severity;
 use std::alloc::AllocError;
 
 impl<'a> Resolver<'_, 'a> {
@@ -22,6 +23,7 @@ impl<'a> Resolver<'_, 'a> {
     ) -> Result<usize, Fault> {
         let used = used_name(scope, reference);
         match find(
+            &self.type_finder,
             self.definitions.types.as_slice(),
             self.names.imported.as_slice(),
             &used,
@@ -38,6 +40,16 @@ impl<'a> Resolver<'_, 'a> {
         reference: &Reference,
     ) -> Result<Governed<'a>, Fault> {
         let index = self.find_type(scope, reference)?;
+        self.type_at(scope, reference, index)
+    }
+
+    /// The type of this index, to which a reference is.
+    pub(crate) fn type_at(
+        &mut self,
+        scope: Scope<'a>,
+        reference: &Reference,
+        index: usize,
+    ) -> Result<Governed<'a>, Fault> {
         match self.definitions.types.get(index) {
             Some(defined) => Ok(defined.governed()),
             None => Err(self.refuse_undefined(scope, reference)),
@@ -59,6 +71,7 @@ impl<'a> Resolver<'_, 'a> {
     // The index of the value of this name.
     fn index_of_value(&self, scope: Scope<'a>, reference: &Reference) -> Option<usize> {
         find(
+            &self.value_finder,
             self.definitions.values.as_slice(),
             self.names.imported.as_slice(),
             &used_name(scope, reference),
@@ -106,21 +119,21 @@ impl<'a> Resolver<'_, 'a> {
 
     // Refuses a name that is not defined.
     fn refuse_undefined(&mut self, scope: Scope<'a>, reference: &Reference) -> Fault {
-        match self.undefined_text(scope, reference) {
-            Ok(text) => self.refuse(scope.place(reference.name), &[text.as_slice()]),
+        let place = scope.place(reference.name);
+        if self.is_reported(place, Severity::Error) {
+            return Fault::Refused;
+        }
+        let used = NameProblem::Undefined(used_name(scope, reference));
+        match self.name_text(&used) {
+            Ok(text) => self.refuse(place, &[text.as_slice()]),
             Err(_) => Fault::Memory,
         }
     }
 
-    // The text that the module of a reference does not define its name.
-    fn undefined_text(
-        &self,
-        scope: Scope<'a>,
-        reference: &Reference,
-    ) -> Result<Vec<u8>, AllocError> {
-        let used = NameProblem::Undefined(used_name(scope, reference));
+    /// The text of what is wrong with a name.
+    pub(crate) fn name_text(&mut self, problem: &NameProblem<'a>) -> Result<Vec<u8>, AllocError> {
         let mut text = Vec::new(self.alloc);
-        append_problem(self.alloc, &mut text, self.names, &used)?;
+        self.messages.append(&mut text, problem)?;
         Ok(text)
     }
 }
@@ -140,11 +153,82 @@ fn used_name<'a>(scope: Scope<'a>, reference: &Reference) -> UsedName<'a> {
 
 // The index of the definition that a reference is to (X.680, 13.16 and 14.1): one of the module that it names; or else of its
 // own module, or of one from which its own module imports the name.
-fn find(list: &[Defined<'_>], imported: &[ImportedName<'_>], used: &UsedName<'_>) -> Option<usize>
+fn find(
+    finder: &Finder<'_>,
+    list: &[Defined<'_>],
+    imported: &[ImportedName<'_>],
+    used: &UsedName<'_>,
+) -> Option<usize>
     // The reference can be to the definition at the index.
     ensures within { IfSome result (λ index. index < length list.now) }
     ensures meant { IfSome result (HoldsAt (IsMeant imported.now used.now) list.now) }
     // Without an index there is no such definition.
+    ensures undefined { IfNone result (
+        All (λ defined. ¬ IsMeant imported.now used.now defined) list.now) }
+{
+    match finder.candidate(used) {
+        Some(candidate) if is_meant(candidate, list, imported, used) => Some(candidate.definition),
+        _ => search(list, imported, used),
+    }
+}
+
+// Whether a reference can be to the definition of a candidate.
+fn is_meant(
+    candidate: Candidate,
+    list: &[Defined<'_>],
+    imported: &[ImportedName<'_>],
+    used: &UsedName<'_>,
+) -> bool
+    ensures within { IsTrue result → candidate.definition < length list.now }
+    ensures meant { IsTrue result →
+        HoldsAt (IsMeant imported.now used.now) list.now candidate.definition }
+{
+    match list.get(candidate.definition) {
+        Some(defined) => {
+            defined.name == used.name && is_reached(candidate.import, defined, imported, used)
+        }
+        None => false,
+    }
+}
+
+// Whether a reference reaches the module of a definition, by an import if one is named.
+fn is_reached(
+    import: Option<usize>,
+    defined: &Defined<'_>,
+    imported: &[ImportedName<'_>],
+    used: &UsedName<'_>,
+) -> bool
+    ensures { IsTrue result →
+        Reaches imported.now used.now defined.now.scope.name.now used.now.qualifier }
+{
+    match used.qualifier {
+        Some(module) => defined.scope.name == module,
+        None => match import {
+            None => defined.scope.name == used.module,
+            Some(index) => is_brought_in(index, defined.scope.name, imported, used),
+        },
+    }
+}
+
+// Whether the import of an index is of the name of a reference, by its module, from this module.
+fn is_brought_in(
+    index: usize,
+    module: &[u8],
+    imported: &[ImportedName<'_>],
+    used: &UsedName<'_>,
+) -> bool
+    ensures { IsTrue result → Any (IsImportOf used.now «module».now) imported.now }
+{
+    match imported.get(index) {
+        Some(import) => is_import_of(import, used, module),
+        None => false,
+    }
+}
+
+// The same index as that of `find`, by a look at each definition.
+fn search(list: &[Defined<'_>], imported: &[ImportedName<'_>], used: &UsedName<'_>) -> Option<usize>
+    ensures within { IfSome result (λ index. index < length list.now) }
+    ensures meant { IfSome result (HoldsAt (IsMeant imported.now used.now) list.now) }
     ensures undefined { IfNone result (
         All (λ defined. ¬ IsMeant imported.now used.now defined) list.now) }
 {

@@ -13,12 +13,13 @@ use crate::fault::Fault;
 use crate::governed::Written;
 use crate::resolver::Resolver;
 use crate::values::MAX_DEPTH;
-use asn1_modules::{Source, append_problem, collect_names};
+use asn1_modules::{Source, collect_names};
 use asn1_names::{NameProblem, Names, Place, check_names};
 use asn1_resolved::{
     Problem, Schema, Severity, Type, TypeDefinition, TypeKind, Value, ValueDefinition,
 };
 use std::alloc::{AllocError, Global};
+use std::collections::HashSet;
 
 /// What the modules of a run mean.
 #[derive(Drop)]
@@ -65,19 +66,13 @@ pub fn resolve<'a>(alloc: Global, sources: &[Source<'a>]) -> Result<Resolution<'
 {
     let definitions = list_definitions(alloc, sources)?;
     let names = collect_names(alloc, sources)?;
-    let mut resolver = Resolver {
-        alloc,
-        definitions: &definitions,
-        names: &names,
-        problems: Vec::new(alloc),
-        values_read: 0,
-    };
+    let mut resolver = Resolver::new(alloc, &definitions, &names)?;
     resolver.report_modules(sources)?;
     let schema = resolve_schema(&mut resolver, &definitions)?;
     resolver.report_ambiguous()?;
     resolver.report_names()?;
     resolver.report_exports(sources)?;
-    let mut problems = resolver.into_problems();
+    let mut problems = resolver.into_problems()?;
     require_names(alloc, &mut problems, &schema, &names)?;
     Ok(Resolution {
         schema,
@@ -108,28 +103,44 @@ fn resolve_schema<'a>(
 }
 
 impl<'a> Resolver<'_, 'a> {
-    // Reports what is wrong with names. A warning is told once.
+    // Reports what is wrong with names. A warning of a module is told once.
     fn report_names(&mut self) -> Result<(), AllocError> {
         let found = check_names(self.alloc, self.names)?;
+        let mut missing_modules = HashSet::new(self.alloc);
         for problem in &found {
-            let mut text = Vec::new(self.alloc);
-            append_problem(self.alloc, &mut text, self.names, problem)?;
-            let severity = severity_of(self.names, problem);
-            if severity == Severity::Error || !self.has_text(text.as_slice()) {
-                self.report(problem.place(), severity, &[text.as_slice()])?;
+            match self.missing_module(problem) {
+                Some(name) => {
+                    if missing_modules.insert(name)? {
+                        self.report_name(problem, Severity::Warning)?;
+                    }
+                }
+                None => self.report_name(problem, Severity::Error)?,
             }
         }
         Ok(())
     }
 
-    // Whether a problem has this text.
-    fn has_text(&self, text: &[u8]) -> bool {
-        for problem in &self.problems {
-            if problem.text.as_slice() == text {
-                return true;
+    // The module behind FROM that is not among the files: it is needed only where a name is used.
+    fn missing_module(&self, problem: &NameProblem<'a>) -> Option<&'a [u8]> {
+        match problem {
+            NameProblem::UnknownImport(import) if !self.messages.has_module(import.from) => {
+                Some(import.from)
             }
+            _ => None,
         }
-        false
+    }
+
+    // Reports what is wrong with a name, unless its place has a problem of this severity.
+    fn report_name(
+        &mut self,
+        problem: &NameProblem<'a>,
+        severity: Severity,
+    ) -> Result<(), AllocError> {
+        if !self.is_reported(problem.place(), severity) {
+            let text = self.name_text(problem)?;
+            self.report(problem.place(), severity, &[text.as_slice()])?;
+        }
+        Ok(())
     }
 
     // The definition of a type. One that is in error is NULL.
@@ -193,22 +204,4 @@ impl<'a> Resolver<'_, 'a> {
             value,
         })
     }
-}
-
-// Whether modules with this problem can be used: a module that is not among the files is needed only where a name is used.
-fn severity_of(names: &Names<'_>, problem: &NameProblem<'_>) -> Severity {
-    match problem {
-        NameProblem::UnknownImport(import) if !has_module(names, import.from) => Severity::Warning,
-        _ => Severity::Error,
-    }
-}
-
-// Whether a definition is in a module of this name.
-fn has_module(names: &Names<'_>, module: &[u8]) -> bool {
-    for defined in &names.defined {
-        if defined.module == module {
-            return true;
-        }
-    }
-    false
 }

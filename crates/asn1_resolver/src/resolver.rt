@@ -1,11 +1,13 @@
 //! The state of a run.
-ghost use Rattle.std.specs.Prelude.{◌≤◌, length};
-
 use crate::definitions::Definitions;
 use crate::fault::Fault;
+use crate::finder::Finder;
+use crate::governed::Governed;
+use asn1_modules::NameMessages;
 use asn1_names::{Names, Place};
 use asn1_resolved::{Problem, Severity};
 use std::alloc::{AllocError, Global};
+use std::collections::HashSet;
 
 /// The definitions of a run, and the problems that were found.
 #[derive(Drop)]
@@ -16,13 +18,68 @@ pub(crate) struct Resolver<'r, 'a> {
     pub(crate) definitions: &'r Definitions<'a>,
     /// The names that are defined, imported and used.
     pub(crate) names: &'r Names<'a>,
-    /// The problems, in the order of their places.
-    pub(crate) problems: Vec<Problem>,
+    /// Where the types may be found.
+    pub(crate) type_finder: Finder<'a>,
+    /// Where the values may be found.
+    pub(crate) value_finder: Finder<'a>,
+    /// The type behind the references and tags of each definition of a type, as far as they were followed.
+    pub(crate) bases: Vec<Option<Governed<'a>>>,
+    /// The messages about names.
+    pub(crate) messages: NameMessages<'r, 'a>,
     /// How many values were read inside the present one.
     pub(crate) values_read: usize,
+    // The problems.
+    problems: Vec<Problem>,
+    // The texts and the offsets at which there are errors and warnings.
+    errors: HashSet<(usize, usize)>,
+    warnings: HashSet<(usize, usize)>,
 }
 
-impl Resolver<'_, '_> {
+impl<'r, 'a> Resolver<'r, 'a> {
+    /// The beginning of a run. The error is that of memory.
+    pub(crate) fn new(
+        alloc: Global,
+        definitions: &'r Definitions<'a>,
+        names: &'r Names<'a>,
+    ) -> Result<Resolver<'r, 'a>, AllocError> {
+        let mut bases = Vec::new(alloc);
+        for _ in &definitions.types {
+            bases.push(None)?;
+        }
+        Ok(Resolver {
+            alloc,
+            definitions,
+            names,
+            type_finder: Finder::of(alloc, &definitions.types, &names.imported)?,
+            value_finder: Finder::of(alloc, &definitions.values, &names.imported)?,
+            bases,
+            messages: NameMessages::new(alloc, names)?,
+            values_read: 0,
+            problems: Vec::new(alloc),
+            errors: HashSet::new(alloc),
+            warnings: HashSet::new(alloc),
+        })
+    }
+
+    /// Whether there is a problem of this severity at the place.
+    pub(crate) fn is_reported(&self, place: Place, severity: Severity) -> bool {
+        let begin = (place.text, place.span.start);
+        match severity {
+            Severity::Error => self.errors.contains(&begin),
+            Severity::Warning => self.warnings.contains(&begin),
+        }
+    }
+
+    // Keeps that there is a problem of this severity at the place, and answers whether it is the first.
+    fn is_first(&mut self, place: Place, severity: Severity) -> Result<bool, AllocError> {
+        let begin = (place.text, place.span.start);
+        let is_new = match severity {
+            Severity::Error => self.errors.insert(begin)?,
+            Severity::Warning => self.warnings.insert(begin)?,
+        };
+        Ok(is_new)
+    }
+
     /// Adds a problem, unless there is one of this severity at the place.
     pub(crate) fn report(
         &mut self,
@@ -30,28 +87,22 @@ impl Resolver<'_, '_> {
         severity: Severity,
         parts: &[&[u8]],
     ) -> Result<(), AllocError> {
-        if !is_reported(self.problems.as_slice(), place, severity) {
+        if self.is_first(place, severity)? {
             let text = join(self.alloc, parts)?;
-            let problem = Problem {
+            self.problems.push(Problem {
                 place,
                 severity,
                 text,
-            };
-            insert(&mut self.problems, problem)?;
+            })?;
         }
         Ok(())
     }
 
-    /// The problems.
-    pub(crate) fn into_problems(self) -> Vec<Problem> {
-        let Resolver {
-            alloc: _,
-            definitions: _,
-            names: _,
-            problems,
-            values_read: _,
-        } = self;
-        problems
+    /// The problems, in the order of their places.
+    pub(crate) fn into_problems(self) -> Result<Vec<Problem>, AllocError> {
+        let Resolver { mut problems, .. } = self;
+        problems.sort_by_key(|problem| (problem.place.text, problem.place.span.start))?;
+        Ok(problems)
     }
 
     /// Adds an error, and answers the fault that it causes.
@@ -60,49 +111,6 @@ impl Resolver<'_, '_> {
             Ok(()) => Fault::Refused,
             Err(_) => Fault::Memory,
         }
-    }
-}
-
-// Whether there is a problem of this severity at the place.
-fn is_reported(problems: &[Problem], place: Place, severity: Severity) -> bool {
-    for problem in problems {
-        if begins_at(problem.place, place) && problem.severity == severity {
-            return true;
-        }
-    }
-    false
-}
-
-// Whether two places begin at the same octet.
-fn begins_at(place: Place, other: Place) -> bool {
-    place.text == other.text && place.span.start == other.span.start
-}
-
-// Inserts a problem before those at later places.
-fn insert(problems: &mut Vec<Problem>, problem: Problem) -> Result<(), AllocError> {
-    let index = index_for(problems.as_slice(), problem.place);
-    problems.insert(index, problem)?;
-    Ok(())
-}
-
-// The index of the first problem at a place behind this one, or else how many problems there are.
-fn index_for(problems: &[Problem], place: Place) -> usize
-    ensures { result ≤ length problems.now }
-{
-    for (index, problem) in problems.iter().enumerate() {
-        if is_before(place, problem.place) {
-            return index;
-        }
-    }
-    problems.len()
-}
-
-// Whether a place is before another.
-fn is_before(place: Place, other: Place) -> bool {
-    if place.text == other.text {
-        place.span.start < other.span.start
-    } else {
-        place.text < other.text
     }
 }
 

@@ -1,11 +1,13 @@
 //! Names that are told apart.
 use std::alloc::{AllocError, Global};
+use std::collections::HashMap;
 
 /// The names of a scope.
 #[derive(Drop)]
 pub struct TakenNames {
     alloc: Global,
-    names: Vec<String>,
+    // Of each name that is taken, in lower case, the least number behind it that may be free.
+    numbers: HashMap<String, usize>,
 }
 
 impl TakenNames {
@@ -13,43 +15,54 @@ impl TakenNames {
     pub fn new(alloc: Global) -> TakenNames {
         TakenNames {
             alloc,
-            names: Vec::new(alloc),
+            numbers: HashMap::new(alloc),
         }
     }
 
-    /// Whether a name is taken, without regard to case.
-    pub fn is_taken(&self, name: &str) -> bool {
-        self.names
-            .iter()
-            .any(|taken| is_same(taken.as_bytes(), name.as_bytes()))
-    }
-
-    /// Takes a name that is free: this one, or else this one with the least number behind it, from 2 on.
+    /// Takes a name that is free without regard to case: this one, or else this one with the least number behind it, from 2 on.
     pub fn take(&mut self, name: &str) -> Result<String, AllocError> {
-        let free = self.free_name(name)?;
-        self.names
-            .push(String::from_str(self.alloc, free.as_str())?)?;
-        Ok(free)
+        let lower = lower_case(self.alloc, name)?;
+        match self.numbers.get(lower.as_str()).copied() {
+            Some(number) => self.take_numbered(name, lower.as_str(), number),
+            None => {
+                self.numbers.insert(lower, 2)?;
+                String::from_str(self.alloc, name)
+            }
+        }
     }
 
-    // A free name that begins with this one. If no number is left, memory cannot hold the names.
-    fn free_name(&self, name: &str) -> Result<String, AllocError> {
-        if !self.is_taken(name) {
-            return String::from_str(self.alloc, name);
-        }
-        for number in 2..usize::MAX {
-            let numbered = format!(in self.alloc; "{name}{number}")?;
-            if !self.is_taken(numbered.as_str()) {
-                return Ok(numbered);
+    // Takes a name with the least number behind it that is free, from this one on. If no number is left, memory cannot hold the
+    // names.
+    fn take_numbered(
+        &mut self,
+        name: &str,
+        lower: &str,
+        first: usize,
+    ) -> Result<String, AllocError> {
+        for number in first..usize::MAX {
+            let numbered = format!(in self.alloc; "{lower}{number}")?;
+            if !self.numbers.contains_key(numbered.as_str()) {
+                self.numbers.insert(numbered, 2)?;
+                self.start_at(lower, number);
+                return format!(in self.alloc; "{name}{number}");
             }
         }
         Err(AllocError)
     }
+
+    // Keeps that no number before this one is free behind a name.
+    fn start_at(&mut self, lower: &str, number: usize) {
+        if let Some(least) = self.numbers.get_mut(lower) {
+            *least = number;
+        }
+    }
 }
 
-// Whether two names differ at most in case.
-fn is_same(one: &[u8], other: &[u8]) -> bool {
-    one.len() == other.len()
-        && one.iter().zip(other).all(|(left, right)| left.to_ascii_lowercase()
-            == right.to_ascii_lowercase())
+// A name in lower case.
+fn lower_case(alloc: Global, name: &str) -> Result<String, AllocError> {
+    let mut lower = String::new(alloc);
+    for character in name.chars() {
+        lower.push(character.to_ascii_lowercase())?;
+    }
+    Ok(lower)
 }

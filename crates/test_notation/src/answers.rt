@@ -4,7 +4,7 @@ use crate::rust_names::{append_forms, append_taken};
 use crate::work::{Text, Work};
 use asn1_grammar::{Parsed, parse};
 use asn1_module_check::check_tags;
-use asn1_modules::{Source, append_problem, collect_names};
+use asn1_modules::{NameMessages, Source, collect_names};
 use asn1_names::check_names;
 use asn1_notation_text::{Printer, print_module};
 use asn1_resolver::resolve;
@@ -85,9 +85,10 @@ fn answer_names(alloc: Global, out: &mut Vec<u8>, text: &[u8]) -> io::Result<()>
         modules: &parsed.modules,
     };
     let names = collect_names(alloc, &[source])?;
+    let mut messages = NameMessages::new(alloc, &names)?;
     for problem in &check_names(alloc, &names)? {
         append_position(out, text, problem.place().span.start)?;
-        append_problem(alloc, out, &names, problem)?;
+        messages.append(out, problem)?;
         out.push(b'\n')?;
     }
     Ok(())

@@ -1,0 +1,70 @@
+-- What is written of the values of an input.
+use Rattle.std.specs.Prelude.{◌≡◌, ◌+◌, ℕ, suc, ⊤, Bool, List, [], ◌++◌, length, IfErr, Result, Ok, Err, Vec}
+use Rattle.std.specs.declared.alloc.Global.{Global}
+use Rattle.asn1_items.specs.declared.error.ItemError.{ItemError}
+use Rattle.asn1_items.specs.declared.error.ItemError.TheVariants as item_error
+use Rattle.asn1_model.specs.Meaning.{Meaning}
+use Rattle.asn1_rules.specs.Recoding.{Recodes, WritingFailsAsItMay}
+use Rattle.asn1_rules.specs.declared.recoding.RecodeError.{RecodeError}
+use Rattle.asn1_convert.specs.Forms.{IsFront, format_of}
+use Rattle.asn1_convert.specs.declared.form.CodecForm.{CodecForm}
+use Rattle.asn1_convert.specs.declared.form.OutputForm.{OutputForm}
+use Rattle.asn1_convert.specs.declared.form.OutputForm.TheVariants.{Codec, Notation, Json}
+use Rattle.asn1_convert.specs.declared.stream.Cause.{Cause}
+use Rattle.asn1_convert.specs.declared.stream.Cause.TheVariants.{NoFront, NotRecoded, Memory}
+use Rattle.asn1_convert.specs.declared.stream.Stop.{Stop}
+
+module _ {V : Type 0} (m : Meaning V) (eq : V → V → Bool) (depth : ℕ) where
+  -- A call that writes in one form the value that octets are in another. Of a text nothing is said.
+  abbrev pub Converts : CodecForm → List ℕ → OutputForm → Result (Vec ℕ Global) RecodeError → Type 0
+  Converts from octets (Codec to) result =
+      ((input : Vec ℕ Global) → input.items ≡ octets → Recodes (format_of to) m (format_of from) input eq depth result) ×
+      IfErr result (WritingFailsAsItMay (format_of to) m depth)
+  Converts from octets Notation result = ⊤
+  Converts from octets Json result = ⊤
+
+  -- What is written of the value whose octets these are was appended.
+  pub record HasAppended (from : CodecForm) (to : OutputForm) (octets old new : List ℕ) : Type 0 where
+    pub piece : Vec ℕ Global
+    pub converted : Converts from octets to (Ok piece)
+    pub appended : new ≡ old ++ piece.items
+
+  -- Why the value whose octets these are was not: it was not recoded, or memory ran out.
+  abbrev pub IsValueCause : CodecForm → OutputForm → List ℕ → Cause → Type 0
+  IsValueCause from to octets (NoFront e) = ⊥
+  IsValueCause from to octets (NotRecoded e) = Converts from octets to (Err e)
+  IsValueCause from to octets Memory = ⊤
+
+  -- The same of the value at the front of an input, of which this is left.
+  pub record HasConverted (from : CodecForm) (to : OutputForm) (input old left new : List ℕ) : Type 0 where
+    pub octets : List ℕ
+    pub parts : input ≡ octets ++ left
+    pub front : IsFront from input (length octets)
+    pub value : HasAppended from to octets old new
+
+  -- The input begins with a value that was not converted: it was not recoded, or memory ran out.
+  pub record HasNotConverted (from : CodecForm) (to : OutputForm) (input : List ℕ) (cause : Cause) : Type 0 where
+    pub octets : List ℕ
+    pub left : List ℕ
+    pub parts : input ≡ octets ++ left
+    pub front : IsFront from input (length octets)
+    pub value : IsValueCause from to octets cause
+
+  -- Why the value at the front of an input was not converted: there is none, unless memory ran out, or the value was not.
+  abbrev pub IsCause : CodecForm → OutputForm → List ℕ → Cause → Type 0
+  IsCause from to input (NoFront e) = (n : ℕ) → IsFront from input n → e ≡ item_error.Memory
+  IsCause from to input (NotRecoded e) = HasNotConverted from to input (NotRecoded e)
+  IsCause from to input Memory = HasNotConverted from to input Memory
+
+  -- Values of an input were converted, one after another: this is left of it, this was written, and they are so many.
+  pub data HaveConverted (from : CodecForm) (to : OutputForm) (input : List ℕ) : List ℕ → List ℕ → ℕ → Type 0 where
+    none : HaveConverted from to input input [] 0
+    one_more : {left behind written more : List ℕ} {count : ℕ} → HaveConverted from to input left written count →
+        HasConverted from to left written behind more → HaveConverted from to input behind more (suc count)
+
+  -- The values before a stop were converted, and the one that begins there was not, for its cause.
+  pub record IsStop (from : CodecForm) (to : OutputForm) (input written : List ℕ) (stop : Stop) : Type 0 where
+    pub left : List ℕ
+    pub converted : HaveConverted from to input left written stop.before
+    pub start : stop.start + length left ≡ length input
+    pub cause : IsCause from to left stop.cause

@@ -1,0 +1,34 @@
+//! Where in a value reading fails.
+
+use crate::form::CodecForm;
+use asn1_ber::BerDecoder;
+use asn1_ber_items::normal_form;
+use asn1_dec::{Decode, Decoder};
+use asn1_der::DerDecoder;
+use asn1_paths::{PathDecoder, Place};
+use std::alloc::Global;
+
+/// Where in a value reading these octets fails, if that is known: by reading them again with a decoder that notes where it is.
+pub(crate) fn failing_place<T: Decode>(
+    alloc: Global,
+    form: CodecForm,
+    octets: &[u8],
+    depth: usize,
+) -> Option<Place> {
+    match form {
+        CodecForm::Der => place_in::<T, _>(DerDecoder::new(alloc, octets, depth)),
+        CodecForm::Ber => {
+            let normal = normal_form(alloc, octets).ok()?;
+            place_in::<T, _>(BerDecoder::new(alloc, normal.as_slice(), depth))
+        }
+        CodecForm::Packed => None,
+    }
+}
+
+/// Where a decoder is after it has read a value or failed.
+fn place_in<T: Decode, D: Decoder + Drop>(decoder: D) -> Option<Place> {
+    let mut noting = PathDecoder::new(decoder);
+    let _ = T::decode(&mut noting);
+    let (_decoder, place) = noting.into_parts();
+    place.ok()
+}

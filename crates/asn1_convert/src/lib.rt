@@ -1,0 +1,49 @@
+//! Programs that convert values of the types of a crate, as `asn1_compile --program` prints them.
+//!
+//! | Item | What it is | In `specs/` |
+//! |---|---|---|
+//! | [`run`], [`TypeList`] | the program over a list of types | |
+//! | [`Task`], [`Action`], [`Answer`] | what is asked of the octets of values of a type, and what is written for it | |
+//! | [`convert_values`], [`Conversion`], [`Stop`], [`Cause`] | values one after another, in another form | `Conversions` |
+//! | [`convert_value`], [`recode_between`] | the octets of one value | `Conversions` |
+//! | [`front_length`] | how many octets the first value of an input has | `Forms` |
+//! | [`check_der`], [`CheckError`] | whether octets are the DER of a type, and if not why | `Checks` |
+//! | [`stop_line`] | the line for a value that was not converted: its octets, where in it and why | |
+//! | [`CodecForm`], [`OutputForm`] | the forms of values: DER, BER, packed octets, X.680's notation and JSON | |
+//!
+//! The contracts promise:
+//!
+//! - The octets of an input are cut into values by their first elements, in the packed form by their items (`IsFront` of
+//!   `specs/Forms.antt`). What is written is the conversion of each value before the one that was not converted, once and in order, and
+//!   a stop names how many these are, the position of its first octet and its cause (`IsStop` of `specs/Conversions.antt`).
+//! - From codec to codec a value is converted as `recode` does, whose contract holds of each of the nine pairs ([`recode_between`]):
+//!   if the octets carry a valid value of a well-tagged type, the output carries one that is equal.
+//!
+//! - A value that [`check_der`] answers is written as the very octets (`canonical`). An error is a true reason (`departs`).
+//!
+//! No contract covers the texts (`asn1_value_text`), nor the words of a line on standard error, nor the place that it names
+//! (`asn1_paths`); stored runs show them.
+#![tactic(auto)]
+
+mod arguments;
+mod causes;
+mod check;
+mod failing_place;
+mod form;
+mod fronts;
+mod hexadecimal;
+mod places;
+mod program;
+mod recoding;
+mod report;
+mod stream;
+mod task;
+
+pub use check::{CheckError, check_der};
+pub use form::{CodecForm, OutputForm};
+pub use fronts::front_length;
+pub use program::run;
+pub use recoding::{convert_value, recode_between};
+pub use report::stop_line;
+pub use stream::{Cause, Conversion, Stop, convert_values};
+pub use task::{Action, Answer, Task, TypeList};

@@ -1,0 +1,58 @@
+//! What a program says of a value that was not converted.
+
+use crate::form::CodecForm;
+use crate::places::push_read_error;
+use crate::stream::{Cause, Stop};
+use asn1_dec::Decode;
+use asn1_items::ItemError;
+use asn1_rules::RecodeError;
+use std::alloc::{AllocError, Global};
+use std::fmt::Write;
+
+/// The line for a value of an input that was not converted: its number, from 1, its octets, and where in it and why.
+pub fn stop_line<T: Decode>(
+    alloc: Global,
+    from: CodecForm,
+    input: &[u8],
+    stop: Stop,
+    depth: usize,
+) -> Result<String, AllocError> {
+    let mut text = format!(in alloc; "value {}, ", stop.before.saturating_add(1))?;
+    push_octets(&mut text, stop.start, stop.length)?;
+    text.push_str(": ")?;
+    match stop.cause {
+        Cause::NotRecoded(RecodeError::Read(error)) => {
+            let octets = octets_of(input, stop.start, stop.length);
+            push_read_error::<T>(&mut text, alloc, from, octets, stop.start, error, depth)?;
+        }
+        Cause::NotRecoded(RecodeError::Write(error)) => write!(&mut text, "not written: {error}")?,
+        Cause::NoFront(ItemError::Missing(_)) => text.push_str("the input ends inside it")?,
+        Cause::NoFront(ItemError::Malformed) => text.push_str("no value begins here")?,
+        Cause::NoFront(ItemError::Memory) | Cause::Memory => text.push_str("no memory")?,
+    }
+    text.push('\n')?;
+    Ok(text)
+}
+
+/// Appends the first and the last octet of a value, or the first alone.
+fn push_octets(text: &mut String, start: usize, length: Option<usize>) -> Result<(), AllocError> {
+    match length {
+        Some(length) if length > 0 => {
+            write!(
+                text,
+                "octets {start} to {}",
+                start.saturating_add(length - 1)
+            )
+        }
+        _ => write!(text, "octet {start}"),
+    }
+}
+
+/// The octets of a value, or all from its first one on.
+fn octets_of(input: &[u8], start: usize, length: Option<usize>) -> &[u8] {
+    let left = input.get(start..).unwrap_or(&[]);
+    match length {
+        Some(length) => left.get(..length).unwrap_or(left),
+        None => left,
+    }
+}

@@ -1,0 +1,78 @@
+//! The names of the types of the language, as those of another case or with few other letters mean them.
+use asn1_names::{DefinedName, Place, nearest_name};
+use asn1_notation::Span;
+use std::alloc::{AllocError, Global};
+
+// The types of one word (X.680, 12.38), each in capitals and as it is written.
+const BUILT_IN: &[(&[u8], &[u8])] = &[
+    (b"BIT", b"BIT STRING"),
+    (b"BMPSTRING", b"BMPString"),
+    (b"BOOL", b"BOOLEAN"),
+    (b"BOOLEAN", b"BOOLEAN"),
+    (b"CHOICE", b"CHOICE"),
+    (b"ENUMERATED", b"ENUMERATED"),
+    (b"GENERALIZEDTIME", b"GeneralizedTime"),
+    (b"GENERALSTRING", b"GeneralString"),
+    (b"GRAPHICSTRING", b"GraphicString"),
+    (b"IA5STRING", b"IA5String"),
+    (b"INT", b"INTEGER"),
+    (b"INTEGER", b"INTEGER"),
+    (b"ISO646STRING", b"ISO646String"),
+    (b"NULL", b"NULL"),
+    (b"NUMERICSTRING", b"NumericString"),
+    (b"OBJECTDESCRIPTOR", b"ObjectDescriptor"),
+    (b"OCTET", b"OCTET STRING"),
+    (b"PRINTABLESTRING", b"PrintableString"),
+    (b"SEQUENCE", b"SEQUENCE"),
+    (b"SET", b"SET"),
+    (b"STRING", b"UTF8String"),
+    (b"T61STRING", b"T61String"),
+    (b"TELETEXSTRING", b"TeletexString"),
+    (b"UNIVERSALSTRING", b"UniversalString"),
+    (b"UTCTIME", b"UTCTime"),
+    (b"UTF8STRING", b"UTF8String"),
+    (b"VISIBLESTRING", b"VisibleString"),
+];
+
+/// The type of the language that a name may mean, without regard to case.
+pub(crate) fn nearest_built_in(
+    alloc: Global,
+    name: &[u8],
+) -> Result<Option<&'static [u8]>, AllocError> {
+    let mut capitals = Vec::new(alloc);
+    for octet in name {
+        capitals.push(octet.to_ascii_uppercase())?;
+    }
+    let nearest = nearest_name(alloc, &built_in_names(alloc)?, &capitals)?;
+    Ok(match nearest {
+        Some(found) => written(found.name),
+        None => None,
+    })
+}
+
+// The names in capitals.
+fn built_in_names(alloc: Global) -> Result<Vec<DefinedName<'static>>, AllocError> {
+    let place = Place {
+        text: 0,
+        span: Span { start: 0, end: 0 },
+    };
+    let mut names = Vec::new(alloc);
+    for (name, _) in BUILT_IN {
+        names.push(DefinedName {
+            module: &[],
+            name,
+            place,
+        })?;
+    }
+    Ok(names)
+}
+
+// The type as it is written, of its name in capitals.
+fn written(capitals: &[u8]) -> Option<&'static [u8]> {
+    for (name, written) in BUILT_IN {
+        if *name == capitals {
+            return Some(*written);
+        }
+    }
+    None
+}

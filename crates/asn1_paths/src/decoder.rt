@@ -1,0 +1,219 @@
+//! A decoder that notes where in a value it is.
+
+use crate::names::{alternative_name, component_with_tag};
+use crate::path::{Path, ScopeKind};
+use crate::place::{Limits, Place};
+use asn1_bounds::{Codec, Constraints};
+use asn1_components::{Choice, EnumeratedTable, FieldTable};
+use asn1_dec::{DecodeError, Decoder};
+use asn1_tags::{Tag, TagTree};
+use asn1_types::{Any, CodecString};
+use asn1_values::{IntegerType, ObjectIdentifier};
+use std::alloc::{AllocError, Global};
+
+/// A decoder that reads as another one does, and notes where in the value it is.
+///
+/// Its relations say of the depth left and of failure what those of the other say, and nothing of the records that remain.
+#[derive(Drop)]
+pub struct PathDecoder<D> {
+    inner: D,
+    path: Path,
+}
+
+impl<D: Decoder> PathDecoder<D> {
+    /// A decoder that reads as this one does.
+    pub fn new(inner: D) -> PathDecoder<D> {
+        let path = Path::new(inner.global());
+        PathDecoder { inner, path }
+    }
+
+    /// The decoder that reads, and where it came to.
+    pub fn into_parts(self) -> (D, Result<Place, AllocError>) {
+        let place = self.path.place();
+        (self.inner, place)
+    }
+}
+
+#[tactic(auto, using(crate::proofs::PathReaders::opens_nothing, crate::proofs::PathReaders::takes_depth, crate::proofs::PathReaders::gives_depth_back))]
+impl<D: Decoder> Decoder for PathDecoder<D> {
+    ghost use Rattle.asn1_paths.specs.PathReader.{path_reader, path_reader_is_lawful};
+
+    ghost reader = { path_reader D.reader };
+
+    fn codec(&self) -> Codec {
+        self.inner.codec()
+    }
+
+    fn depth(&self) -> usize {
+        self.inner.depth()
+    }
+
+    fn global(&self) -> Global {
+        self.inner.global()
+    }
+
+    fn refuse(&mut self, error: DecodeError) -> DecodeError {
+        self.inner.refuse(error)
+    }
+
+    fn decode_bool(&mut self, tag: Tag) -> Result<bool, DecodeError> {
+        self.path.begin_element(Limits::NONE);
+        self.inner.decode_bool(tag)
+    }
+
+    fn decode_null(&mut self, tag: Tag) -> Result<(), DecodeError> {
+        self.path.begin_element(Limits::NONE);
+        self.inner.decode_null(tag)
+    }
+
+    fn decode_enumerated_number<E: EnumeratedTable>(
+        &mut self,
+        tag: Tag,
+    ) -> Result<isize, DecodeError> {
+        self.path.begin_element(Limits::NONE);
+        self.inner.decode_enumerated_number::<E>(tag)
+    }
+
+    fn decode_object_identifier(&mut self, tag: Tag) -> Result<ObjectIdentifier, DecodeError> {
+        self.path.begin_element(Limits::NONE);
+        self.inner.decode_object_identifier(tag)
+    }
+
+    fn decode_integer<I: IntegerType>(
+        &mut self,
+        tag: Tag,
+        constraints: &Constraints<'_>,
+    ) -> Result<I, DecodeError> {
+        self.path.begin_element(Limits::of_number(constraints));
+        self.inner.decode_integer(tag, constraints)
+    }
+
+    fn decode_string<U, K: CodecString<U>>(
+        &mut self,
+        tag: Tag,
+        constraints: &Constraints<'_>,
+    ) -> Result<K::Owned, DecodeError> {
+        self.path.begin_element(Limits::of_size(constraints));
+        self.inner.decode_string::<U, K>(tag, constraints)
+    }
+
+    fn decode_any(&mut self, tag: Tag) -> Result<Any, DecodeError> {
+        self.path.begin_element(Limits::NONE);
+        self.inner.decode_any(tag)
+    }
+
+    fn presence(&mut self, tag: Tag, tree: TagTree<'static>) -> Result<bool, DecodeError> {
+        let presence = self.inner.presence(tag, tree);
+        self.path.pass_unless_present(&presence);
+        presence
+    }
+
+    fn addition_presence(&mut self, tag: Tag, tree: TagTree<'static>) -> Result<bool, DecodeError> {
+        let presence = self.inner.addition_presence(tag, tree);
+        self.path.pass_unless_present(&presence);
+        presence
+    }
+
+    fn open_group<C: FieldTable>(&mut self) -> Result<bool, DecodeError> {
+        let presence = self.inner.open_group::<C>();
+        if let Ok(true) = presence {
+            self.path.begin_part();
+            self.path.open_components::<C>(ScopeKind::Group);
+        }
+        self.path.pass_unless_present(&presence);
+        presence
+    }
+
+    fn close_group(&mut self) -> Result<(), DecodeError> {
+        self.path.close_scope();
+        self.inner.close_group()
+    }
+
+    fn open_sequence<C: FieldTable>(&mut self, tag: Tag) -> Result<(), DecodeError> {
+        self.path.begin_element(Limits::NONE);
+        let opened = self.inner.open_sequence::<C>(tag);
+        if opened.is_ok() {
+            self.path.open_components::<C>(ScopeKind::Sequence);
+        }
+        opened
+    }
+
+    fn open_set<C: FieldTable>(&mut self, tag: Tag) -> Result<usize, DecodeError> {
+        self.path.begin_element(Limits::NONE);
+        let opened = self.inner.open_set::<C>(tag);
+        if opened.is_ok() {
+            self.path.open_components::<C>(ScopeKind::Set);
+        }
+        opened
+    }
+
+    fn next_component<C: FieldTable>(&mut self) -> Result<Option<Tag>, DecodeError> {
+        let next = self.inner.next_component::<C>();
+        if let Ok(Some(tag)) = next {
+            self.path.begin_component(component_with_tag::<C>(tag));
+        }
+        next
+    }
+
+    fn open_sequence_of(
+        &mut self,
+        tag: Tag,
+        constraints: &Constraints<'_>,
+    ) -> Result<usize, DecodeError> {
+        self.path.begin_element(Limits::of_size(constraints));
+        let opened = self.inner.open_sequence_of(tag, constraints);
+        if opened.is_ok() {
+            self.path.open_scope(ScopeKind::Elements);
+        }
+        opened
+    }
+
+    fn open_set_of(
+        &mut self,
+        tag: Tag,
+        constraints: &Constraints<'_>,
+    ) -> Result<usize, DecodeError> {
+        self.path.begin_element(Limits::of_size(constraints));
+        let opened = self.inner.open_set_of(tag, constraints);
+        if opened.is_ok() {
+            self.path.open_scope(ScopeKind::Elements);
+        }
+        opened
+    }
+
+    fn open_explicit_prefix(&mut self, tag: Tag) -> Result<(), DecodeError> {
+        self.path.begin_element(Limits::NONE);
+        let opened = self.inner.open_explicit_prefix(tag);
+        if opened.is_ok() {
+            self.path.open_scope(ScopeKind::Tagged);
+        }
+        opened
+    }
+
+    fn open_choice<T: Choice>(
+        &mut self,
+        constraints: &Constraints<'_>,
+    ) -> Result<Tag, DecodeError> {
+        self.path.begin_part();
+        let chosen = self.inner.open_choice::<T>(constraints);
+        if let Ok(tag) = chosen {
+            self.path.open_alternative(alternative_name::<T>(tag));
+        }
+        chosen
+    }
+
+    fn more(&mut self) -> Result<bool, DecodeError> {
+        self.inner.more()
+    }
+
+    fn close(&mut self) -> Result<(), DecodeError> {
+        self.path.reach_end();
+        let closed = self.inner.close();
+        if closed.is_ok() {
+            self.path.close_scope();
+        }
+        closed
+    }
+
+    ghost lawful = { path_reader_is_lawful D.reader };
+}

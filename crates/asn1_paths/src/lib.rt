@@ -1,0 +1,23 @@
+//! The place in a value at which reading failed.
+//!
+//! | Item | What it is | In `specs/` |
+//! |---|---|---|
+//! | [`PathDecoder`] | a decoder that reads as another one does, and notes where in the value it is | `PathReader` |
+//! | [`Place`], [`Limits`] | the place: names of components and alternatives, elements before it, and the limits of the value there | |
+//! | [`push_component_names`], [`alternative_name`] | the names that tables have | |
+//!
+//! A codec's error has no place in a value (docs/DECISIONS.md), and a type's error names one component at most. So who wants the place
+//! reads the octets again with a [`PathDecoder`], of any codec, and asks it where it came to.
+//!
+//! The contracts promise that the decoder opens scopes, closes them and fails as the one inside does (`path_reader`), so reading with it
+//! ends, nests as deep as that, and is total. No contract covers the place; tests show it. If memory runs out, the place is shorter.
+#![tactic(auto)]
+
+mod decoder;
+mod names;
+mod path;
+mod place;
+
+pub use decoder::PathDecoder;
+pub use names::{alternative_name, push_component_names};
+pub use place::{Limits, Place};

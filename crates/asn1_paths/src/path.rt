@@ -1,0 +1,252 @@
+//! The place of a reader in a value.
+
+use crate::names::push_component_names;
+use crate::place::{Limits, Place};
+use asn1_components::FieldTable;
+use asn1_dec::DecodeError;
+use std::alloc::{AllocError, Global};
+use std::fmt::Write;
+
+/// What is read inside a scope or a group.
+#[derive(Clone, Copy, PartialEq, Eq)]
+pub(crate) enum ScopeKind {
+    /// Components, in the order of the definition.
+    Sequence,
+    /// Components, in any order.
+    Set,
+    /// Elements of a list.
+    Elements,
+    /// The chosen alternative of a CHOICE, which is no element of its own.
+    Alternative,
+    /// What follows an explicit tag.
+    Tagged,
+    /// Components of a group of additions, which is no element of its own.
+    Group,
+}
+
+impl ScopeKind {
+    /// Whether what is read inside lies in an element of its own.
+    fn is_element(self) -> bool {
+        !matches!(self, ScopeKind::Alternative | ScopeKind::Group)
+    }
+}
+
+/// A scope or a group that is open.
+#[derive(Clone, Copy)]
+struct Scope {
+    kind: ScopeKind,
+    /// Where its names begin among those of all scopes.
+    names: usize,
+    /// The index of the component or element that is next.
+    next: usize,
+    /// The index of the one that is read, or was read last.
+    current: Option<usize>,
+    /// How many elements have begun in it.
+    elements: usize,
+}
+
+/// The place of a reader in a value: the scopes and groups that are open, and where the reader is in each.
+///
+/// A place that takes memory and gets none is shorter than it might be.
+#[derive(Drop)]
+pub(crate) struct Path {
+    alloc: Global,
+    scopes: Vec<Scope>,
+    names: Vec<String>,
+    /// The limits of the element that was begun last.
+    limits: Limits,
+}
+
+impl Path {
+    /// The place before a value.
+    pub(crate) fn new(alloc: Global) -> Path {
+        Path {
+            alloc,
+            scopes: Vec::new(alloc),
+            names: Vec::new(alloc),
+            limits: Limits::NONE,
+        }
+    }
+
+    /// Goes to the next component or element, which is an element of the codec under these limits.
+    pub(crate) fn begin_element(&mut self, limits: Limits) {
+        self.begin_part();
+        self.count_element();
+        self.limits = limits;
+    }
+
+    /// Goes to the next component or element.
+    pub(crate) fn begin_part(&mut self) {
+        if let Some(scope) = self.scopes.last_mut() {
+            match scope.kind {
+                ScopeKind::Sequence | ScopeKind::Group | ScopeKind::Elements => {
+                    scope.current = Some(scope.next);
+                    scope.next = scope.next.saturating_add(1);
+                }
+                ScopeKind::Set | ScopeKind::Alternative | ScopeKind::Tagged => {}
+            }
+        }
+    }
+
+    fn count_element(&mut self) {
+        for scope in self.scopes.iter_mut().rev() {
+            if scope.kind.is_element() {
+                scope.elements = scope.elements.saturating_add(1);
+                return;
+            }
+        }
+    }
+
+    /// Passes over a component that is known to be absent.
+    pub(crate) fn pass_unless_present(&mut self, presence: &Result<bool, DecodeError>) {
+        if let Ok(false) = presence {
+            self.pass_part();
+        }
+    }
+
+    fn pass_part(&mut self) {
+        if let Some(scope) = self.scopes.last_mut() {
+            scope.next = scope.next.saturating_add(1);
+        }
+    }
+
+    /// Goes to a component of a SET.
+    pub(crate) fn begin_component(&mut self, index: Option<usize>) {
+        if let Some(scope) = self.scopes.last_mut() {
+            scope.current = index;
+        }
+    }
+
+    /// Goes into a scope that has no names.
+    pub(crate) fn open_scope(&mut self, kind: ScopeKind) {
+        let names = self.names.len();
+        let _ = self.scopes.push(Scope {
+            kind,
+            names,
+            next: 0,
+            current: None,
+            elements: 0,
+        });
+    }
+
+    /// Goes into the chosen alternative of that name.
+    pub(crate) fn open_alternative(&mut self, name: Option<&'static str>) {
+        self.open_scope(ScopeKind::Alternative);
+        if let Some(name) = name {
+            let _ = self.push_name(name);
+        }
+    }
+
+    fn push_name(&mut self, name: &'static str) -> Result<(), AllocError> {
+        let own = String::from_str(self.alloc, name)?;
+        self.names.push(own)?;
+        Ok(())
+    }
+
+    /// Goes into the components of a table.
+    pub(crate) fn open_components<C: FieldTable>(&mut self, kind: ScopeKind) {
+        self.open_scope(kind);
+        let _ = push_component_names::<C>(self.alloc, &mut self.names);
+    }
+
+    /// Goes behind what was read in the innermost scope.
+    pub(crate) fn reach_end(&mut self) {
+        self.begin_component(None);
+        if self
+            .scopes
+            .last()
+            .is_some_and(|scope| scope.kind.is_element())
+        {
+            self.count_element();
+        }
+    }
+
+    /// Goes out of the innermost scope or group.
+    pub(crate) fn close_scope(&mut self) {
+        if let Some(scope) = self.scopes.pop() {
+            self.names.truncate(scope.names);
+        }
+    }
+
+    /// The place as it can be told.
+    pub(crate) fn place(&self) -> Result<Place, AllocError> {
+        Ok(Place {
+            path: self.text()?,
+            element_numbers: self.element_numbers()?,
+            limits: self.limits,
+        })
+    }
+
+    /// The path as a text: names of components and alternatives with points between them, and the number of an element of a list in
+    /// brackets, from 0.
+    fn text(&self) -> Result<String, AllocError> {
+        let mut text = String::new(self.alloc);
+        for place in 0..self.scopes.len() {
+            self.push_step(&mut text, place)?;
+        }
+        Ok(text)
+    }
+
+    /// Appends the step into the scope at that place. A group has none of its own, since its components are those of the scope
+    /// around it.
+    fn push_step(&self, text: &mut String, place: usize) -> Result<(), AllocError> {
+        let Some(scope) = self.scopes.get(place) else {
+            return Ok(());
+        };
+        match scope.kind {
+            ScopeKind::Elements => push_index(text, scope.current),
+            ScopeKind::Alternative => self.push_name_at(text, scope, Some(0)),
+            ScopeKind::Sequence | ScopeKind::Set | ScopeKind::Group => {
+                if self.holds_group(place) {
+                    return Ok(());
+                }
+                self.push_name_at(text, scope, scope.current)
+            }
+            ScopeKind::Tagged => Ok(()),
+        }
+    }
+
+    fn holds_group(&self, place: usize) -> bool {
+        match self.scopes.get(place.saturating_add(1)) {
+            Some(inner) => inner.kind == ScopeKind::Group,
+            None => false,
+        }
+    }
+
+    fn push_name_at(
+        &self,
+        text: &mut String,
+        scope: &Scope,
+        index: Option<usize>,
+    ) -> Result<(), AllocError> {
+        let Some(index) = index else {
+            return Ok(());
+        };
+        let Some(name) = self.names.get(scope.names.saturating_add(index)) else {
+            return Ok(());
+        };
+        if !text.is_empty() {
+            text.push('.')?;
+        }
+        text.push_str(name.as_str())
+    }
+
+    /// How many elements are before the one that was begun last, in each element that it is inside of, from the outermost on.
+    fn element_numbers(&self) -> Result<Vec<usize>, AllocError> {
+        let mut numbers = Vec::new(self.alloc);
+        for scope in self.scopes.as_slice() {
+            if scope.kind.is_element() && scope.elements > 0 {
+                numbers.push(scope.elements - 1)?;
+            }
+        }
+        Ok(numbers)
+    }
+}
+
+/// Appends the number of an element of a list.
+fn push_index(text: &mut String, index: Option<usize>) -> Result<(), AllocError> {
+    match index {
+        Some(index) => write!(text, "[{index}]"),
+        None => Ok(()),
+    }
+}

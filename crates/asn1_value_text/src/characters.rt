@@ -1,0 +1,67 @@
+//! Strings of characters as texts.
+
+use asn1_types::{AnyStr, OctetKind};
+use std::alloc::{AllocError, Global};
+use std::str;
+
+/// The numbers of the characters of a string, if it is one of characters (X.680, 41): those of Unicode, and of octets the octets.
+pub(crate) fn character_numbers(
+    alloc: Global,
+    string: AnyStr<'_>,
+) -> Result<Option<Vec<u32>>, AllocError> {
+    match string {
+        AnyStr::Bits(_) | AnyStr::Octets(OctetKind::OctetString, _) => Ok(None),
+        AnyStr::Octets(OctetKind::Utf8, octets) => numbers_of_utf8(alloc, octets),
+        AnyStr::Octets(_, octets) => {
+            let numbers = octets.iter().map(|octet| u32::from(*octet)).collect(alloc)?;
+            Ok(Some(numbers))
+        }
+        AnyStr::Bmp(units) => {
+            let numbers = units.iter().map(|unit| u32::from(*unit)).collect(alloc)?;
+            Ok(Some(numbers))
+        }
+        AnyStr::Teletex(units) => {
+            let numbers = units.iter().copied().collect(alloc)?;
+            Ok(Some(numbers))
+        }
+    }
+}
+
+/// The numbers of the characters of UTF-8; `None` of other octets.
+fn numbers_of_utf8(alloc: Global, octets: &[u8]) -> Result<Option<Vec<u32>>, AllocError> {
+    let Ok(text) = str::from_utf8(octets) else {
+        return Ok(None);
+    };
+    let numbers = text
+        .chars()
+        .map(|character| character as u32)
+        .collect(alloc)?;
+    Ok(Some(numbers))
+}
+
+/// The character of this number, if it can stand in a line that is shown: no control, and none that changes the direction of others
+/// or ends a line or a paragraph.
+pub(crate) fn shown_character(number: u32) -> Option<char> {
+    char::from_u32(number).filter(|character| is_shown(*character))
+}
+
+fn is_shown(character: char) -> bool {
+    !character.is_control() && !turns_or_ends_line(character)
+}
+
+fn turns_or_ends_line(character: char) -> bool {
+    matches!(
+        character,
+        '\u{61c}' | '\u{200e}'..='\u{200f}' | '\u{2028}'..='\u{202e}' | '\u{2066}'..='\u{2069}'
+    )
+}
+
+/// The text that octets are, if all of its characters can stand in a line that is shown.
+pub(crate) fn shown_text(octets: &[u8]) -> Option<&str> {
+    let text = str::from_utf8(octets).ok()?;
+    if text.chars().all(is_shown) {
+        Some(text)
+    } else {
+        None
+    }
+}

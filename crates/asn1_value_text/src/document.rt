@@ -1,0 +1,24 @@
+//! What a text of JSON has to be.
+ghost use Rattle.asn1_laws.specs.declared.encode_error.EncodeError.TheVariants.{Depth, Failed};
+ghost use Rattle.json.specs.Json.{document};
+ghost use Rattle.json.specs.Strict.{HasUniqueKeys};
+ghost use Rattle.std.specs.Prelude.{◌≢◌, Err, IsSomeAnd, OnOk};
+
+use asn1_enc::EncodeError;
+use json::{Error, Scratch, Tape};
+use std::alloc::Global;
+
+/// Succeeds if a text is one document of JSON, no object of which has a name twice.
+pub(crate) fn check_document(alloc: Global, text: &str) -> Result<(), EncodeError>
+    ensures one_document { OnOk result (IsSomeAnd (document text.now) HasUniqueKeys) }
+    ensures not_too_deep { result ≢ Err Depth }
+    ensures not_failed { result ≢ Err Failed }
+{
+    let mut scratch = Scratch::new(alloc);
+    match Tape::parse_strict(text, &mut scratch, Vec::new(alloc)) {
+        Ok(_tape) => Ok(()),
+        Err(Error::OutOfMemory) => Err(EncodeError::Memory),
+        Err(Error::DuplicateKey) => Err(EncodeError::Custom("two components of one name")),
+        Err(_) => Err(EncodeError::Custom("nested too deep for JSON")),
+    }
+}

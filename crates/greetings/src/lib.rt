@@ -1,0 +1,10 @@
+//! The types of these modules of ASN.1, in files made by `asn1_compile`:
+//!
+//! - `Greetings`
+#![tactic(auto, using(asn1_schema::proofs::Trees::tree_shapes))]
+
+mod audience;
+mod greeting;
+
+pub use audience::{Audience, audience_is_well_tagged};
+pub use greeting::{Greeting, greeting_is_well_tagged};
