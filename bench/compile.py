@@ -347,6 +347,7 @@ def refuse_growths():
 
 WRONG = "M DEFINITIONS ::= BEGIN\nA ::= B\nC ::= SEQUENCE { a NULL, a NULL }\nEND\n"
 RIGHT = "M DEFINITIONS ::= BEGIN\nA ::= SEQUENCE { a NULL }\nEND\n"
+PARTS = "M DEFINITIONS ::= BEGIN\nA ::= SEQUENCE { a }\nB ::= SEQUENCE { a A }\nC ::= D\nEND\n"
 CLASH = "M DEFINITIONS ::= BEGIN\nA ::= SEQUENCE { a NULL OPTIONAL, b NULL }\nEND\n"
 
 
@@ -358,7 +359,10 @@ def try_arguments():
     written, told, status = run(["x"], WRONG)
     expect("a module with errors", (written, [line[:7] for line in told.splitlines()], status), ("", ["-:2:7: ", "-:3:26:"], 1))
     expect("components that share a tag", run(["x"], CLASH),
-           ("", "-:2:35: components 'a' and 'b' can both begin with [UNIVERSAL 5]\n", 1))
+           ("", "-:2:35: components 'a' and 'b' can both begin with [UNIVERSAL 5]; give one a tag, or the module AUTOMATIC TAGS\n", 1))
+    expect("a byte order mark", run(["x", "--check"], "\ufeff" + RIGHT), ("", "", 0))
+    written, told, status = run(["x"], PARTS)
+    expect("errors in the notation and in names", ([line[:7] for line in told.splitlines()], status), (["-:2:21:", "-:4:7: "], 1))
     expect("no module", run(["x"], ""), ("", "-:1:1: there is no module\n", 1))
     twice = RIGHT + RIGHT.replace("M", "N", 1)
     expect("a type of two modules that exists", run(["x", "--extern", "A=y::A"], twice),

@@ -31,10 +31,11 @@ mod modules;
 mod parsed;
 mod plain_constraints;
 mod plain_types;
+mod slips;
 mod types;
 mod values;
 mod words;
 
-pub use error::{Cause, Construct, Expected, Owner, SyntaxError};
+pub use error::{Cause, Construct, Expected, Owner, Slip, SyntaxError};
 pub use messages::append_cause;
 pub use parsed::{MAX_DEPTH, Parsed, parse};

@@ -114,11 +114,14 @@ impl<'r, 'a> Resolver<'r, 'a> {
     }
 }
 
-// The text of some parts.
+/// How many octets of a part a message has.
+const MAX_PART: usize = 1000;
+
+// The text of some parts. A very long one, as of a name, is cut.
 fn join(alloc: Global, parts: &[&[u8]]) -> Result<Vec<u8>, AllocError> {
     let mut text = Vec::new(alloc);
     for part in parts {
-        text.extend_from_slice(part)?;
+        text.extend_from_slice(part.get(..MAX_PART).unwrap_or(part))?;
     }
     Ok(text)
 }
