@@ -1,4 +1,4 @@
-//! What is wrong with names, in words.
+//! Messages about names.
 use crate::built_in::nearest_built_in;
 use asn1_names::{
     DefinedName, DoubledName, ImportedName, NameIndex, NameProblem, Names, UsedName, nearest_name,
@@ -45,7 +45,7 @@ impl<'n, 'a> NameMessages<'n, 'a> {
         self.modules.contains(name)
     }
 
-    /// Appends what is wrong with a name. Of the first hundred names a name that may be meant follows.
+    /// Appends what is wrong with a name, with a name that may be meant for the first hundred.
     pub fn append(
         &mut self,
         out: &mut Vec<u8>,

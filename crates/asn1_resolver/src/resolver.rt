@@ -18,9 +18,9 @@ pub(crate) struct Resolver<'r, 'a> {
     pub(crate) definitions: &'r Definitions<'a>,
     /// The names that are defined, imported and used.
     pub(crate) names: &'r Names<'a>,
-    /// Where the types may be found.
+    /// The finder of types.
     pub(crate) type_finder: Finder<'a>,
-    /// Where the values may be found.
+    /// The finder of values.
     pub(crate) value_finder: Finder<'a>,
     /// The type behind the references and tags of each definition of a type, as far as they were followed.
     pub(crate) bases: Vec<Option<Governed<'a>>>,
