@@ -13,7 +13,7 @@ use crate::left_out::{are_read_to_the_end, is_due_to, names_left_out};
 use crate::message::{Message, messages_of};
 use crate::problems::syntax_problems;
 use asn1_grammar::{Parsed, parse};
-use asn1_module_check::check_tags;
+use asn1_module_check::{check_extensible_choices, check_tags};
 use asn1_modules::Source;
 use asn1_print::{Extern, Printed, Request, print_crate};
 use asn1_resolved::{Problem, Schema};
@@ -209,7 +209,7 @@ fn schema_messages(
     Ok(messages)
 }
 
-// Prints the files of a schema.
+// Prints the files of a schema. Its problems have the SETs that no tag check refuses.
 fn print_schema<'a>(
     alloc: Global,
     job: Job<'_>,
@@ -221,7 +221,11 @@ fn print_schema<'a>(
     for found in &known {
         externs.push(found.as_extern())?;
     }
-    print_with(alloc, job.crate_name, externs.as_slice(), sources, schema)
+    let mut printed = print_with(alloc, job.crate_name, externs.as_slice(), sources, schema)?;
+    printed
+        .problems
+        .append(&mut check_extensible_choices(alloc, schema)?)?;
+    Ok(printed)
 }
 
 // Prints the files of a schema, of which these types exist already.
