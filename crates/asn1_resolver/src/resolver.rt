@@ -1,8 +1,8 @@
 //! The state of a run.
+use crate::base::Base;
 use crate::definitions::Definitions;
 use crate::fault::Fault;
 use crate::finder::Finder;
-use crate::governed::Governed;
 use asn1_modules::NameMessages;
 use asn1_names::{Names, Place};
 use asn1_resolved::{Problem, Severity};
@@ -23,7 +23,7 @@ pub(crate) struct Resolver<'r, 'a> {
     /// The finder of values.
     pub(crate) value_finder: Finder<'a>,
     /// The type behind the references and tags of each definition of a type, as far as they were followed.
-    pub(crate) bases: Vec<Option<Governed<'a>>>,
+    pub(crate) bases: Vec<Base<'a>>,
     /// The messages about names.
     pub(crate) messages: NameMessages<'r, 'a>,
     /// How many values were read inside the present one.
@@ -44,7 +44,7 @@ impl<'r, 'a> Resolver<'r, 'a> {
     ) -> Result<Resolver<'r, 'a>, AllocError> {
         let mut bases = Vec::new(alloc);
         for _ in &definitions.types {
-            bases.push(None)?;
+            bases.push(Base::Unknown)?;
         }
         Ok(Resolver {
             alloc,
