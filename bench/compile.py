@@ -1,7 +1,7 @@
 #!/usr/bin/env python3
 """Compiles the modules of examples/modules with asn1_compile, and compares the crates that are made of them with what it prints.
 
-    bench/compile.py [--try] [--prove NAME] [--round-trip NAME] [--layout NUMBER] [--refuse]
+    bench/compile.py [--try] [--prove NAME] [--round-trip NAME] [--layout NUMBER] [--refuse] [--time]
 
 The program is the one that is built (`rt run` in crates/asn1_compile builds it), or with `--try` it is run before its proof, by
 `rt try`. Each module has to compile. Where a crate of the table is in crates/, its src/ and proofs/ have to be the files that are
@@ -19,6 +19,9 @@ the files as they are.
 With `--refuse` each growth of memory of one run is refused in turn (bench/refuse.rs): the program has to end with the status 2 and
 without a file, or with all of them.
 
+With `--time` large modules of some shapes are compiled, each in two sizes, of which one is ten times the other: the time has to be in
+line with the size. Beside it is that of asn1c and of Erlang's compiler, if they are there.
+
 The status is 0 if all is as it has to be.
 """
 import contextlib
@@ -30,6 +33,7 @@ import shutil
 import subprocess
 import sys
 import tempfile
+import time
 
 TOP = pathlib.Path(__file__).resolve().parent.parent
 CRATES = TOP / "crates"
@@ -345,8 +349,48 @@ def refuse_growths():
     print(f"{number - 1} growths refused")
 
 
+# The definition of a number of a large module, by the shape of the module: components of a type that follows, aliases one of another,
+# values one of another, and names that are not defined.
+SHAPES = {
+    "components": lambda number, count: f"T{number} ::= SEQUENCE {{ a INTEGER (0..255), b OCTET STRING OPTIONAL, c T{(number + 1) % count}Ref }}\n"
+                                        f"T{number}Ref ::= UTF8String",
+    "aliases": lambda number, count: f"A{number} ::= " + (f"A{number + 1}" if number + 1 < count else "INTEGER"),
+    "values": lambda number, count: f"v{number} INTEGER ::= " + (f"v{number + 1}" if number % 50 < 49 and number + 1 < count else "5"),
+    "names": lambda number, _: f"T{number} ::= SEQUENCE {{ a Missing{number}, b BOOLEAN }}",
+}
+
+
+def large_module(shape, count):
+    """A module of this shape with as many definitions."""
+    lines = "\n".join(SHAPES[shape](number, count) for number in range(count))
+    return f"Large DEFINITIONS AUTOMATIC TAGS ::= BEGIN\n{lines}\nEND\n"
+
+
+def seconds_of(words, folder):
+    """How long a program runs in a folder."""
+    start = time.monotonic()
+    subprocess.run(words, cwd=folder, capture_output=True)
+    return time.monotonic() - start
+
+
+def time_large_modules():
+    """Times large modules, each beside one with a tenth of its definitions."""
+    for shape in SHAPES:
+        took = []
+        for count in 2000, 20000:
+            with tempfile.TemporaryDirectory() as place:
+                file = pathlib.Path(place) / "Large.asn1"
+                file.write_text(large_module(shape, count))
+                took.append(seconds_of([PROGRAM / "out" / "asn1_compile", "large", "--out", "large", file], place))
+                others = [f"{words[0]} {seconds_of([*words, file], place):.2f} s" for words in (["asn1c"], ["erlc"])
+                          if shutil.which(words[0])]
+                print(f"{shape}, {count} definitions, {file.stat().st_size} octets: {took[-1]:.2f} s", *others, sep=", ")
+        expect(f"{shape}: at most fifteen times as long for ten times the size", took[1] < 15 * max(took[0], 0.05), True)
+
+
 WRONG = "M DEFINITIONS ::= BEGIN\nA ::= B\nC ::= SEQUENCE { a NULL, a NULL }\nEND\n"
 RIGHT = "M DEFINITIONS ::= BEGIN\nA ::= SEQUENCE { a NULL }\nEND\n"
+PARTS = "M DEFINITIONS ::= BEGIN\nA ::= SEQUENCE { a }\nB ::= SEQUENCE { a A }\nC ::= D\nEND\n"
 CLASH = "M DEFINITIONS ::= BEGIN\nA ::= SEQUENCE { a NULL OPTIONAL, b NULL }\nEND\n"
 
 
@@ -358,7 +402,10 @@ def try_arguments():
     written, told, status = run(["x"], WRONG)
     expect("a module with errors", (written, [line[:7] for line in told.splitlines()], status), ("", ["-:2:7: ", "-:3:26:"], 1))
     expect("components that share a tag", run(["x"], CLASH),
-           ("", "-:2:35: components 'a' and 'b' can both begin with [UNIVERSAL 5]\n", 1))
+           ("", "-:2:35: components 'a' and 'b' can both begin with [UNIVERSAL 5]; give one a tag, or the module AUTOMATIC TAGS\n", 1))
+    expect("a byte order mark", run(["x", "--check"], "\ufeff" + RIGHT), ("", "", 0))
+    written, told, status = run(["x"], PARTS)
+    expect("errors in the notation and in names", ([line[:7] for line in told.splitlines()], status), (["-:2:20:", "-:4:7: "], 1))
     expect("no module", run(["x"], ""), ("", "-:1:1: there is no module\n", 1))
     twice = RIGHT + RIGHT.replace("M", "N", 1)
     expect("a type of two modules that exists", run(["x", "--extern", "A=y::A"], twice),
@@ -412,6 +459,8 @@ def prove_or_run():
 def main():
     if "--refuse" in sys.argv:
         refuse_growths()
+    elif "--time" in sys.argv:
+        time_large_modules()
     elif "--layout" in sys.argv:
         first = int(named_by("--layout"))
         for number in range(first, first + 4):

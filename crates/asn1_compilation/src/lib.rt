@@ -27,6 +27,7 @@ mod compiled;
 mod externs;
 mod job;
 mod known_types;
+mod left_out;
 mod listing;
 mod locator;
 mod message;

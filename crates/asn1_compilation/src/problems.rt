@@ -45,11 +45,20 @@ fn cause_text(alloc: Global, input: &Input, error: &SyntaxError) -> Result<Strin
         Cause::Expected(expected) => write!(out, "expected {expected}")?,
         Cause::ExpectedAfter(expected, owner, name) => {
             write!(out, "expected {expected} after {owner} '")?;
-            push_octets(&mut out, name.octets(input.text.as_slice()))?;
+            push_octets(&mut out, front_of(name.octets(input.text.as_slice())))?;
             out.push_str("'")?;
         }
+        Cause::Slip(slip) => write!(out, "{slip}")?,
         Cause::NotTaken(construct) => write!(out, "{construct} is not supported")?,
         Cause::TooDeep => out.push_str("nested too deep")?,
     }
     Ok(out)
+}
+
+/// How many octets of a name a message has.
+const MAX_NAME: usize = 100;
+
+// The front of a name, if it is very long.
+fn front_of(name: &[u8]) -> &[u8] {
+    name.get(..MAX_NAME).unwrap_or(name)
 }

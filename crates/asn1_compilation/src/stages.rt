@@ -9,10 +9,11 @@ use crate::compiled::Compiled;
 use crate::externs::{extern_errors, extern_module_errors};
 use crate::job::{Input, Job};
 use crate::known_types::known_types;
+use crate::left_out::{are_read_to_the_end, is_due_to, names_left_out};
 use crate::message::{Message, messages_of};
 use crate::problems::syntax_problems;
 use asn1_grammar::{Parsed, parse};
-use asn1_module_check::check_tags;
+use asn1_module_check::{check_extensible_choices, check_tags};
 use asn1_modules::Source;
 use asn1_print::{Extern, Printed, Request, print_crate, print_program};
 use asn1_resolved::{Problem, Schema};
@@ -30,10 +31,38 @@ pub fn compile(alloc: Global, job: Job<'_>) -> Result<Compiled, AllocError>
     let parsed = parse_all(alloc, job.inputs)?;
     let problems = syntax_problems(alloc, job.inputs, parsed.as_slice())?;
     if !problems.is_empty() {
-        let messages = messages_of(alloc, job.inputs, problems.as_slice())?;
-        return Ok(Compiled::new(messages, Vec::new(alloc)));
+        return refuse_notation(alloc, job, parsed.as_slice(), problems);
     }
     compile_parsed(alloc, job, job.inputs, parsed.as_slice())
+}
+
+// The messages for errors in the notation, with those in the names of the definitions that were read. If a part of a text was
+// not read to its end, names are not looked at.
+fn refuse_notation(
+    alloc: Global,
+    job: Job<'_>,
+    parsed: &[Parsed],
+    problems: Vec<Problem>,
+) -> Result<Compiled, AllocError>
+    ensures { IfOk result (λ compiled.
+        is_some compiled.files ≡ spec.accepts compiled.messages.items) }
+{
+    let mut problems = problems;
+    if are_read_to_the_end(parsed) {
+        let sources = sources_of(alloc, job.inputs, parsed)?;
+        let left_out = names_left_out(alloc, job.inputs, parsed)?;
+        let Resolution {
+            problems: found,
+            ..
+        } = resolve(alloc, sources.as_slice())?;
+        for problem in found {
+            if !is_due_to(&left_out, job.inputs, &problem) {
+                problems.push(problem)?;
+            }
+        }
+    }
+    let messages = messages_of(alloc, job.inputs, problems.as_slice())?;
+    Ok(Compiled::new(messages, Vec::new(alloc)))
 }
 
 // Reads the modules of all texts.
@@ -180,7 +209,7 @@ fn schema_messages(
     Ok(messages)
 }
 
-// Prints the files of a schema.
+// Prints the files of a schema. Its problems have the SETs that no tag check refuses.
 fn print_schema<'a>(
     alloc: Global,
     job: Job<'_>,
@@ -192,7 +221,11 @@ fn print_schema<'a>(
     for found in &known {
         externs.push(found.as_extern())?;
     }
-    print_with(alloc, job, externs.as_slice(), sources, schema)
+    let mut printed = print_with(alloc, job, externs.as_slice(), sources, schema)?;
+    printed
+        .problems
+        .append(&mut check_extensible_choices(alloc, schema)?)?;
+    Ok(printed)
 }
 
 // Prints the files of a schema, of which these types exist already.

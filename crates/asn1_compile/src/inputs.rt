@@ -2,6 +2,7 @@
 use crate::failure::Failure;
 use asn1_compilation::Input;
 use clap::ArgMatches;
+use std::alloc::{AllocError, Global};
 use std::fs::File;
 use std::io::{self, Read};
 
@@ -48,6 +49,14 @@ fn read_input(rt: &HostRuntime, name: &str) -> io::Result<Input> {
     }
     Ok(Input {
         name: String::from_str(rt.alloc(), name)?,
-        text,
+        text: without_mark(rt.alloc(), text)?,
     })
+}
+
+// A text without the byte order mark of UTF-8 at its start.
+fn without_mark(alloc: Global, text: Vec<u8>) -> Result<Vec<u8>, AllocError> {
+    match text.as_slice() {
+        [0xEF, 0xBB, 0xBF, rest @ ..] => Vec::from_slice(alloc, rest),
+        _ => Ok(text),
+    }
 }

@@ -4,6 +4,8 @@ ghost use Rattle.asn1_grammar.specs.Nests.{Nests};
 use crate::cursor::Cursor;
 use crate::error::{Expected, Fault, Owner};
 use crate::grammar::Grammar;
+use crate::parsed::MAX_DEPTH;
+use crate::plain_constraints::begins_type;
 use crate::values::parse_value;
 use asn1_notation::{Component, ComponentItem, Constraint, Type, Usage};
 use asn1_tokens::TokenKind;
@@ -143,10 +145,28 @@ fn usage(cursor: &mut Cursor<'_>, depth: usize) -> Result<Usage, Fault> {
     }
 }
 
-/// Skips the exception that may follow an extension marker: it says what a receiver does with what it does not know.
+/// Skips the exception that may follow an extension marker or a constraint: it says what a receiver does with what it does not
+/// know (X.680, 53.4).
 pub(crate) fn skip_exception(cursor: &mut Cursor<'_>) -> Result<(), Fault> {
-    if cursor.accept_symbol(b"!") {
+    if !cursor.accept_symbol(b"!") {
+        return Ok(());
+    }
+    if begins_type(cursor) {
+        skip_to_colon(cursor);
+        cursor.expect_symbol(b":", Expected::Colon)?;
+        let _ = parse_value(cursor, MAX_DEPTH)?;
+    } else {
         let _ = cursor.number_name(Expected::Number)?;
     }
     Ok(())
+}
+
+// Skips the type of an exception.
+fn skip_to_colon(cursor: &mut Cursor<'_>) {
+    for _ in 0..cursor.len() {
+        if cursor.sees_symbol(b":") {
+            return;
+        }
+        cursor.skip();
+    }
 }

@@ -1,5 +1,6 @@
 //! The tokens that are left to be read.
 use crate::error::{Cause, Construct, Expected, Fault, Owner, SyntaxError};
+use crate::slips::slip_at;
 use asn1_notation::{Number, NumberName, Reference, Span};
 use asn1_tokens::{Token, TokenKind};
 use std::alloc::Global;
@@ -59,13 +60,16 @@ impl<'a> Cursor<'a> {
         self.tokens.get(self.index).copied()
     }
 
+    /// The token that was read last.
+    pub(crate) fn last(&self) -> Option<Token<'a>> {
+        let index = self.index.checked_sub(1)?;
+        self.tokens.get(index).copied()
+    }
+
     /// Whether the token that was read last is this symbol.
     pub(crate) fn has_read_symbol(&self, text: &[u8]) -> bool {
-        match self.index.checked_sub(1) {
-            Some(index) => match self.tokens.get(index) {
-                Some(token) => token.kind == TokenKind::Symbol && token.text == text,
-                None => false,
-            },
+        match self.last() {
+            Some(token) => token.kind == TokenKind::Symbol && token.text == text,
             None => false,
         }
     }
@@ -161,17 +165,27 @@ impl<'a> Cursor<'a> {
                 end: self.end,
             },
         };
-        Fault::Syntax(SyntaxError { found, cause })
+        Fault::Syntax(SyntaxError {
+            found,
+            cause,
+            definition: None,
+        })
     }
 
-    /// The fault that the next token is not what was expected.
+    /// The fault that the next token is not what was expected, or that a frequent slip is here.
     pub(crate) fn expected(&self, expected: Expected) -> Fault {
-        self.fault(Cause::Expected(expected))
+        self.fault(match slip_at(self, expected) {
+            Some(slip) => Cause::Slip(slip),
+            None => Cause::Expected(expected),
+        })
     }
 
-    /// The fault that the next token is not what was expected behind what has this name.
+    /// The fault that the next token is not what was expected behind what has this name, or that a frequent slip is here.
     pub(crate) fn expected_after(&self, expected: Expected, owner: Owner, name: Span) -> Fault {
-        self.fault(Cause::ExpectedAfter(expected, owner, name))
+        self.fault(match slip_at(self, expected) {
+            Some(slip) => Cause::Slip(slip),
+            None => Cause::ExpectedAfter(expected, owner, name),
+        })
     }
 
     /// The fault that a construct is not taken.

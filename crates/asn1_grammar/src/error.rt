@@ -259,6 +259,46 @@ impl fmt::Display for Construct {
     }
 }
 
+/// A frequent slip, told by what to write.
+#[derive(Clone, Copy, Debug, PartialEq, Eq)]
+pub enum Slip {
+    /// An underscore in a name.
+    Underscore,
+    /// A comment behind two slashes.
+    Slashes,
+    /// A type whose name begins with a small letter.
+    SmallLetter,
+    /// IMPORTS that no semicolon ends.
+    OpenImports,
+    /// A range with a hyphen.
+    HyphenRange,
+    /// Components in parentheses.
+    Parentheses,
+    /// A size that no parentheses enclose.
+    BareSize,
+}
+
+impl Slip {
+    // The words for it in a message.
+    fn words(self) -> &'static str {
+        match self {
+            Slip::Underscore => "'_' is no character of ASN.1: a name has hyphens",
+            Slip::Slashes => "'//' begins no comment: '--' and '/*' do",
+            Slip::SmallLetter => "the name of a type begins with a capital letter",
+            Slip::OpenImports => "a ';' is missing behind the last name of a module in IMPORTS",
+            Slip::HyphenRange => "a range is written with two dots, as (0..255)",
+            Slip::Parentheses => "components, alternatives and items are in braces",
+            Slip::BareSize => "a constraint is in parentheses, as (SIZE (1..5))",
+        }
+    }
+}
+
+impl fmt::Display for Slip {
+    fn fmt<W: fmt::Write>(&self, f: &mut fmt::Formatter<W>) -> fmt::Result {
+        f.write_str(self.words())
+    }
+}
+
 /// What was not read as it should be.
 #[derive(Clone, Copy, Debug, PartialEq, Eq)]
 pub enum Cause {
@@ -268,6 +308,8 @@ pub enum Cause {
     Expected(Expected),
     /// Something else was expected behind what has this name.
     ExpectedAfter(Expected, Owner, Span),
+    /// A frequent slip is here.
+    Slip(Slip),
     /// A construct that is not taken.
     NotTaken(Construct),
     /// Types, values or constraints are nested deeper than [`MAX_DEPTH`](crate::MAX_DEPTH).
@@ -281,6 +323,8 @@ pub struct SyntaxError {
     pub found: Span,
     /// The cause.
     pub cause: Cause,
+    /// The name of the definition that is in error. Behind an error in no definition the text was not read.
+    pub definition: Option<Span>,
 }
 
 /// Why a part of a text was not read.

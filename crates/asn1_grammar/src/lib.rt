@@ -6,6 +6,7 @@
 //! | [`MAX_DEPTH`] | how many types, values or constraints may be inside one another |
 //! | [`SyntaxError`], [`Cause`] | a place of the text, and why it was not read |
 //! | [`Expected`], [`Owner`] | the item that was expected, and the name before it |
+//! | [`Slip`] | a frequent slip, which is told by what to write |
 //! | [`Construct`] | a construct of X.680 to X.683 that the reader refuses by name |
 //! | [`append_cause`] | appends the message of an error |
 //!
@@ -13,7 +14,7 @@
 //! ISO 8601, with ANY and ANY DEFINED BY of 1988. Constructs of X.681 to X.683 are refused by name.
 //!
 //! An error has what was expected and the item that is there. After an error in a definition the reader goes on with the next
-//! one, and leaves the one in error out of the tree.
+//! one, and leaves the one in error out of the tree; the error has the name of that definition.
 //!
 //! The calls return for every text, and panic for none. No contract covers the meaning of a text; the stored run of test_notation
 //! shows it. A text is limited by memory alone. `specs/Nests` has the words for the depth to which types and constraints are
@@ -31,10 +32,11 @@ mod modules;
 mod parsed;
 mod plain_constraints;
 mod plain_types;
+mod slips;
 mod types;
 mod values;
 mod words;
 
-pub use error::{Cause, Construct, Expected, Owner, SyntaxError};
+pub use error::{Cause, Construct, Expected, Owner, Slip, SyntaxError};
 pub use messages::append_cause;
 pub use parsed::{MAX_DEPTH, Parsed, parse};

@@ -20,6 +20,7 @@ pub fn append_cause(
             )?;
             append_name(out, text, name)
         }
+        Cause::Slip(slip) => append(out, &format!(in alloc; "{slip}")?),
         Cause::NotTaken(construct) => append(out, &format!(in alloc; "{construct} is not taken")?),
         Cause::TooDeep => append(out, "nested too deep"),
     }

@@ -1,6 +1,6 @@
 //! Modules.
 use crate::assignments::{parse_assignment, skip_assignment};
-use crate::cursor::Cursor;
+use crate::cursor::{Cursor, span_of};
 use crate::error::{Expected, Fault, Owner, SyntaxError};
 use crate::parsed::MAX_DEPTH;
 use crate::values::parse_value;
@@ -155,12 +155,44 @@ fn import(cursor: &mut Cursor<'_>) -> Result<Import, Fault> {
     let names = names(cursor)?;
     cursor.expect_word(b"FROM", Expected::CommaOrFrom)?;
     let module = cursor.type_name(Expected::ModuleName)?;
-    let identifier = module_identifier(cursor)?;
+    let identifier = import_identifier(cursor)?;
+    skip_successors(cursor);
     Ok(Import {
         names,
         module,
         identifier,
     })
+}
+
+// Reads the object identifier of the module that names are imported from, or the name of a value that is one, if it is there.
+fn import_identifier(cursor: &mut Cursor<'_>) -> Result<Option<Value>, Fault> {
+    if !cursor.sees_kind_after(0, TokenKind::Identifier) || begins_names(cursor) {
+        return module_identifier(cursor);
+    }
+    let value = parse_value(cursor, MAX_DEPTH)?;
+    Ok(Some(value))
+}
+
+// Whether the next token is the first of imported names.
+fn begins_names(cursor: &Cursor<'_>) -> bool {
+    cursor.sees_after(1, TokenKind::Symbol, b",")
+        || cursor.sees_after(1, TokenKind::Symbol, b"{")
+        || cursor.sees_after(1, TokenKind::ReservedWord, b"FROM")
+}
+
+// Skips WITH SUCCESSORS and WITH DESCENDANTS, by which a later module, or one below, may stand for the one that is named.
+fn skip_successors(cursor: &mut Cursor<'_>) {
+    let is_named = sees_name(cursor, b"SUCCESSORS") || sees_name(cursor, b"DESCENDANTS");
+    if cursor.sees_word(b"WITH") && is_named {
+        cursor.skip();
+        cursor.skip();
+    }
+}
+
+// Whether the token behind the next is this word, reserved or not.
+fn sees_name(cursor: &Cursor<'_>, word: &[u8]) -> bool {
+    cursor.sees_after(1, TokenKind::ReservedWord, word)
+        || cursor.sees_after(1, TokenKind::TypeReference, word)
 }
 
 // Reads the definitions of a module.
@@ -174,11 +206,15 @@ fn assignments(
             return Ok(assignments);
         }
         let first = cursor.index();
+        let name = cursor.peek();
         match parse_assignment(cursor) {
             Ok(assignment) => assignments.push(assignment)?,
             Err(Fault::Memory) => return Err(Fault::Memory),
             Err(Fault::Syntax(error)) => {
-                errors.push(error)?;
+                errors.push(SyntaxError {
+                    definition: name.map(span_of),
+                    ..error
+                })?;
                 skip_assignment(cursor, first);
             }
         }

@@ -1,6 +1,6 @@
 //! All modules of a text.
 use crate::cursor::Cursor;
-use crate::error::{Cause, Fault, SyntaxError};
+use crate::error::{Cause, Fault, Slip, SyntaxError};
 use crate::modules::parse_module;
 use asn1_notation::{Module, Span};
 use asn1_tokens::{TokenError, tokens};
@@ -42,7 +42,7 @@ fn parse_text(
 ) -> Result<(), Fault> {
     let tokens = match tokens(alloc, text) {
         Ok(tokens) => tokens,
-        Err(error) => return Err(token_fault(error)),
+        Err(error) => return Err(token_fault(text, error)),
     };
     let mut cursor = Cursor::new(alloc, tokens, text.len());
     for _ in 0..cursor.len() {
@@ -56,12 +56,17 @@ fn parse_text(
 }
 
 // The fault of a text that has no tokens.
-fn token_fault(error: TokenError) -> Fault {
+fn token_fault(text: &[u8], error: TokenError) -> Fault {
     match error {
         TokenError::Memory => Fault::Memory,
         TokenError::Refused(refusal, start) => Fault::Syntax(SyntaxError {
             found: Span { start, end: start },
-            cause: Cause::NoItem(refusal),
+            cause: if text.get(start) == Some(&b'_') {
+                Cause::Slip(Slip::Underscore)
+            } else {
+                Cause::NoItem(refusal)
+            },
+            definition: None,
         }),
     }
 }

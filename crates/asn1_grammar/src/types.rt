@@ -6,6 +6,7 @@ use crate::error::{Expected, Fault};
 use crate::grammar::Grammar;
 use crate::plain_types::{optional_identifier, plain_type, tag};
 use asn1_notation::{Constraint, Type, TypeKind};
+use asn1_tokens::TokenKind;
 
 impl<
     T: Fn(&mut Cursor<'_>, usize) -> Result<Type, Fault>,
@@ -91,6 +92,9 @@ impl<
     ) -> Result<Type, Fault>
         requires { Nests self.now.depth (T.pre self.now.types) (C.pre self.now.constraints) }
     {
+        if cursor.sees_symbol(b"(") && cursor.sees_kind_after(1, TokenKind::Identifier) {
+            return Err(cursor.expected(Expected::OpenBraceOrOf));
+        }
         let constraints = self.collection_constraint(cursor)?;
         cursor.expect_word(b"OF", Expected::OpenBraceOrOf)?;
         let name = optional_identifier(cursor)?;

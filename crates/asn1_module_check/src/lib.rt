@@ -9,6 +9,7 @@
 //! | [`Constructed`], [`ConstructedKind`], [`ComponentName`] | one of these |
 //! | [`check_constructed`] | a problem for each type of such a list that has a clash: its first two components that share a tag |
 //! | [`check_tags`] | the same of all types of a schema |
+//! | [`check_extensible_choices`] | a problem for each extensible CHOICE of a SET but the first, which no contract covers |
 //!
 //! A problem has the place of the second component, and a text with the tag.
 //!
@@ -28,6 +29,7 @@
 
 mod clashes;
 mod constructed;
+mod extensible_choices;
 mod first_tags;
 mod list;
 mod messages;
@@ -35,5 +37,6 @@ mod problems;
 mod tables;
 
 pub use constructed::{ComponentName, Constructed, ConstructedKind};
+pub use extensible_choices::check_extensible_choices;
 pub use list::list_constructed;
 pub use problems::{check_constructed, check_tags};

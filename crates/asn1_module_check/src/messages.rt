@@ -44,6 +44,16 @@ pub(crate) fn append_tag(
     Ok(())
 }
 
+/// Appends what tells two parts apart that share a tag of a type without one.
+pub(crate) fn append_advice(text: &mut Vec<u8>, tag: Option<Tag>) -> Result<(), AllocError> {
+    if let Some(tag) = tag {
+        if tag.class == Class::Universal {
+            text.extend_from_slice(b"; give one a tag, or the module AUTOMATIC TAGS")?;
+        }
+    }
+    Ok(())
+}
+
 // The word for a class, with a space behind it.
 fn class_word(class: Class) -> &'static [u8] {
     match class {

@@ -8,7 +8,7 @@ ghost use Rattle.asn1_module_check.specs.Errors.{IsError};
 use crate::clashes::find_clash;
 use crate::constructed::{ComponentName, Constructed};
 use crate::list::list_constructed;
-use crate::messages::{append_names, append_tag};
+use crate::messages::{append_advice, append_names, append_tag};
 use asn1_clash::FlatComponent;
 use asn1_resolved::{Problem, Schema, Severity};
 use asn1_tags::Tag;
@@ -76,13 +76,11 @@ fn problem_of(
 {
     let (first, second) = clash;
     let names = (name_at(constructed, first), name_at(constructed, second));
+    let tag = tag_at(constructed.components.as_slice(), first, second);
     let mut text = Vec::new(alloc);
     append_names(&mut text, constructed.kind, names)?;
-    append_tag(
-        alloc,
-        &mut text,
-        tag_at(constructed.components.as_slice(), first, second),
-    )?;
+    append_tag(alloc, &mut text, tag)?;
+    append_advice(&mut text, tag)?;
     Ok(Problem {
         place: names.1.place,
         severity: Severity::Error,

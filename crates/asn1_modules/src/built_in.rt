@@ -1,9 +1,9 @@
-//! The names of the types of the language, as those of another case or with few other letters mean them.
+//! The types of the language that an undefined name may mean, without regard to case.
 use asn1_names::{DefinedName, Place, nearest_name};
 use asn1_notation::Span;
 use std::alloc::{AllocError, Global};
 
-// The types of one word (X.680, 12.38), each in capitals and as it is written.
+// Names of types (X.680, 12.38) and other words for them, in capitals, each with the type as it is written.
 const BUILT_IN: &[(&[u8], &[u8])] = &[
     (b"BIT", b"BIT STRING"),
     (b"BMPSTRING", b"BMPString"),

@@ -3,6 +3,7 @@ ghost use Rattle.std.specs.Prelude.{◌≡◌, ◌++◌, map, IfOk, OnOk};
 ghost use Rattle.std.specs.List.{flat_map};
 ghost use Rattle.asn1_modules.specs.Places.{defined_in, defined_places, imported_by, imported_in, imported_places};
 
+use crate::identifiers::ModuleNames;
 use crate::source::Source;
 use asn1_names::{DefinedName, ImportedName, Place};
 use asn1_notation::{Import, Module};
@@ -27,12 +28,13 @@ pub(crate) fn list_names<'a>(
     ensures imported { IfOk result (λ names.
         map (λ imported. imported.place) names.imported.items ≡ imported_places sources.now) }
 {
+    let modules = ModuleNames::of(alloc, sources)?;
     let mut defined = Vec::new(alloc);
     let mut imported = Vec::new(alloc);
     for (index, source) in sources.iter().enumerate() {
         for module in source.modules {
             add_defined(&mut defined, *source, index, module)?;
-            add_imported(&mut imported, *source, index, module)?;
+            add_imported(alloc, &mut imported, &modules, *source, index, module)?;
         }
     }
     Ok(ListedNames { defined, imported })
@@ -63,7 +65,9 @@ fn add_defined<'a>(
 
 // Adds the names that a module imports.
 fn add_imported<'a>(
+    alloc: Global,
     names: &mut Vec<ImportedName<'a>>,
+    modules: &ModuleNames<'a>,
     source: Source<'a>,
     index: usize,
     module: &Module,
@@ -72,18 +76,20 @@ fn add_imported<'a>(
         map (λ imported. imported.place) names.old.items ++ imported_in index «module».now) }
 {
     for import in &module.imports {
-        add_import(names, source, index, module, import)?;
+        let from = modules.imported(alloc, source.text, import)?;
+        add_import(names, source, index, module, import, from)?;
     }
     Ok(())
 }
 
-// Adds the names that a module imports from another.
+// Adds the names that a module imports from the one of this name.
 fn add_import<'a>(
     names: &mut Vec<ImportedName<'a>>,
     source: Source<'a>,
     index: usize,
     module: &Module,
     import: &Import,
+    from: &'a [u8],
 ) -> Result<(), AllocError>
     ensures { OnOk result (map (λ imported. imported.place) names.new.items ≡
         map (λ imported. imported.place) names.old.items ++ imported_by index import.now) }
@@ -92,7 +98,7 @@ fn add_import<'a>(
         names.push(ImportedName {
             module: module.name.octets(source.text),
             name: name.octets(source.text),
-            from: import.module.octets(source.text),
+            from,
             place: Place {
                 text: index,
                 span: *name,

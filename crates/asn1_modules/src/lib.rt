@@ -25,6 +25,7 @@ mod arcs;
 mod built_in;
 mod collector;
 mod definitions;
+mod identifiers;
 mod messages;
 mod modules;
 mod source;

@@ -1,4 +1,4 @@
-//! What is wrong with names, in words.
+//! Messages about names.
 use crate::built_in::nearest_built_in;
 use asn1_names::{
     DefinedName, DoubledName, ImportedName, NameIndex, NameProblem, Names, UsedName, nearest_name,
@@ -8,6 +8,9 @@ use std::collections::HashSet;
 
 /// For how many names a name that may be meant is looked for.
 const MAX_SUGGESTIONS: usize = 100;
+
+/// How many octets of a name a message has.
+const MAX_NAME: usize = 100;
 
 /// The messages about the names of a set of modules.
 #[derive(Drop)]
@@ -42,7 +45,7 @@ impl<'n, 'a> NameMessages<'n, 'a> {
         self.modules.contains(name)
     }
 
-    /// Appends what is wrong with a name. Of the first hundred names a name that may be meant follows.
+    /// Appends what is wrong with a name, with a name that may be meant for the first hundred.
     pub fn append(
         &mut self,
         out: &mut Vec<u8>,
@@ -79,11 +82,12 @@ impl<'n, 'a> NameMessages<'n, 'a> {
         used: &UsedName<'_>,
     ) -> Result<(), AllocError> {
         append_name(out, used.name)?;
+        match used.qualifier {
+            Some(module) if !self.has_module(module) => return append_missing(out, module),
+            _ => {}
+        }
         if let Some(from) = self.missing_module(used) {
-            out.extend_from_slice(b" is imported from module ")?;
-            append_name(out, from)?;
-            out.extend_from_slice(b", which is not among the files")?;
-            return Ok(());
+            return append_missing(out, from);
         }
         out.extend_from_slice(b" is not defined in module ")?;
         append_name(out, module_of(used))?;
@@ -145,11 +149,25 @@ fn index_of_imports<'a>(
     NameIndex::of(alloc, &names)
 }
 
-// Appends a name in apostrophes.
+// Appends a name in apostrophes. A long one is cut.
 fn append_name(out: &mut Vec<u8>, name: &[u8]) -> Result<(), AllocError> {
     out.push(b'\'')?;
-    out.extend_from_slice(name)?;
+    match name.get(..MAX_NAME) {
+        Some(front) => {
+            out.extend_from_slice(front)?;
+            out.extend_from_slice(b"..")?;
+        }
+        None => out.extend_from_slice(name)?,
+    }
     out.push(b'\'')?;
+    Ok(())
+}
+
+// Appends the module that a name is imported from.
+fn append_missing(out: &mut Vec<u8>, module: &[u8]) -> Result<(), AllocError> {
+    out.extend_from_slice(b" is imported from module ")?;
+    append_name(out, module)?;
+    out.extend_from_slice(b", which is not among the files")?;
     Ok(())
 }
 

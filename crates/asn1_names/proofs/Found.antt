@@ -1,4 +1,4 @@
--- What an index of names finds.
+-- Elements that are found by their position.
 use Rattle.std.proofs.Common.{◌≡◌, ◌++◌, ◌<◌, ◌≤◌, ℕ, Bool, true, false, ◌&&◌, ◌||◌, List, [], ◌∷◌, length, Option, None, Some, refl, sym, ap, ◌∙◌, arith, zero, suc}
 use Rattle.std.specs.List.{find, list_any, position, position_or_len, slice_get}
 use Rattle.std.specs.Option.{is_some, option_and_then, option_copied}

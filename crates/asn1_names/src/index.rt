@@ -10,7 +10,7 @@ use crate::names::DefinedName;
 use std::alloc::{AllocError, Global};
 use std::collections::HashMap;
 
-/// Where the first definition of each name is.
+/// The position of the first definition of each name.
 #[derive(Drop)]
 pub struct NameIndex<'a> {
     // The index of the first definition, by its module and its name.

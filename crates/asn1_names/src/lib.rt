@@ -9,7 +9,7 @@
 //! | [`find_unknown_imports`] | the imported names that the module behind FROM does not define |
 //! | [`find_undefined`] | the references that are to no definition |
 //! | [`check_names`], [`NameProblem`] | all of these |
-//! | [`NameIndex`] | where the first definition of each name is |
+//! | [`NameIndex`] | the position of the first definition of each name |
 //! | [`nearest_name`] | the defined name that is most like another |
 //!
 //! The contracts promise:

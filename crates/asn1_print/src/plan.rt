@@ -129,6 +129,8 @@ pub(crate) struct Plan<'r, 'a> {
     pub(crate) alloc: Global,
     pub(crate) request: Request<'r, 'a>,
     pub(crate) types: Vec<PlannedType>,
+    // Whether each type is behind an explicit tag, when that is known.
+    explicit_tags: Vec<Option<bool>>,
     // By the texts and the offsets at which they begin.
     unnamed_types: HashMap<(usize, usize), UnnamedType>,
     taken_names: TakenNames,
@@ -216,6 +218,7 @@ pub(crate) fn plan_of<'r, 'a>(
     let mut plan = empty_plan(alloc, request);
     plan.reserve_names()?;
     plan.name_types()?;
+    plan.find_explicit_tags()?;
     Ok(plan)
 }
 
@@ -225,6 +228,7 @@ fn empty_plan<'r, 'a>(alloc: Global, request: Request<'r, 'a>) -> Plan<'r, 'a> {
         alloc,
         request,
         types: Vec::new(alloc),
+        explicit_tags: Vec::new(alloc),
         unnamed_types: HashMap::new(alloc),
         taken_names: TakenNames::new(alloc),
         taken_modules: TakenNames::new(alloc),
@@ -433,20 +437,67 @@ impl Plan<'_, '_> {
     }
 
     // Whether the type with an index is behind an explicit tag, by its definition or that of a type that it refers to.
-    fn is_explicit(&self, start: usize) -> bool {
-        let schema = self.request.schema;
-        let mut index = start;
-        for _ in 0..schema.types.len() {
-            match schema.types.get(index) {
-                Some(definition) if !self.is_external(index) => match &definition.definition.kind {
-                    TypeKind::Reference(next) => index = *next,
-                    TypeKind::Tagged(tag, _) => return tag.is_explicit,
-                    _ => return false,
-                },
-                _ => return false,
+    fn is_explicit(&self, index: usize) -> bool {
+        self.explicit_tags.get(index) == Some(&Some(true))
+    }
+
+    // Finds which types are behind an explicit tag.
+    fn find_explicit_tags(&mut self) -> Result<(), AllocError> {
+        let count = self.request.schema.types.len();
+        for _ in 0..count {
+            self.explicit_tags.push(None)?;
+        }
+        for index in 0..count {
+            self.find_explicit_tag(index)?;
+        }
+        Ok(())
+    }
+
+    // Finds whether a type is behind an explicit tag, and so all types that it refers to on the way.
+    fn find_explicit_tag(&mut self, start: usize) -> Result<(), AllocError> {
+        let mut passed = Vec::new(self.alloc);
+        let mut next = Some(start);
+        let mut is_explicit = false;
+        for _ in 0..=self.explicit_tags.len() {
+            let Some(index) = next else {
+                break;
+            };
+            if let Some(Some(known)) = self.explicit_tags.get(index) {
+                is_explicit = *known;
+                break;
+            }
+            passed.push(index)?;
+            is_explicit = self.has_explicit_tag(index);
+            next = self.referred_index(index);
+        }
+        for index in &passed {
+            if let Some(known) = self.explicit_tags.get_mut(*index) {
+                *known = Some(is_explicit);
             }
         }
-        false
+        Ok(())
+    }
+
+    // The type to which the definition of a type is a reference.
+    fn referred_index(&self, index: usize) -> Option<usize> {
+        if self.is_external(index) {
+            return None;
+        }
+        match &self.request.schema.types.get(index)?.definition.kind {
+            TypeKind::Reference(next) => Some(*next),
+            _ => None,
+        }
+    }
+
+    // Whether the definition of a type begins with an explicit tag.
+    fn has_explicit_tag(&self, index: usize) -> bool {
+        match self.request.schema.types.get(index) {
+            Some(definition) if !self.is_external(index) => match &definition.definition.kind {
+                TypeKind::Tagged(tag, _) => tag.is_explicit,
+                _ => false,
+            },
+            _ => false,
+        }
     }
 
     /// Whether the type with an index exists already.

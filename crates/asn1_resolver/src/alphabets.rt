@@ -2,7 +2,8 @@
 use crate::fault::Fault;
 use crate::governed::{Governed, Scope, Written};
 use crate::resolver::Resolver;
-use asn1_notation::{Constraint, EndPoint, EndValue, Value};
+use asn1_names::Place;
+use asn1_notation::{Constraint, EndPoint, EndValue, StringKind, TypeKind, Value};
 use asn1_resolved::{CharacterRange, ConstraintKind};
 
 impl<'a> Resolver<'_, 'a> {
@@ -57,11 +58,13 @@ impl<'a> Resolver<'_, 'a> {
         scope: Scope<'a>,
         value: &'a Value,
     ) -> Result<bool, Fault> {
+        let place = scope.place_at(value.start);
         let value = self.value(base, Written { scope, value })?;
         let asn1_resolved::Value::Text(text) = value else {
             return Ok(false);
         };
         for character in &text {
+            self.require_character(base, place, *character)?;
             let code = *character as u32;
             ranges.push(CharacterRange {
                 first: code,
@@ -100,19 +103,75 @@ impl<'a> Resolver<'_, 'a> {
     ) -> Result<Option<u32>, Fault> {
         match &end.value {
             EndValue::Value(value) if !end.is_open => {
+                let place = scope.place_at(value.start);
                 let value = self.value(base, Written { scope, value })?;
-                Ok(single_character(&value))
+                let Some(character) = single_character(&value) else {
+                    return Ok(None);
+                };
+                self.require_character(base, place, character)?;
+                Ok(Some(character as u32))
             }
             _ => Ok(None),
         }
     }
+
+    // Refuses a character that the type of the string does not have.
+    fn require_character(
+        &mut self,
+        base: Governed<'a>,
+        place: Place,
+        character: u8,
+    ) -> Result<(), Fault> {
+        match &base.definition.kind {
+            TypeKind::String(kind) if !has_character(*kind, character) => Err(self.refuse(
+                place,
+                &[b"this is no character of ", string_name(*kind)],
+            )),
+            _ => Ok(()),
+        }
+    }
+}
+
+// Whether a string of this kind can have a character, as far as the kind has few (X.680, 41.2 and 41.4).
+fn has_character(kind: StringKind, character: u8) -> bool {
+    match kind {
+        StringKind::Numeric => matches!(character, b'0'..=b'9' | b' '),
+        StringKind::Printable => {
+            character.is_ascii_alphanumeric()
+                || matches!(
+                    character,
+                    b' ' | b'\''
+                        | b'('
+                        | b')'
+                        | b'+'
+                        | b','
+                        | b'-'
+                        | b'.'
+                        | b'/'
+                        | b':'
+                        | b'='
+                        | b'?'
+                )
+        }
+        StringKind::Visible => matches!(character, b' '..=b'~'),
+        _ => true,
+    }
+}
+
+// The name of a kind whose characters are few.
+fn string_name(kind: StringKind) -> &'static [u8] {
+    match kind {
+        StringKind::Numeric => b"NumericString",
+        StringKind::Printable => b"PrintableString",
+        _ => b"VisibleString",
+    }
 }
 
 // The one character of a string, if it is one of ASCII.
-fn single_character(value: &asn1_resolved::Value<'_>) -> Option<u32> {
+fn single_character(value: &asn1_resolved::Value<'_>) -> Option<u8> {
     match value {
         asn1_resolved::Value::Text(text) => match text.as_slice() {
-            [character] if character.is_ascii() => Some(*character as u32),
+            [character] if character.is_ascii() => Some(*character),
             _ => None,
         },
         _ => None,

@@ -1,11 +1,22 @@
 //! The types behind references and tags.
 use crate::fault::Fault;
-use crate::governed::{Governed, Scope};
+use crate::governed::Governed;
 use crate::resolver::Resolver;
-use asn1_notation::{Reference, Type, TypeKind};
+use asn1_notation::{Type, TypeKind};
 
 // How many tags a type may be under.
 const MAX_TAGS: usize = 100;
+
+/// The type behind the references and tags of a definition.
+#[derive(Clone, Copy)]
+pub(crate) enum Base<'a> {
+    /// They were not followed.
+    Unknown,
+    /// This type.
+    Found(Governed<'a>),
+    /// The definition leads to itself.
+    Missing,
+}
 
 impl<'a> Resolver<'_, 'a> {
     // How many references and tags may lead from a type to one that is neither.
@@ -28,41 +39,34 @@ impl<'a> Resolver<'_, 'a> {
                 TypeKind::Reference(reference) => {
                     let index = self.find_type(scope, reference)?;
                     passed.push(index)?;
-                    self.known_base(scope, reference, index)?
+                    match self.bases.get(index) {
+                        Some(Base::Found(base)) => *base,
+                        Some(Base::Missing) => break,
+                        _ => self.type_at(scope, reference, index)?,
+                    }
                 }
                 _ => {
-                    self.keep_base(&passed, current);
+                    self.keep_base(&passed, Base::Found(current));
                     return Ok(current);
                 }
             };
         }
+        self.keep_base(&passed, Base::Missing);
         Err(self.refuse(governed.place(), &[b"the type is defined by itself"]))
     }
 
-    // The type behind the references and tags of a definition, if they were followed, or else that of the definition.
-    fn known_base(
-        &mut self,
-        scope: Scope<'a>,
-        reference: &Reference,
-        index: usize,
-    ) -> Result<Governed<'a>, Fault> {
-        match self.bases.get(index) {
-            Some(Some(base)) => Ok(*base),
-            _ => self.type_at(scope, reference, index),
-        }
-    }
-
     // Keeps the type behind the references and tags of definitions.
-    fn keep_base(&mut self, passed: &[usize], base: Governed<'a>) {
+    fn keep_base(&mut self, passed: &[usize], base: Base<'a>) {
         for index in passed {
             if let Some(known) = self.bases.get_mut(*index) {
-                *known = Some(base);
+                *known = base;
             }
         }
     }
 
     /// Whether a type is a CHOICE or an open type, and under no tag.
     pub(crate) fn has_no_tag(&mut self, governed: Governed<'a>) -> Result<bool, Fault> {
+        self.base(governed)?;
         let mut current = governed;
         for _ in 0..self.most_steps() {
             match &current.definition.kind {

@@ -81,13 +81,22 @@ impl<'a> Resolver<'_, 'a> {
         inner: &'a asn1_notation::Constraint,
     ) -> Result<ConstraintKind, Fault> {
         let scope = bounded.of.scope;
+        let kind = &bounded.base.definition.kind;
         match &constraint.kind {
+            asn1_notation::ConstraintKind::Size(_) if !has_size(kind) => Err(self.refuse(
+                scope.place_at(constraint.start),
+                &[b"SIZE is of a string, a SEQUENCE OF or a SET OF, and not of this type"],
+            )),
+            asn1_notation::ConstraintKind::From(_) if !has_alphabet(kind) => Err(self.refuse(
+                scope.place_at(constraint.start),
+                &[b"FROM is of a string of characters, and not of this type"],
+            )),
             asn1_notation::ConstraintKind::Size(_) => {
                 let range = self.range(None, scope, inner)?;
                 Ok(size_of_range(range))
             }
             asn1_notation::ConstraintKind::From(_) => self.alphabet(bounded.base, scope, inner),
-            _ => match &bounded.base.definition.kind {
+            _ => match kind {
                 TypeKind::Integer(_) => {
                     let range = self.range(Some(bounded.base), scope, inner)?;
                     Ok(value_of_range(range))
@@ -96,6 +105,20 @@ impl<'a> Resolver<'_, 'a> {
             },
         }
     }
+}
+
+// Whether SIZE may limit a type (X.680, 51.5.2).
+fn has_size(kind: &TypeKind) -> bool {
+    match kind {
+        TypeKind::BitString(_) | TypeKind::OctetString => true,
+        TypeKind::SequenceOf(_, _) | TypeKind::SetOf(_, _) => true,
+        _ => has_alphabet(kind),
+    }
+}
+
+// Whether FROM may limit a type (X.680, 51.7.1).
+fn has_alphabet(kind: &TypeKind) -> bool {
+    matches!(kind, TypeKind::String(_))
 }
 
 // A type whose constraints are resolved.

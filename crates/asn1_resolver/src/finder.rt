@@ -1,4 +1,4 @@
-//! Where the definitions of names may be found.
+//! The definitions that names may stand for.
 use crate::definitions::Defined;
 use asn1_names::{DefinedName, ImportedName, NameIndex, Place, UsedName};
 use std::alloc::{AllocError, Global};

@@ -1,8 +1,8 @@
 //! The state of a run.
+use crate::base::Base;
 use crate::definitions::Definitions;
 use crate::fault::Fault;
 use crate::finder::Finder;
-use crate::governed::Governed;
 use asn1_modules::NameMessages;
 use asn1_names::{Names, Place};
 use asn1_resolved::{Problem, Severity};
@@ -18,12 +18,12 @@ pub(crate) struct Resolver<'r, 'a> {
     pub(crate) definitions: &'r Definitions<'a>,
     /// The names that are defined, imported and used.
     pub(crate) names: &'r Names<'a>,
-    /// Where the types may be found.
+    /// The finder of types.
     pub(crate) type_finder: Finder<'a>,
-    /// Where the values may be found.
+    /// The finder of values.
     pub(crate) value_finder: Finder<'a>,
     /// The type behind the references and tags of each definition of a type, as far as they were followed.
-    pub(crate) bases: Vec<Option<Governed<'a>>>,
+    pub(crate) bases: Vec<Base<'a>>,
     /// The messages about names.
     pub(crate) messages: NameMessages<'r, 'a>,
     /// How many values were read inside the present one.
@@ -44,7 +44,7 @@ impl<'r, 'a> Resolver<'r, 'a> {
     ) -> Result<Resolver<'r, 'a>, AllocError> {
         let mut bases = Vec::new(alloc);
         for _ in &definitions.types {
-            bases.push(None)?;
+            bases.push(Base::Unknown)?;
         }
         Ok(Resolver {
             alloc,
@@ -114,11 +114,14 @@ impl<'r, 'a> Resolver<'r, 'a> {
     }
 }
 
-// The text of some parts.
+/// How many octets of a part a message has.
+const MAX_PART: usize = 1000;
+
+// The text of some parts. A very long one, as of a name, is cut.
 fn join(alloc: Global, parts: &[&[u8]]) -> Result<Vec<u8>, AllocError> {
     let mut text = Vec::new(alloc);
     for part in parts {
-        text.extend_from_slice(part)?;
+        text.extend_from_slice(part.get(..MAX_PART).unwrap_or(part))?;
     }
     Ok(text)
 }

@@ -2,7 +2,6 @@
 use crate::code::{Code, List, ListStyle};
 use crate::order::order_of;
 use std::alloc::{AllocError, Global};
-use std::collections::HashSet;
 
 /// A name that a file imports.
 #[derive(Debug, PartialEq, Eq, PartialOrd, Ord, Drop)]
@@ -40,8 +39,6 @@ struct OrderedImport {
 pub struct Imports {
     alloc: Global,
     imports: Vec<OrderedImport>,
-    // The lines of these names, as `use path::name;`.
-    known: HashSet<String>,
 }
 
 impl Imports {
@@ -50,7 +47,6 @@ impl Imports {
         Imports {
             alloc,
             imports: Vec::new(alloc),
-            known: HashSet::new(alloc),
         }
     }
 
@@ -61,34 +57,25 @@ impl Imports {
 
     /// Adds a name, if it is not there.
     pub fn add(&mut self, import: Import) -> Result<(), AllocError> {
-        self.add_of(
-            import.is_foreign,
-            import.path.as_str(),
-            import.name.as_str(),
-        )
+        if !self.imports.iter().any(|known| known.import == import) {
+            self.imports.push(OrderedImport {
+                is_foreign: import.is_foreign,
+                path_order: order_of(self.alloc, import.path.as_str())?,
+                name_order: order_of(self.alloc, import.name.as_str())?,
+                import,
+            })?;
+        }
+        Ok(())
     }
 
     /// Adds a name of a library.
     pub fn add_foreign(&mut self, path: &str, name: &str) -> Result<(), AllocError> {
-        self.add_of(true, path, name)
-    }
-
-    // Adds a name, if it is not there.
-    fn add_of(&mut self, is_foreign: bool, path: &str, name: &str) -> Result<(), AllocError> {
-        let line = format!(in self.alloc; "use {path}::{name};")?;
-        if self.known.insert(line)? {
-            self.imports.push(OrderedImport {
-                is_foreign,
-                path_order: order_of(self.alloc, path)?,
-                name_order: order_of(self.alloc, name)?,
-                import: Import {
-                    is_foreign,
-                    path: String::from_str(self.alloc, path)?,
-                    name: String::from_str(self.alloc, name)?,
-                },
-            })?;
-        }
-        Ok(())
+        let import = Import {
+            is_foreign: true,
+            path: String::from_str(self.alloc, path)?,
+            name: String::from_str(self.alloc, name)?,
+        };
+        self.add(import)
     }
 
     /// Appends the lines, in the order of the paths.

@@ -6,7 +6,7 @@ use std::collections::HashMap;
 #[derive(Drop)]
 pub struct TakenNames {
     alloc: Global,
-    // Of each name that is taken, in lower case, the least number behind it that may be free.
+    // The least number that may be free behind each name that is taken, which is in lower case.
     numbers: HashMap<String, usize>,
 }
 

@@ -3,7 +3,7 @@ use crate::errors::{append_errors, append_position, append_problems};
 use crate::rust_names::{append_forms, append_taken};
 use crate::work::{Text, Work};
 use asn1_grammar::{Parsed, parse};
-use asn1_module_check::check_tags;
+use asn1_module_check::{check_extensible_choices, check_tags};
 use asn1_modules::{NameMessages, Source, collect_names};
 use asn1_names::check_names;
 use asn1_notation_text::{Printer, print_module};
@@ -107,7 +107,8 @@ fn answer_schema(alloc: Global, out: &mut Vec<u8>, text: &[u8]) -> io::Result<()
     if !resolution.is_accepted() {
         return Ok(());
     }
-    let clashes = check_tags(alloc, &resolution.schema)?;
+    let mut clashes = check_tags(alloc, &resolution.schema)?;
+    clashes.append(&mut check_extensible_choices(alloc, &resolution.schema)?)?;
     append_problems(out, text, &clashes)?;
     if clashes.is_empty() {
         writeln!(out, "accepted")?;

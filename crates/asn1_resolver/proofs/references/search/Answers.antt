@@ -1,6 +1,6 @@
 use Rattle.std.proofs.Common.{sym}
 use Rattle.asn1_resolver.proofs.MeantDefinitions.{finds_import, finds_own, finds_qualified}
-use Rattle.asn1_resolver.proofs.references.find.Goals as goal
+use Rattle.asn1_resolver.proofs.references.search.Goals as goal
 
 pub returns-in-Some-clause-meant : goal.returns-in-Some-clause-meant
 returns-in-Some-clause-meant c =
