@@ -1,4 +1,4 @@
--- What is written of the values of an input.
+-- The conversions of the values of an input.
 use Rattle.std.specs.Prelude.{◌≡◌, ◌+◌, ℕ, suc, ⊤, Bool, List, [], ◌++◌, length, IfErr, Result, Ok, Err, Vec}
 use Rattle.std.specs.declared.alloc.Global.{Global}
 use Rattle.asn1_items.specs.declared.error.ItemError.{ItemError}
@@ -15,7 +15,7 @@ use Rattle.asn1_convert.specs.declared.stream.Cause.TheVariants.{NoFront, NotRec
 use Rattle.asn1_convert.specs.declared.stream.Stop.{Stop}
 
 module _ {V : Type 0} (m : Meaning V) (eq : V → V → Bool) (depth : ℕ) where
-  -- A call that writes in one form the value that octets are in another. Of a text nothing is said.
+  -- A call that writes in one form the value that octets are in another. A text may be any.
   abbrev pub Converts : CodecForm → List ℕ → OutputForm → Result (Vec ℕ Global) RecodeError → Type 0
   Converts from octets (Codec to) result =
       ((input : Vec ℕ Global) → input.items ≡ octets → Recodes (format_of to) m (format_of from) input eq depth result) ×
@@ -23,7 +23,7 @@ module _ {V : Type 0} (m : Meaning V) (eq : V → V → Bool) (depth : ℕ) wher
   Converts from octets Notation result = ⊤
   Converts from octets Json result = ⊤
 
-  -- What is written of the value whose octets these are was appended.
+  -- The conversion of the value whose octets these are was appended.
   pub record HasAppended (from : CodecForm) (to : OutputForm) (octets old new : List ℕ) : Type 0 where
     pub piece : Vec ℕ Global
     pub converted : Converts from octets to (Ok piece)
@@ -56,7 +56,7 @@ module _ {V : Type 0} (m : Meaning V) (eq : V → V → Bool) (depth : ℕ) wher
   IsCause from to input (NotRecoded e) = HasNotConverted from to input (NotRecoded e)
   IsCause from to input Memory = HasNotConverted from to input Memory
 
-  -- Values of an input were converted, one after another: this is left of it, this was written, and they are so many.
+  -- Values of an input were converted, one after another: this is left of it, this was written, and this is their number.
   pub data HaveConverted (from : CodecForm) (to : OutputForm) (input : List ℕ) : List ℕ → List ℕ → ℕ → Type 0 where
     none : HaveConverted from to input input [] 0
     one_more : {left behind written more : List ℕ} {count : ℕ} → HaveConverted from to input left written count →

@@ -41,7 +41,7 @@ fn command<'a>(alloc: Global, program: &'a str, types: &'a str) -> Result<Comman
         .arg(to)
 }
 
-/// What these words of a command line ask for.
+/// The arguments that these words of a command line give.
 pub(crate) fn matches_of<'a>(
     alloc: Global,
     program: &'a str,
@@ -51,7 +51,7 @@ pub(crate) fn matches_of<'a>(
     command(alloc, program, types)?.try_get_matches_from(words)
 }
 
-/// What is asked of the octets, if the arguments say it.
+/// The action that the arguments ask for, if they are complete.
 pub(crate) fn action_of(matches: &ArgMatches<'_>) -> Option<Action> {
     let from = matches.get_str("FROM");
     let to = matches.get_str("TO");

@@ -1,4 +1,4 @@
-//! Where in a value reading fails.
+//! The place in a value at which reading fails.
 
 use crate::form::CodecForm;
 use asn1_ber::BerDecoder;
@@ -8,7 +8,7 @@ use asn1_der::DerDecoder;
 use asn1_paths::{PathDecoder, Place};
 use std::alloc::Global;
 
-/// Where in a value reading these octets fails, if that is known: by reading them again with a decoder that notes where it is.
+/// The place at which reading these octets fails, if that is known: by reading them again with a decoder that notes where it is.
 pub(crate) fn failing_place<T: Decode>(
     alloc: Global,
     form: CodecForm,
@@ -25,7 +25,7 @@ pub(crate) fn failing_place<T: Decode>(
     }
 }
 
-/// Where a decoder is after it has read a value or failed.
+/// The place of a decoder after it has read a value or failed.
 fn place_in<T: Decode, D: Decoder + Drop>(decoder: D) -> Option<Place> {
     let mut noting = PathDecoder::new(decoder);
     let _ = T::decode(&mut noting);

@@ -11,7 +11,7 @@ pub enum CodecForm {
     Packed,
 }
 
-/// What values are written as.
+/// A form in which values are written.
 #[derive(Clone, Copy, Debug, Drop, PartialEq, Eq)]
 pub enum OutputForm {
     /// The octets of a codec.

@@ -14,7 +14,7 @@
 //! The contracts promise:
 //!
 //! - The octets of an input are cut into values by their first elements, in the packed form by their items (`IsFront` of
-//!   `specs/Forms.antt`). What is written is the conversion of each value before the one that was not converted, once and in order, and
+//!   `specs/Forms.antt`). The output is the conversion of each value before the one that was not converted, once and in order, and
 //!   a stop names how many these are, the position of its first octet and its cause (`IsStop` of `specs/Conversions.antt`).
 //! - From codec to codec a value is converted as `recode` does, whose contract holds of each of the nine pairs ([`recode_between`]):
 //!   if the octets carry a valid value of a well-tagged type, the output carries one that is equal.

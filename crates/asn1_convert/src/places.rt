@@ -1,4 +1,4 @@
-//! Where a value was not read, and why, in words.
+//! The place at which a value was not read, and the cause, in words.
 
 use crate::causes::cause_text;
 use crate::failing_place::failing_place;

@@ -60,7 +60,7 @@ pub fn read_by<T: Decode>(
     }
 }
 
-/// What is written of the value whose octets these are.
+/// The conversion of the value whose octets these are.
 pub fn convert_value<T: Encode + Decode>(
     alloc: Global,
     from: CodecForm,

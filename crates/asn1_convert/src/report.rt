@@ -1,4 +1,4 @@
-//! What a program says of a value that was not converted.
+//! The line for a value that was not converted.
 
 use crate::form::CodecForm;
 use crate::places::push_read_error;

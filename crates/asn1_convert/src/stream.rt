@@ -39,16 +39,16 @@ pub struct Stop {
     pub cause: Cause,
 }
 
-/// What was written of the values of an input, and where the conversion stopped, if it did not come to the end.
+/// The conversion of the values of an input, and its stop, if it did not come to the end.
 #[derive(Debug, Drop)]
 pub struct Conversion {
-    /// What is written of the values, one after another.
+    /// The conversions of the values, one after another.
     pub output: Vec<u8>,
     /// The value that was not converted.
     pub stop: Option<Stop>,
 }
 
-/// What is written of the values of an input, one after another, until one is not converted.
+/// The conversions of the values of an input, one after another, until one is not converted.
 pub fn convert_values<T: Encode + Decode>(
     alloc: Global,
     from: CodecForm,

@@ -1,4 +1,4 @@
-//! What a program does with the octets of values of a type.
+//! The work of a program on the octets of values of a type.
 
 use crate::check::{check_der, check_line};
 use crate::form::{CodecForm, OutputForm};
@@ -8,34 +8,34 @@ use asn1_dec::Decode;
 use asn1_enc::Encode;
 use std::alloc::{AllocError, Global};
 
-/// What is asked of octets.
+/// A piece of work on octets.
 #[derive(Clone, Copy, Debug, Drop, PartialEq, Eq)]
 pub enum Action {
     /// The values of one form in another.
     Convert {
         /// The codec of which they are read.
         from: CodecForm,
-        /// What they are written as.
+        /// The form in which they are written.
         to: OutputForm,
     },
     /// Whether they are the DER of a value.
     Check,
 }
 
-/// Octets, and what is asked of them.
+/// Octets, and the work on them.
 #[derive(Clone, Copy)]
 pub struct Task<'a> {
     /// The allocator.
     pub alloc: Global,
     /// The octets.
     pub input: &'a Vec<u8>,
-    /// What is asked.
+    /// The work.
     pub action: Action,
     /// How many nested scopes may be open.
     pub depth: usize,
 }
 
-/// What is written for a task.
+/// The outcome of a task.
 #[derive(Debug, Drop)]
 pub struct Answer {
     /// The output.

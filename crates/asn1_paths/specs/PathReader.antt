@@ -2,7 +2,7 @@
 use Rattle.asn1_laws.specs.Reading.{IsLawful, Reader}
 use Rattle.asn1_paths.specs.declared.decoder.PathDecoder.{PathDecoder}
 
--- The depth left and failure are those of the decoder inside. Nothing is said of the records that remain.
+-- The depth left and failure are those of the decoder inside. No records remain by it.
 abbrev pub path_reader : {D : Type 0} → Reader D → Reader (PathDecoder D)
 path_reader R = record {
   remains = λ d at. ⊥;

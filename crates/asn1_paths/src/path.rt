@@ -7,7 +7,7 @@ use asn1_dec::DecodeError;
 use std::alloc::{AllocError, Global};
 use std::fmt::Write;
 
-/// What is read inside a scope or a group.
+/// The kind of a scope or a group.
 #[derive(Clone, Copy, PartialEq, Eq)]
 pub(crate) enum ScopeKind {
     /// Components, in the order of the definition.
@@ -18,7 +18,7 @@ pub(crate) enum ScopeKind {
     Elements,
     /// The chosen alternative of a CHOICE, which is no element of its own.
     Alternative,
-    /// What follows an explicit tag.
+    /// The value after an explicit tag.
     Tagged,
     /// Components of a group of additions, which is no element of its own.
     Group,
@@ -35,7 +35,7 @@ impl ScopeKind {
 #[derive(Clone, Copy)]
 struct Scope {
     kind: ScopeKind,
-    /// Where its names begin among those of all scopes.
+    /// The place of its first name among those of all scopes.
     names: usize,
     /// The index of the component or element that is next.
     next: usize,

@@ -1,4 +1,4 @@
--- What the encoder of texts has written, and why it has not.
+-- The calls of the encoder of texts that succeed, and those that fail.
 use Rattle.std.proofs.Common.{◌≡◌, ◌∙◌, ℕ, Bool, false, true, List, [], Result, Ok, Err, sym}
 use Rattle.std.proofs.lemmas.Bool.{false≢true}
 use Rattle.std.specs.Prelude.{⊤}

@@ -1,4 +1,4 @@
--- What the relations of an encoder say of a text: how the scopes are nested that are open, and nothing of what is written.
+-- The relations of an encoder of texts: how the open scopes are nested, and nothing of what is written.
 use Rattle.std.specs.Prelude.{◌≡◌, ◌+◌, ℕ, suc, false, length, List, ◌≢◌, ⊤, Result, Ok, Err}
 use Rattle.asn1_buffers.specs.Encoder.{scopes_in}
 use Rattle.asn1_laws.specs.Writing.{IsLawful, IsRejection, ScopeIsNotOpen, SameWritten, Writer, Written, in_group, in_scope, outermost, same_group, same_outermost, same_scope}

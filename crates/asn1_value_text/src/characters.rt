@@ -39,7 +39,7 @@ fn numbers_of_utf8(alloc: Global, octets: &[u8]) -> Result<Option<Vec<u32>>, All
     Ok(Some(numbers))
 }
 
-/// The character of this number, if it can stand in a line that is shown: no control, and none that changes the direction of others
+/// The character of this number, if a line can show it: no control, and none that changes the direction of others
 /// or ends a line or a paragraph.
 pub(crate) fn shown_character(number: u32) -> Option<char> {
     char::from_u32(number).filter(|character| is_shown(*character))
@@ -56,7 +56,7 @@ fn turns_or_ends_line(character: char) -> bool {
     )
 }
 
-/// The text that octets are, if all of its characters can stand in a line that is shown.
+/// The text that octets are, if a line can show all of its characters.
 pub(crate) fn shown_text(octets: &[u8]) -> Option<&str> {
     let text = str::from_utf8(octets).ok()?;
     if text.chars().all(is_shown) {

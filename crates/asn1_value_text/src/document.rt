@@ -1,4 +1,4 @@
-//! What a text of JSON has to be.
+//! The test of a text of JSON.
 ghost use Rattle.asn1_laws.specs.declared.encode_error.EncodeError.TheVariants.{Depth, Failed};
 ghost use Rattle.json.specs.Json.{document};
 ghost use Rattle.json.specs.Strict.{HasUniqueKeys};

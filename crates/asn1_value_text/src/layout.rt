@@ -18,7 +18,7 @@ pub(crate) enum Opening {
     Elements,
     /// The chosen alternative of a CHOICE, by its name.
     Alternative(Option<&'static str>),
-    /// What follows an explicit tag.
+    /// The value after an explicit tag.
     Tagged,
 }
 
@@ -75,7 +75,7 @@ impl<F: TextForm> Layout<F> {
         self.form.scalar(scalar)
     }
 
-    /// Begins a component by its name, or an element. What is alone at its place has nothing before it.
+    /// Begins a component by its name, or an element. A value that is alone at its place has nothing before it.
     fn begin_value(&mut self) -> Result<(), WriteError>
         ensures as_many_open { length self.new.scopes.items ≡ length self.old.scopes.items }
         ensures refused { MayFail F.MayRefuse result }

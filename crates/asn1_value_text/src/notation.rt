@@ -8,7 +8,7 @@ use asn1_buffers::WriteError;
 use std::alloc::{AllocError, Global};
 use std::fmt::Write;
 
-/// What stands before the place at which a text goes on.
+/// The text before the place at which it goes on.
 #[derive(Clone, Copy)]
 enum Before {
     /// Nothing, or a name that its value follows on the same line.

@@ -1,6 +1,6 @@
 //! The scopes and groups that are open.
 
-/// What is written inside a scope or a group.
+/// The kind of a scope or a group.
 #[derive(Clone, Copy, PartialEq, Eq)]
 pub(crate) enum ScopeKind {
     /// The components of a SEQUENCE or a SET.
@@ -9,7 +9,7 @@ pub(crate) enum ScopeKind {
     Elements,
     /// The chosen alternative of a CHOICE.
     Alternative,
-    /// What follows an explicit tag.
+    /// The value after an explicit tag.
     Tagged,
     /// The components of a group of additions, which are written as those around it.
     Group,
@@ -18,9 +18,9 @@ pub(crate) enum ScopeKind {
 /// A scope or a group that is open.
 #[derive(Clone, Copy)]
 pub(crate) struct Scope {
-    /// What is written inside.
+    /// Its kind.
     pub(crate) kind: ScopeKind,
-    /// Where its names begin among those of all scopes.
+    /// The place of its first name among those of all scopes.
     pub(crate) names: usize,
     /// The place of the name of its next component among those of all scopes.
     pub(crate) next: usize,

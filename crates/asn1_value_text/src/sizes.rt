@@ -1,4 +1,4 @@
-//! What constraints say to a text.
+//! The sizes that constraints leave.
 
 use asn1_bounds::Constraints;
 

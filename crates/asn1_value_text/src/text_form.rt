@@ -24,7 +24,7 @@ pub(crate) enum Scalar<'a> {
     Open(&'a [u8]),
 }
 
-/// What is written in brackets.
+/// The parts between brackets.
 #[derive(Clone, Copy, PartialEq, Eq)]
 pub(crate) enum Brackets {
     /// Components with their names.

@@ -1,4 +1,4 @@
-//! What a line asks for.
+//! The request of a line.
 use std::alloc::{AllocError, Global};
 
 /// The DER of a value of a type.

@@ -6,7 +6,7 @@ use asn1_types::{AnyStr, OctetKind};
 use std::alloc::{AllocError, Global};
 use std::fmt::Write;
 
-/// Which characters of a string stand between quotation marks, and how others are written.
+/// The characters of a string that are written between quotation marks, and the form of others.
 #[derive(Clone, Copy)]
 enum Repertoire {
     /// Those of Unicode that can be shown; others by group, plane, row and cell (X.680, 41.8).
@@ -27,7 +27,7 @@ impl Repertoire {
         }
     }
 
-    /// The character of this number, if it stands between quotation marks.
+    /// The character of this number, if it is written between quotation marks.
     fn character(self, number: u32) -> Option<char> {
         match self {
             Repertoire::Unicode => shown_character(number),
@@ -39,7 +39,7 @@ impl Repertoire {
 }
 
 /// Appends a string: a bstring, an hstring, with the text that the octets are in a comment, or a cstring. A string of characters of
-/// which some cannot stand between quotation marks is a list in braces.
+/// which some are not written between quotation marks is a list in braces.
 pub(crate) fn push_string(
     alloc: Global,
     text: &mut String,
@@ -81,7 +81,7 @@ fn push_explained_octets(text: &mut String, octets: &[u8]) -> Result<(), AllocEr
     }
 }
 
-/// Appends characters, as a cstring if all of them can stand in it (X.680, 12.14), else as a list of cstrings and coordinates.
+/// Appends characters, as a cstring if it can have all of them (X.680, 12.14), else as a list of cstrings and coordinates.
 fn push_characters(
     text: &mut String,
     repertoire: Repertoire,
@@ -109,7 +109,7 @@ fn are_quoted_together(repertoire: Repertoire, first: u32, second: u32) -> bool 
     repertoire.character(first).is_some() && repertoire.character(second).is_some()
 }
 
-/// Appends characters that can all stand between quotation marks, or one that cannot.
+/// Appends characters that are all written between quotation marks, or one that is not.
 fn push_run(text: &mut String, repertoire: Repertoire, run: &[u32]) -> Result<(), AllocError> {
     match run {
         [number] if repertoire.character(*number).is_none() => {
@@ -133,7 +133,7 @@ fn push_cstring(
     text.push('"')
 }
 
-/// Appends a character of a cstring, in which a quotation mark stands twice.
+/// Appends a character of a cstring, in which a quotation mark is doubled.
 fn push_quoted(text: &mut String, character: char) -> Result<(), AllocError> {
     if character == '"' {
         text.push('"')?;
