@@ -29,25 +29,46 @@ pub(crate) fn cause_text(
             ..
         } => { String::from_str(alloc, "no alternative has its tag") }
         DecodeError::MissingField(name) => format!(in alloc; "component {name} is missing"),
-        DecodeError::FieldError { .. } | DecodeError::Custom(_) => {
-            String::from_str(alloc, "no value of its type")
-        }
+        DecodeError::FieldError { .. } | DecodeError::Custom(_) => type_text(alloc, limits),
         _ => format!(in alloc; "{error}"),
     }
+}
+
+/// The words for a value that is none of its type, with the limits that this has.
+fn type_text(alloc: Global, limits: Option<Limits>) -> Result<String, AllocError> {
+    let mut text = String::from_str(alloc, "no value of its type")?;
+    if let Some(limits) = known(limits) {
+        text.push_str(", ")?;
+        push_limits(&mut text, limits)?;
+    }
+    Ok(text)
 }
 
 /// The words for a number, or a number of units, outside limits.
 fn range_text(alloc: Global, limits: Option<Limits>) -> Result<String, AllocError> {
     let mut text = String::from_str(alloc, "outside ")?;
-    match limits {
-        Some(limits) if limits.least.is_some() || limits.greatest.is_some() => {
-            push_end(&mut text, limits.least, "MIN")?;
-            text.push_str("..")?;
-            push_end(&mut text, limits.greatest, "MAX")?;
-        }
-        _ => text.push_str("its limits")?,
+    match known(limits) {
+        Some(limits) => push_limits(&mut text, limits)?,
+        None => text.push_str("its limits")?,
     }
     Ok(text)
+}
+
+/// Limits, if one of them is known.
+fn known(limits: Option<Limits>) -> Option<Limits> {
+    let limits = limits?;
+    if limits.least.is_some() || limits.greatest.is_some() {
+        Some(limits)
+    } else {
+        None
+    }
+}
+
+/// Appends limits, as X.680 writes a range.
+fn push_limits(text: &mut String, limits: Limits) -> Result<(), AllocError> {
+    push_end(text, limits.least, "MIN")?;
+    text.push_str("..")?;
+    push_end(text, limits.greatest, "MAX")
 }
 
 /// Appends an end of limits, or a word where there is none.
