@@ -1,0 +1,94 @@
+#!/usr/bin/env python3
+"""Prints the program that converts values of asn1_ldap, and compares the JSON that it writes with Erlang's.
+
+    bench/convert.py
+
+In a clone in a temporary folder `asn1_compile --program` prints the crate of examples/modules/ldap.asn1, which has to be the one that is
+here, and its program, both by `rt try`. The program reads the messages of all conversations of examples/ldap, one after another, and
+writes them as JSON. Erlang's compiler makes JSON of each message too, and the two have to have the same members, as in bench/texts.py.
+Then the program writes the messages as DER, and of that BER to the packed codec and back, which have to be the same octets.
+
+It needs erlc, escript and the library jiffy of Erlang. The status is 0 if all is as it has to be.
+"""
+import pathlib
+import subprocess
+import sys
+import tempfile
+
+import encoders
+import texts
+
+ROOT = pathlib.Path(__file__).resolve().parent.parent
+CONVERSATIONS = sorted((ROOT / "examples" / "ldap").glob("*.ber"))
+EXTERNS = [f"--extern={name}=asn1_recursive::{name}"
+           for name in ("Filter", "AttributeValueAssertion", "SubstringFilter", "MatchingRuleAssertion")]
+
+SCRIPT = """#!/usr/bin/env escript
+%%! -noshell -pa {folder} -pa {jiffy}
+main([Path]) ->
+    {{ok, Octets}} = file:read_file(Path),
+    messages(Octets).
+messages(<<>>) -> ok;
+messages(Octets) ->
+    {{ok, V, Rest}} = '{module}':decode('LDAPMessage', Octets),
+    {{ok, J}} = '{module}':jer_encode('LDAPMessage', V),
+    io:format("~s~n", [J]),
+    messages(Rest).
+"""
+
+
+def tried(folder, words, octets=b""):
+    """What a program writes, by `rt try` in its folder."""
+    ran = subprocess.run(["rt", "try", "--seconds", "100", "--", *words], cwd=folder, input=octets, capture_output=True)
+    output = ran.stdout
+    return output[:output.rindex(b"checked: ended")] if b"checked: ended" in output else output
+
+
+def printed(clone):
+    """The folder of the program, which is printed beside the crate that is here already."""
+    words = ["asn1_ldap", *EXTERNS, "--program", "--out", clone / "crates" / "asn1_ldap", ROOT / "examples" / "modules" / "ldap.asn1"]
+    tried(clone / "crates" / "asn1_compile", [str(word) for word in words])
+    changed = subprocess.run(["git", "status", "--short"], cwd=clone, capture_output=True, text=True).stdout.split("\n")
+    wrong = [line for line in changed if line and line not in (" M crates.txt", "?? crates/asn1_ldap_convert/")]
+    if wrong:
+        raise SystemExit("asn1_ldap is not as it is printed:\n" + "\n".join(wrong))
+    return clone / "crates" / "asn1_ldap_convert"
+
+
+def by_erlang(folder, octets):
+    """The JSON of each message, by Erlang."""
+    folder.mkdir()
+    (folder / "jsx.erl").write_text(texts.JSX)
+    (folder / f"{encoders.LDAP}.asn1").write_text(encoders.MODULES[encoders.LDAP].read_text())
+    texts.run("erlc", "jsx.erl", folder=folder)
+    texts.run("erlc", "+undec_rest", "+ber", "+jer", f"{encoders.LDAP}.asn1", folder=folder)
+    jiffy = next(pathlib.Path("/usr/lib/erlang/lib").glob("jiffy-*/ebin"))
+    (folder / "given").write_bytes(octets)
+    (folder / "rows.escript").write_text(SCRIPT.format(folder=folder, jiffy=jiffy, module=encoders.LDAP))
+    return texts.run("escript", "rows.escript", "given", folder=folder).splitlines()
+
+
+def main():
+    if sys.argv[1:]:
+        print(__doc__, file=sys.stderr)
+        return 2
+    octets = b"".join(path.read_bytes() for path in CONVERSATIONS)
+    with tempfile.TemporaryDirectory() as folder:
+        clone = pathlib.Path(folder) / "clone"
+        subprocess.run(["git", "clone", "-q", ROOT, clone], check=True)
+        program = printed(clone)
+        ours = tried(program, ["LDAPMessage", "ber", "json"], octets).decode().splitlines()
+        der = tried(program, ["LDAPMessage", "ber", "der"], octets)
+        packed = tried(program, ["LDAPMessage", "ber", "packed"], octets)
+        again = tried(program, ["LDAPMessage", "packed", "der"], packed)
+        theirs = by_erlang(pathlib.Path(folder) / "erlang", octets)
+    faults = [(one, other) for one, other in zip(ours, theirs, strict=False) if not texts.same_members(texts.parsed(one), texts.parsed(other))]
+    for one, other in faults:
+        print(f"ours: {one}\ntheirs: {other}")
+    same = len(ours) == len(theirs) and der == again and len(der) > 0
+    print(f"messages: {len(ours)} and {len(theirs)}, faults: {len(faults)}; the DER is {'the same' if same else 'another'} behind the packed codec")
+    return bool(faults) or not same
+
+
+if __name__ == "__main__":
+    sys.exit(main())
