@@ -5,6 +5,7 @@ use Rattle.asn1_bench.specs.Fronts as packed
 use Rattle.asn1_items.proofs.Items.{header_read}
 use Rattle.asn1_items.specs.Headers.{Header, header_at}
 use Rattle.asn1_der_items.proofs.TrailingBytes.{element_at-shorter}
+use Rattle.asn1_laws.specs.Refusals.{Refusals}
 use Rattle.asn1_model.specs.Meaning.{Meaning}
 use Rattle.asn1_convert.specs.Conversions.{HasConverted, HasNotConverted, IsCause, IsValueCause}
 use Rattle.asn1_convert.specs.Forms.{IsFront}
@@ -31,15 +32,15 @@ front_has_octets Ber octets zero cut = absurd (ber.no_empty_cut octets cut)
 front_has_octets Ber octets (suc n) cut = omega arith
 front_has_octets Packed octets n cut = packed_has_octets octets n cut
 
-module _ {V : Type 0} (m : Meaning V) (eq : V → V → Bool) (depth : ℕ) (from : CodecForm) (to : OutputForm) where
+module _ {V : Type 0} (m : Meaning V) (eq : V → V → Bool) (refusals : Refusals) (depth : ℕ) (from : CodecForm) (to : OutputForm) where
   -- less is left of an input
-  pub less_left : {input old left new : List ℕ} → HasConverted m eq depth from to input old left new → length left < length input
+  pub less_left : {input old left new : List ℕ} → HasConverted m eq refusals depth from to input old left new → length left < length input
   less_left {input = input} {left = left} has =
       omega (arith, front_has_octets from input (length has.octets) has.front, length-append has.octets left, subst (λ l. length input ≡ length l) has.parts refl)
 
   -- why the front was not converted
   pub not_converted : (input : List ℕ) (octets left : List ℕ) (cause : Cause) → input ≡ octets ++ left → IsFront from input (length octets) →
-      IsValueCause m eq depth from to octets cause → IsCause m eq depth from to input cause
+      IsValueCause m eq refusals depth from to octets cause → IsCause m eq refusals depth from to input cause
   not_converted input octets left (NoFront e) parts front value = absurd value
   not_converted input octets left (NotRecoded e) parts front value = record { octets = octets; left = left; parts = parts; front = front; value = value }
   not_converted input octets left Memory parts front value = record { octets = octets; left = left; parts = parts; front = front; value = value }

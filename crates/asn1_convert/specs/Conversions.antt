@@ -1,11 +1,18 @@
 -- The conversions of the values of an input.
-use Rattle.std.specs.Prelude.{◌≡◌, ◌+◌, ℕ, suc, ⊤, Bool, List, [], ◌++◌, length, IfErr, Result, Ok, Err, Vec}
+use Rattle.std.specs.Prelude.{◌≡◌, ◌+◌, ℕ, suc, ⊤, Bool, List, [], ◌∷◌, ◌++◌, length, IfErr, IfSome, IsSomeAnd, MatchResult, Result, Ok, Err, Vec}
 use Rattle.std.specs.declared.alloc.Global.{Global}
 use Rattle.asn1_items.specs.declared.error.ItemError.{ItemError}
 use Rattle.asn1_items.specs.declared.error.ItemError.TheVariants as item_error
-use Rattle.asn1_model.specs.Meaning.{Meaning}
+use Rattle.asn1_laws.specs.Refusals.{Refusals}
+use Rattle.asn1_model.specs.Meaning.{Meaning, own_records}
+use Rattle.asn1_rules.specs.CanonicalReading.{MayAnswer}
 use Rattle.asn1_rules.specs.Recoding.{Recodes, WritingFailsAsItMay}
+use Rattle.asn1_rules.specs.Rules.{IsNotWritten}
 use Rattle.asn1_rules.specs.declared.recoding.RecodeError.{RecodeError}
+use Rattle.asn1_rules.specs.declared.recoding.RecodeError.TheVariants.{Read, Write}
+use Rattle.asn1_value_text.specs.Texts.{text_format}
+use Rattle.json.specs.Json.{document}
+use Rattle.json.specs.Strict.{HasUniqueKeys}
 use Rattle.asn1_convert.specs.Forms.{IsFront, format_of}
 use Rattle.asn1_convert.specs.declared.form.CodecForm.{CodecForm}
 use Rattle.asn1_convert.specs.declared.form.OutputForm.{OutputForm}
@@ -14,14 +21,26 @@ use Rattle.asn1_convert.specs.declared.stream.Cause.{Cause}
 use Rattle.asn1_convert.specs.declared.stream.Cause.TheVariants.{NoFront, NotRecoded, Memory}
 use Rattle.asn1_convert.specs.declared.stream.Stop.{Stop}
 
-module _ {V : Type 0} (m : Meaning V) (eq : V → V → Bool) (depth : ℕ) where
-  -- A call that writes in one form the value that octets are in another. A text may be any.
+module _ {V : Type 0} (m : Meaning V) (eq : V → V → Bool) (refusals : Refusals) (depth : ℕ) where
+  -- Why no text was made of octets: reading them may answer this error; or a value, of which a text is refused so.
+  abbrev pub IsNoText : Type 0 → CodecForm → List ℕ → RecodeError → Type 0
+  IsNoText MayRefuse from octets (Read e) = (input : Vec ℕ Global) → input.items ≡ octets → MayAnswer (format_of from) m eq refusals depth input (Err e)
+  IsNoText MayRefuse from octets (Write e) = (v : V) × IsNotWritten (text_format {O = Vec ℕ Global} MayRefuse) (own_records m v) depth e ×
+      ((input : Vec ℕ Global) → input.items ≡ octets → MayAnswer (format_of from) m eq refusals depth input (Ok v))
+
+  -- The line of a text of JSON, which is one document.
+  pub record IsLineOfDocument (line : List ℕ) : Type 0 where
+    pub text : List ℕ
+    pub ended : line ≡ text ++ 10 ∷ []
+    pub one_document : IsSomeAnd (document text) HasUniqueKeys
+
+  -- A call that writes in one form the value that octets are in another. A text in X.680's notation may be any.
   abbrev pub Converts : CodecForm → List ℕ → OutputForm → Result (Vec ℕ Global) RecodeError → Type 0
   Converts from octets (Codec to) result =
       ((input : Vec ℕ Global) → input.items ≡ octets → Recodes (format_of to) m (format_of from) input eq depth result) ×
       IfErr result (WritingFailsAsItMay (format_of to) m depth)
-  Converts from octets Notation result = ⊤
-  Converts from octets Json result = ⊤
+  Converts from octets Notation result = IfErr result (IsNoText ⊥ from octets)
+  Converts from octets Json result = MatchResult result (λ line. IsLineOfDocument line.items) (IsNoText ⊤ from octets)
 
   -- The conversion of the value whose octets these are was appended.
   pub record HasAppended (from : CodecForm) (to : OutputForm) (octets old new : List ℕ) : Type 0 where
@@ -67,4 +86,5 @@ module _ {V : Type 0} (m : Meaning V) (eq : V → V → Bool) (depth : ℕ) wher
     pub left : List ℕ
     pub converted : HaveConverted from to input left written stop.before
     pub start : stop.start + length left ≡ length input
+    pub long : IfSome stop.length (IsFront from left)
     pub cause : IsCause from to left stop.cause

@@ -5,32 +5,51 @@ use asn1_paths::Limits;
 use std::alloc::{AllocError, Global};
 use std::fmt::Write;
 
-/// The number of [`DecodeError::NoValidChoice`].
-const NO_VALID_CHOICE: u8 = 5;
-
-/// The number of [`DecodeError::OutOfRange`].
-const OUT_OF_RANGE: u8 = 13;
-
 /// The cause of an error of reading, in words. The limits are those of the value that was read.
 pub(crate) fn cause_text(
     alloc: Global,
     error: DecodeError,
     limits: Option<Limits>,
 ) -> Result<String, AllocError> {
+    match cause_of(error) {
+        Cause::OutOfRange => range_text(alloc, limits),
+        Cause::NoAlternative => String::from_str(alloc, "no alternative has its tag"),
+        Cause::Missing(name) => format!(in alloc; "component {name} is missing"),
+        Cause::NoValue => type_text(alloc, limits),
+        Cause::Other(error) => format!(in alloc; "{error}"),
+    }
+}
+
+/// Why a value was not read, by what a person is told.
+#[derive(Clone, Copy)]
+enum Cause {
+    OutOfRange,
+    NoAlternative,
+    Missing(&'static str),
+    NoValue,
+    Other(DecodeError),
+}
+
+/// The cause of an error, or of that inside the component that it names.
+fn cause_of(error: DecodeError) -> Cause {
     match error {
-        DecodeError::OutOfRange
-        | DecodeError::FieldError {
-            cause: OUT_OF_RANGE,
-            ..
-        } => { range_text(alloc, limits) }
-        DecodeError::NoValidChoice(_)
-        | DecodeError::FieldError {
-            cause: NO_VALID_CHOICE,
-            ..
-        } => { String::from_str(alloc, "no alternative has its tag") }
-        DecodeError::MissingField(name) => format!(in alloc; "component {name} is missing"),
-        DecodeError::FieldError { .. } | DecodeError::Custom(_) => type_text(alloc, limits),
-        _ => format!(in alloc; "{error}"),
+        DecodeError::OutOfRange => Cause::OutOfRange,
+        DecodeError::NoValidChoice(_) => Cause::NoAlternative,
+        DecodeError::MissingField(name) => Cause::Missing(name),
+        DecodeError::Custom(_) => Cause::NoValue,
+        DecodeError::FieldError { cause, .. } => cause_of_number(cause),
+        _ => Cause::Other(error),
+    }
+}
+
+/// The cause of the error of this number.
+fn cause_of_number(number: u8) -> Cause {
+    if number == DecodeError::OutOfRange.number() {
+        Cause::OutOfRange
+    } else if number == DecodeError::NoValidChoice("").number() {
+        Cause::NoAlternative
+    } else {
+        Cause::NoValue
     }
 }
 

@@ -1,16 +1,21 @@
 //! Whether octets are the DER of a type.
+ghost use Rattle.asn1_certificate_rules.specs.Departures.{KeepsRules};
+ghost use Rattle.asn1_certificate_rules.specs.declared.notation.Part.TheVariants as part;
+ghost use Rattle.asn1_certificate_rules.specs.declared.rule.RuleSet.TheVariants as rules;
 ghost use Rattle.asn1_convert.specs.Checks.{IsCheckError};
 ghost use Rattle.asn1_der.specs.Format.{der_format};
 ghost use Rattle.asn1_rules.specs.CanonicalReading.{IsWrittenAs};
-ghost use Rattle.std.specs.Prelude.{IfErr, IfOk};
+ghost use Rattle.std.specs.Prelude.{IfErr, IfOk, OnOk};
 
+use crate::differences::differing_element;
 use crate::form::CodecForm;
 use crate::places::push_read_error;
 use asn1_certificate_rules::{Finding, Part, RuleSet, find_broken_rule};
 use asn1_dec::Decode;
 use asn1_der::DerRules;
+use asn1_der_items::find_element;
 use asn1_enc::Encode;
-use asn1_rules::{CanonicalError, read_canonical};
+use asn1_rules::{CanonicalError, read_canonical, recode};
 use std::alloc::{AllocError, Global};
 use std::fmt::Write;
 
@@ -36,6 +41,7 @@ pub fn check_der<T: Encode + Decode>(
 ) -> Result<T, CheckError>
     ensures canonical { IfOk result (λ w.
         IsWrittenAs der_format T.meaning depth w octets.now.items) }
+    ensures keeps { OnOk result (KeepsRules rules.OfReading part.Other octets.now.items) }
     ensures departs { IfErr result
         (IsCheckError T.meaning T.eq T.refusals depth octets.now) }
 {
@@ -49,9 +55,9 @@ pub fn check_der<T: Encode + Decode>(
 }
 
 /// The line for octets that are not the DER of a type: where, and why.
-pub(crate) fn check_line<T: Decode>(
+pub(crate) fn check_line<T: Encode + Decode>(
     alloc: Global,
-    octets: &[u8],
+    octets: &Vec<u8>,
     error: CheckError,
     depth: usize,
 ) -> Result<String, AllocError> {
@@ -66,19 +72,53 @@ pub(crate) fn check_line<T: Decode>(
                 "elements lie more than {depth} deep, at octet {position}"
             )?;
         }
-        CheckError::NotCanonical(CanonicalError::Read(error)) => {
-            push_read_error::<T>(&mut text, alloc, CodecForm::Der, octets, 0, error, depth)?;
-        }
+        CheckError::NotCanonical(CanonicalError::Read(error)) => match octets_behind(octets) {
+            Some(position) => write!(&mut text, "octets follow the value, at octet {position}")?,
+            None => push_read_error::<T>(
+                &mut text,
+                alloc,
+                CodecForm::Der,
+                octets,
+                0,
+                error,
+                depth,
+            )?,
+        },
         CheckError::NotCanonical(CanonicalError::Write(error)) => {
             write!(&mut text, "not written: {error}")?;
         }
         CheckError::NotCanonical(CanonicalError::NotCanonical { at }) => {
+            let position = differing_position::<T>(alloc, octets, at, depth);
             write!(
                 &mut text,
-                "the DER of the value has another octet, at octet {at}"
+                "writing the value makes other octets, at octet {position}"
             )?;
         }
     }
     text.push('\n')?;
     Ok(text)
+}
+
+/// The position of octets behind the first element, if there are some.
+fn octets_behind(octets: &[u8]) -> Option<usize> {
+    let element = find_element(octets).ok()?;
+    if element.rest.is_empty() {
+        None
+    } else {
+        Some(octets.len().saturating_sub(element.rest.len()))
+    }
+}
+
+/// The position of the innermost element that writing the value makes otherwise; if that cannot be made again, of the first octet.
+fn differing_position<T: Encode + Decode>(
+    alloc: Global,
+    octets: &Vec<u8>,
+    at: usize,
+    depth: usize,
+) -> usize {
+    let der = DerRules::new(alloc);
+    match recode::<T, _, _>(&der, octets, &der, depth) {
+        Ok(written) => differing_element(octets, written.as_slice()),
+        Err(_) => at,
+    }
 }

@@ -17,17 +17,18 @@
 //!   `specs/Forms.antt`). The output is the conversion of each value before the one that was not converted, once and in order, and
 //!   a stop names how many these are, the position of its first octet and its cause (`IsStop` of `specs/Conversions.antt`).
 //! - From codec to codec a value is converted as `recode` does, whose contract holds of each of the nine pairs ([`recode_between`]):
-//!   if the octets carry a valid value of a well-tagged type, the output carries one that is equal.
+//!   if the octets carry a valid value of a well-tagged type, the output carries one that is equal. JSON is a line with one document.
+//! - A value that [`check_der`] answers is written as the very octets (`canonical`), which break no rule that reading asks for
+//!   (`keeps`). An error is a true reason (`departs`).
 //!
-//! - A value that [`check_der`] answers is written as the very octets (`canonical`). An error is a true reason (`departs`).
-//!
-//! No contract covers the texts (`asn1_value_text`), nor the words of a line on standard error, nor the place that it names
-//! (`asn1_paths`); stored runs show them.
+//! No contract covers texts in X.680's notation (`asn1_value_text`), nor the words of a line on standard error, nor the place that it
+//! names (`asn1_paths`); the stored run of test_converters shows them. A program keeps its whole input in memory.
 #![tactic(auto)]
 
 mod arguments;
 mod causes;
 mod check;
+mod differences;
 mod failing_place;
 mod form;
 mod fronts;

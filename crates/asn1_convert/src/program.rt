@@ -39,6 +39,10 @@ pub fn run<L: TypeList>(rt: &HostRuntime, program: &'static str) -> ExitCode {
             "give a type and two forms, or --check and a type; --help has them",
         );
     };
+    let name = matches.get_str("TYPE").unwrap_or("");
+    if !L::names().split(' ').any(|known| known == name) {
+        return fail(rt, "no type has this name; --help lists them");
+    }
     let input = match input_of(rt, matches.get_flag("hex")) {
         Ok(input) => input,
         Err(message) => return fail(rt, message),
@@ -49,9 +53,8 @@ pub fn run<L: TypeList>(rt: &HostRuntime, program: &'static str) -> ExitCode {
         action,
         depth: DEPTH,
     };
-    let name = matches.get_str("TYPE").unwrap_or("");
     match L::answer(name, task) {
-        None => fail(rt, "no type has this name; --help lists them"),
+        None => fail(rt, "the program has no type of this name"),
         Some(Err(_)) => fail(rt, "no memory"),
         Some(Ok(answer)) => give(rt, &answer),
     }

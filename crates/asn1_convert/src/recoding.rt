@@ -1,8 +1,11 @@
 //! The octets of a value by one codec, of those by another.
 ghost use Rattle.asn1_convert.specs.Conversions.{Converts};
 ghost use Rattle.asn1_convert.specs.Forms.{format_of};
+ghost use Rattle.asn1_rules.specs.CanonicalReading.{MayAnswer};
 ghost use Rattle.asn1_rules.specs.Recoding.{Recodes, WritingFailsAsItMay};
-ghost use Rattle.std.specs.Prelude.{IfErr};
+ghost use Rattle.asn1_laws.specs.declared.encode_error.EncodeError.TheVariants.{Memory};
+ghost use Rattle.std.specs.Prelude.{◌≡◌, ◌++◌, ◌∷◌, [], IfErr, MatchResult};
+ghost use Rattle.std.specs.String.{string_bytes};
 
 use crate::form::{CodecForm, OutputForm};
 use asn1_bench::BenchRules;
@@ -47,12 +50,14 @@ pub fn recode_between<T: Encode + Decode>(
 }
 
 /// The value whose octets these are by a codec.
-pub fn read_by<T: Decode>(
+fn read_by<T: Decode>(
     alloc: Global,
     form: CodecForm,
     octets: &Vec<u8>,
     depth: usize,
-) -> Result<T, DecodeError> {
+) -> Result<T, DecodeError>
+    ensures { MayAnswer (format_of form) T.meaning T.eq T.refusals depth octets.now result }
+{
     match form {
         CodecForm::Der => DerRules::new(alloc).read_value(octets, depth),
         CodecForm::Ber => BerRules::new(alloc).read_value(octets, depth),
@@ -68,7 +73,7 @@ pub fn convert_value<T: Encode + Decode>(
     to: OutputForm,
     depth: usize,
 ) -> Result<Vec<u8>, RecodeError>
-    ensures { Converts T.meaning T.eq depth from octets.now.items to result }
+    ensures { Converts T.meaning T.eq T.refusals depth from octets.now.items to result }
 {
     match to {
         OutputForm::Codec(to) => recode_between::<T>(alloc, from, octets, to, depth),
@@ -86,7 +91,10 @@ pub fn convert_value<T: Encode + Decode>(
 }
 
 /// A text and the end of its line.
-fn line_of(mut text: String) -> Result<Vec<u8>, EncodeError> {
+fn line_of(mut text: String) -> Result<Vec<u8>, EncodeError>
+    ensures { MatchResult result (λ line. line.items ≡ string_bytes text.entry ++ 10 ∷ [])
+        (λ e. e ≡ Memory) }
+{
     text.push('\n')?;
     Ok(text.into_bytes())
 }

@@ -57,9 +57,9 @@ pub fn convert_values<T: Encode + Decode>(
     depth: usize,
 ) -> Conversion
     ensures { MatchOption result.stop
-        ((count : ℕ) × HaveConverted T.meaning T.eq depth from to input.now [] result.output.items
+        ((count : ℕ) × HaveConverted T.meaning T.eq T.refusals depth from to input.now [] result.output.items
         count)
-        (IsStop T.meaning T.eq depth from to input.now result.output.items) }
+        (IsStop T.meaning T.eq T.refusals depth from to input.now result.output.items) }
 {
     let mut rest = input;
     let mut before = 0;
@@ -105,10 +105,10 @@ fn convert_front<'a, T: Encode + Decode>(
     output: &mut Vec<u8>,
 ) -> Result<&'a [u8], Refused>
     ensures { MatchResult result
-        (λ left. HasConverted T.meaning T.eq depth from to input.now output.old.items left.now
+        (λ left. HasConverted T.meaning T.eq T.refusals depth from to input.now output.old.items left.now
         output.new.items)
         (λ refused. (output.new.items ≡ output.old.items) ×
-        IsCause T.meaning T.eq depth from to input.now refused.cause) }
+        IsCause T.meaning T.eq T.refusals depth from to input.now refused.cause) }
 {
     let length = match front_length(alloc, from, input) {
         Ok(length) => length,
@@ -139,10 +139,10 @@ fn append_value<T: Encode + Decode>(
     output: &mut Vec<u8>,
 ) -> Result<(), Cause>
     ensures { MatchResult result
-        (λ _. HasAppended T.meaning T.eq depth from to octets.now output.old.items
+        (λ _. HasAppended T.meaning T.eq T.refusals depth from to octets.now output.old.items
         output.new.items)
         (λ cause. (output.new.items ≡ output.old.items) ×
-        IsValueCause T.meaning T.eq depth from to octets.now cause) }
+        IsValueCause T.meaning T.eq T.refusals depth from to octets.now cause) }
 {
     let Ok(own) = owned(alloc, octets) else {
         return Err(Cause::Memory);

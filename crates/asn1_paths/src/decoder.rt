@@ -1,6 +1,6 @@
 //! A decoder that notes where in a value it is.
 
-use crate::names::{alternative_name, component_with_tag};
+use crate::names::{alternative_name, component_index};
 use crate::path::{Path, ScopeKind};
 use crate::place::{Limits, Place};
 use asn1_bounds::{Codec, Constraints};
@@ -150,7 +150,7 @@ impl<D: Decoder> Decoder for PathDecoder<D> {
     fn next_component<C: FieldTable>(&mut self) -> Result<Option<Tag>, DecodeError> {
         let next = self.inner.next_component::<C>();
         if let Ok(Some(tag)) = next {
-            self.path.begin_component(component_with_tag::<C>(tag));
+            self.path.begin_component(component_index::<C>(tag));
         }
         next
     }
@@ -194,10 +194,11 @@ impl<D: Decoder> Decoder for PathDecoder<D> {
         &mut self,
         constraints: &Constraints<'_>,
     ) -> Result<Tag, DecodeError> {
-        self.path.begin_part();
+        self.path.begin_choice();
         let chosen = self.inner.open_choice::<T>(constraints);
-        if let Ok(tag) = chosen {
-            self.path.open_alternative(alternative_name::<T>(tag));
+        match chosen {
+            Ok(tag) => self.path.open_alternative(alternative_name::<T>(tag)),
+            Err(_) => self.path.count_element(),
         }
         chosen
     }

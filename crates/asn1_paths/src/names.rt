@@ -17,20 +17,20 @@ pub fn push_component_names<C: FieldTable>(
 
 /// The name of the component of that index in the definition; an empty one if there is none.
 fn component_name<C: FieldTable>(alloc: Global, index: usize) -> Result<String, AllocError> {
-    if let Some(name) = name_at_place::<C>(index, index) {
+    if let Some(name) = name_in_row::<C>(index, index) {
         return String::from_str(alloc, name);
     }
-    for place in 0..C::field_count() {
-        if let Some(name) = name_at_place::<C>(place, index) {
+    for row in 0..C::field_count() {
+        if let Some(name) = name_in_row::<C>(row, index) {
             return String::from_str(alloc, name);
         }
     }
     Ok(String::new(alloc))
 }
 
-/// The name of the field at a place of a table, if that is the field of the component of that index.
-fn name_at_place<C: FieldTable>(place: usize, index: usize) -> Option<&'static str> {
-    let field = C::field_at(place)?;
+/// The name in a row of a table, if that is the row of the component of that index in the definition.
+fn name_in_row<C: FieldTable>(row: usize, index: usize) -> Option<&'static str> {
+    let field = C::field_at(row)?;
     if field.index == index {
         Some(field.name)
     } else {
@@ -39,9 +39,9 @@ fn name_at_place<C: FieldTable>(place: usize, index: usize) -> Option<&'static s
 }
 
 /// The index in the definition of the first component of a table that can begin with a tag.
-pub fn component_with_tag<C: FieldTable>(tag: Tag) -> Option<usize> {
-    for place in 0..C::field_count() {
-        let field = C::field_at(place)?;
+pub fn component_index<C: FieldTable>(tag: Tag) -> Option<usize> {
+    for row in 0..C::field_count() {
+        let field = C::field_at(row)?;
         if field.tag_tree.can_begin_with(&tag) {
             return Some(field.index);
         }
@@ -52,15 +52,15 @@ pub fn component_with_tag<C: FieldTable>(tag: Tag) -> Option<usize> {
 /// The name of the first alternative that can begin with a tag.
 pub fn alternative_name<T: Choice>(chosen: Tag) -> Option<&'static str> {
     let root = T::variants();
-    let index = match place_in(root, chosen) {
+    let index = match index_in(root, chosen) {
         Some(index) => index,
         None => root
             .len()
-            .checked_add(place_in(T::extended_variants()?, chosen)?)?,
+            .checked_add(index_in(T::extended_variants()?, chosen)?)?,
     };
     T::identifiers().get(index).copied()
 }
 
-fn place_in(trees: &[TagTree<'_>], chosen: Tag) -> Option<usize> {
+fn index_in(trees: &[TagTree<'_>], chosen: Tag) -> Option<usize> {
     trees.iter().position(|tree| tree.can_begin_with(&chosen))
 }

@@ -35,7 +35,7 @@ impl ScopeKind {
 #[derive(Clone, Copy)]
 struct Scope {
     kind: ScopeKind,
-    /// The place of its first name among those of all scopes.
+    /// The index of its first name among those of all scopes.
     names: usize,
     /// The index of the component or element that is next.
     next: usize,
@@ -88,7 +88,8 @@ impl Path {
         }
     }
 
-    fn count_element(&mut self) {
+    /// Counts an element that was begun.
+    pub(crate) fn count_element(&mut self) {
         for scope in self.scopes.iter_mut().rev() {
             if scope.kind.is_element() {
                 scope.elements = scope.elements.saturating_add(1);
@@ -110,11 +111,24 @@ impl Path {
         }
     }
 
-    /// Goes to a component of a SET.
+    /// Goes to a component of a SET by its index; without one, to an element that is none.
     pub(crate) fn begin_component(&mut self, index: Option<usize>) {
+        match index {
+            None => self.reach_end(),
+            Some(_) => self.set_current(index),
+        }
+    }
+
+    fn set_current(&mut self, index: Option<usize>) {
         if let Some(scope) = self.scopes.last_mut() {
             scope.current = index;
         }
+    }
+
+    /// Goes to a CHOICE, which is no element of its own.
+    pub(crate) fn begin_choice(&mut self) {
+        self.begin_part();
+        self.limits = Limits::NONE;
     }
 
     /// Goes into a scope that has no names.
@@ -129,11 +143,14 @@ impl Path {
         });
     }
 
-    /// Goes into the chosen alternative of that name.
+    /// Goes into the chosen alternative of that name; without one, to the element that is none.
     pub(crate) fn open_alternative(&mut self, name: Option<&'static str>) {
         self.open_scope(ScopeKind::Alternative);
-        if let Some(name) = name {
-            let _ = self.push_name(name);
+        match name {
+            Some(name) => {
+                let _ = self.push_name(name);
+            }
+            None => self.count_element(),
         }
     }
 
@@ -149,9 +166,10 @@ impl Path {
         let _ = push_component_names::<C>(self.alloc, &mut self.names);
     }
 
-    /// Goes behind what was read in the innermost scope.
+    /// Goes behind all components and elements that were read in the innermost scope.
     pub(crate) fn reach_end(&mut self) {
-        self.begin_component(None);
+        self.set_current(None);
+        self.limits = Limits::NONE;
         if self
             .scopes
             .last()
@@ -181,23 +199,23 @@ impl Path {
     /// brackets, from 0.
     fn text(&self) -> Result<String, AllocError> {
         let mut text = String::new(self.alloc);
-        for place in 0..self.scopes.len() {
-            self.push_step(&mut text, place)?;
+        for index in 0..self.scopes.len() {
+            self.push_step(&mut text, index)?;
         }
         Ok(text)
     }
 
-    /// Appends the step into the scope at that place. A group has none of its own, since its components are those of the scope
+    /// Appends the step into the scope of that index. A group has none of its own, since its components are those of the scope
     /// around it.
-    fn push_step(&self, text: &mut String, place: usize) -> Result<(), AllocError> {
-        let Some(scope) = self.scopes.get(place) else {
+    fn push_step(&self, text: &mut String, index: usize) -> Result<(), AllocError> {
+        let Some(scope) = self.scopes.get(index) else {
             return Ok(());
         };
         match scope.kind {
             ScopeKind::Elements => push_index(text, scope.current),
             ScopeKind::Alternative => self.push_name_at(text, scope, Some(0)),
             ScopeKind::Sequence | ScopeKind::Set | ScopeKind::Group => {
-                if self.holds_group(place) {
+                if self.holds_group(index) {
                     return Ok(());
                 }
                 self.push_name_at(text, scope, scope.current)
@@ -206,8 +224,8 @@ impl Path {
         }
     }
 
-    fn holds_group(&self, place: usize) -> bool {
-        match self.scopes.get(place.saturating_add(1)) {
+    fn holds_group(&self, index: usize) -> bool {
+        match self.scopes.get(index.saturating_add(1)) {
             Some(inner) => inner.kind == ScopeKind::Group,
             None => false,
         }

@@ -19,6 +19,7 @@ pub(crate) fn check_document(alloc: Global, text: &str) -> Result<(), EncodeErro
         Ok(_tape) => Ok(()),
         Err(Error::OutOfMemory) => Err(EncodeError::Memory),
         Err(Error::DuplicateKey) => Err(EncodeError::Custom("two components of one name")),
-        Err(_) => Err(EncodeError::Custom("nested too deep for JSON")),
+        Err(Error::TooLong) => Err(EncodeError::Custom("too long for JSON")),
+        Err(Error::Invalid) => Err(EncodeError::Custom("nested too deep for JSON")),
     }
 }

@@ -82,8 +82,8 @@ impl<F: TextForm> Layout<F> {
     {
         match self.innermost() {
             Some(ScopeKind::Components | ScopeKind::Group) => {
-                let place = self.take_place();
-                self.form.component(name_at(&self.names, place))
+                let index = self.take_index();
+                self.form.component(name_at(&self.names, index))
             }
             Some(ScopeKind::Elements) => self.form.element(),
             Some(ScopeKind::Alternative | ScopeKind::Tagged) | None => Ok(()),
@@ -94,23 +94,23 @@ impl<F: TextForm> Layout<F> {
         Some(self.scopes.last()?.kind)
     }
 
-    /// The place of the name of the next component of the innermost scope, which is passed over.
-    fn take_place(&mut self) -> usize
+    /// The index of the name of the next component of the innermost scope, which is passed over.
+    fn take_index(&mut self) -> usize
         ensures { length self.new.scopes.items ≡ length self.old.scopes.items }
     {
         let Some(scope) = self.scopes.last_mut() else {
             return 0;
         };
-        let place = scope.next;
-        scope.next = place.saturating_add(1);
-        place
+        let index = scope.next;
+        scope.next = index.saturating_add(1);
+        index
     }
 
     /// Passes over a component that is absent.
     pub(crate) fn pass_component(&mut self)
         ensures { length self.new.scopes.items ≡ length self.old.scopes.items }
     {
-        self.take_place();
+        self.take_index();
     }
 
     /// Opens a scope.
@@ -183,8 +183,8 @@ impl<F: TextForm> Layout<F> {
     }
 }
 
-/// The name at a place, if there is one.
-fn name_at(names: &[String], place: usize) -> Option<&str> {
-    let name = names.get(place)?;
+/// The name of that index, if there is one.
+fn name_at(names: &[String], index: usize) -> Option<&str> {
+    let name = names.get(index)?;
     Some(name.as_str())
 }

@@ -23,13 +23,14 @@
 //! | open type | `'0500'H`, its octets | `"0500"`, its octets, where X.697 has the value inside |
 //! | a type under a tag | its value | its value |
 //!
+//! The digits of an INTEGER beyond 128 bits take time in line with the square of its octets.
 //! The octets of a TeletexString, a GraphicString and a GeneralString are taken for the characters of these numbers. A value that has no
 //! JSON is refused: half of a surrogate pair in a BMPString, two components of one name in an object, and more than 128 nested brackets.
 //!
 //! The contracts promise:
 //!
-//! - A text is made unless memory runs out or the value is nested deeper than the depth, and JSON unless the value has none
-//!   (`text_format` of `specs/Texts.antt`).
+//! - A text in X.680's notation is made unless memory runs out or the value is nested deeper than the depth (`text_format` of
+//!   `specs/Texts.antt`). JSON may be refused besides; no clause says when.
 //! - A text of JSON is one document, no object of which has a name twice (`one_document` of [`json_text`]): each is read by the parser
 //!   of the kit before it is answered.
 //!

@@ -20,8 +20,8 @@ pub(crate) enum ScopeKind {
 pub(crate) struct Scope {
     /// Its kind.
     pub(crate) kind: ScopeKind,
-    /// The place of its first name among those of all scopes.
+    /// The index of its first name among those of all scopes.
     pub(crate) names: usize,
-    /// The place of the name of its next component among those of all scopes.
+    /// The index of the name of its next component among those of all scopes.
     pub(crate) next: usize,
 }
