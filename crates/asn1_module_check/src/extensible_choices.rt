@@ -137,18 +137,35 @@ fn problem_of(alloc: Global, place: Place) -> Result<Problem, AllocError> {
     })
 }
 
+// A type, as far as it tells whether it is an extensible CHOICE without a tag.
+#[derive(Clone, Copy)]
+enum Step {
+    // It is one or not.
+    Told(bool),
+    // It is the type of this index.
+    Reference(usize),
+}
+
 // Whether a type is an extensible CHOICE without a tag.
-fn is_extensible_choice<'s>(schema: &'s Schema<'_>, definition: &'s Type<'_>) -> bool {
-    let mut kind = &definition.kind;
+fn is_extensible_choice(schema: &Schema<'_>, definition: &Type<'_>) -> bool {
+    let mut step = step_of(&definition.kind);
     for _ in 0..=schema.types.len() {
-        match kind {
-            TypeKind::Choice(alternatives) => return alternatives.is_extensible,
-            TypeKind::Reference(index) => match schema.types.get(*index) {
-                Some(referenced) => kind = &referenced.definition.kind,
+        match step {
+            Step::Told(is_one) => return is_one,
+            Step::Reference(index) => match schema.types.get(index) {
+                Some(referenced) => step = step_of(&referenced.definition.kind),
                 None => return false,
             },
-            _ => return false,
         }
     }
     false
+}
+
+// The step that a type is.
+fn step_of(kind: &TypeKind<'_>) -> Step {
+    match kind {
+        TypeKind::Choice(alternatives) => Step::Told(alternatives.is_extensible),
+        TypeKind::Reference(index) => Step::Reference(*index),
+        _ => Step::Told(false),
+    }
 }
