@@ -8,14 +8,17 @@ pub(crate) fn differing_element(octets: &[u8], others: &[u8]) -> usize {
     let mut position: usize = 0;
     let mut left = octets;
     let mut right = others;
-    while let (Ok(own), Ok(other)) = (find_element(left), find_element(right)) {
-        let length = left.len() - own.rest.len();
+    for _ in 0..octets.len() {
+        let (Ok(own), Ok(other)) = (find_element(left), find_element(right)) else {
+            break;
+        };
+        let length = left.len().saturating_sub(own.rest.len());
         if is_same(own, other) {
             position = position.saturating_add(length);
             left = own.rest;
             right = other.rest;
         } else if hold_elements(own, other) {
-            position = position.saturating_add(length - own.contents.len());
+            position = position.saturating_add(length.saturating_sub(own.contents.len()));
             left = own.contents;
             right = other.contents;
         } else {

@@ -92,7 +92,7 @@ pub fn convert_value<T: Encode + Decode>(
 
 /// A text and the end of its line.
 fn line_of(mut text: String) -> Result<Vec<u8>, EncodeError>
-    ensures { MatchResult result (λ line. line.items ≡ string_bytes text.entry ++ 10 ∷ [])
+    ensures { MatchResult result (λ line. line.items ≡ string_bytes text ++ 10 ∷ [])
         (λ e. e ≡ Memory) }
 {
     text.push('\n')?;

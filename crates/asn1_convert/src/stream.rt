@@ -1,6 +1,7 @@
 //! Values one after another.
+ghost use Rattle.asn1_convert.specs.Forms.{IsFront};
 ghost use Rattle.asn1_convert.specs.Conversions.{HasAppended, HasConverted, HaveConverted, IsCause, IsStop, IsValueCause};
-ghost use Rattle.std.specs.Prelude.{◌≡◌, [], IfOk, MatchOption, MatchResult, ℕ};
+ghost use Rattle.std.specs.Prelude.{◌≡◌, [], IfOk, IfSome, MatchOption, MatchResult, ℕ};
 
 use crate::form::{CodecForm, OutputForm};
 use crate::fronts::front_length;
@@ -108,6 +109,7 @@ fn convert_front<'a, T: Encode + Decode>(
         (λ left. HasConverted T.meaning T.eq T.refusals depth from to input.now output.old.items left.now
         output.new.items)
         (λ refused. (output.new.items ≡ output.old.items) ×
+        IfSome refused.length (IsFront from input.now) ×
         IsCause T.meaning T.eq T.refusals depth from to input.now refused.cause) }
 {
     let length = match front_length(alloc, from, input) {
