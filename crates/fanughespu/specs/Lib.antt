@@ -1,0 +1,3 @@
+pub mod Normals
+pub mod Parts
+pub mod Texts
