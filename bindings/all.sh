@@ -55,6 +55,7 @@ build_c() {
     for name in example rows certificates; do
         gcc $c_warnings -O1 -g -Ic "c/$name.c" c/heap.c "$build/libfanughespu.a" -pthread -o "$build/$name.c.out" || return 1
     done
+    gcc $c_warnings -O1 -g -Ic c/no_memory.c "$build/libfanughespu.a" -o "$build/no_memory.c.out" || return 1
     echo '#include "fanughespu.h"' > "$build/header.cc"
     g++ -std=c++17 -Wall -Wextra -Werror -Ic -c "$build/header.cc" -o "$build/header.o"
 }
@@ -83,6 +84,7 @@ certificates=("$build"/certificates/*.der)
 
 step "C" build_c
 tests "rows in C" "$build/rows.c.out" rows.txt
+tests "no memory in C" "$build/no_memory.c.out"
 step "example" "$build/example.c.out" "${certificates[0]}"
 tests "certificates in C" "$build/certificates.c.out" 3 "${certificates[@]}"
 step "rows under valgrind" valgrind -q --error-exitcode=9 "$build/rows.c.out" rows.txt

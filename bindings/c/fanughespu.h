@@ -59,6 +59,38 @@ int32_t fan_integer_text(const uint8_t *octets, size_t octets_length, uint8_t *t
  * FAN_FAULT: the octets are no elements of BER. FAN_ROOM, FAN_MEMORY, FAN_DEEP. */
 int32_t fan_ber_normal(const uint8_t *octets, size_t octets_length, uint8_t *out, size_t out_length, size_t *size);
 
+enum {
+    FAN_LONG_IDENTIFIER = 1, /* X.690, 8.1.2 */
+    FAN_INDEFINITE_LENGTH = 2, /* 10.1 */
+    FAN_LONG_LENGTH = 3,       /* 10.1 */
+    FAN_PADDED_INTEGER = 4,    /* 8.3.2 */
+    FAN_PADDED_ARC = 5,        /* 8.19.2 */
+    FAN_OTHER_TRUE = 6,        /* 11.1 */
+    FAN_CONSTRUCTED_STRING = 7, /* 10.2 */
+    FAN_UNUSED_BIT = 8,        /* 11.2.1 */
+    FAN_TRAILING_ZERO = 9,     /* 11.2.2 */
+    FAN_DEFAULT = 10,          /* 11.5 */
+    FAN_SET_ORDER = 11,        /* 10.3 and 11.6 */
+    FAN_GENERALIZED_TIME = 12, /* 11.7 */
+    FAN_UTC_TIME = 13          /* 11.8 */
+};
+
+/* Do the octets of a certificate keep the rules of DER? FAN_FAULT: they break *rule at *position. FAN_DEEP: octets at *position lie
+ * too deep. Octets that are no certificate may keep them too. */
+int32_t fan_certificate_broken_rule(const uint8_t *octets, size_t octets_length, uint32_t *rule, size_t *position);
+
+enum {
+    FAN_SIGNED = 0,        /* tbsCertificate, the octets that are signed */
+    FAN_SERIAL_NUMBER = 1,
+    FAN_ISSUER = 2,
+    FAN_SUBJECT = 3,
+    FAN_KEY = 4,           /* subjectPublicKeyInfo */
+    FAN_SIGNATURE = 5      /* signatureValue */
+};
+
+/* An element of a certificate: it begins at *position and has *size octets. FAN_FAULT: the octets have no such element. */
+int32_t fan_certificate_part(const uint8_t *octets, size_t octets_length, uint32_t part, size_t *position, size_t *size);
+
 #ifdef __cplusplus
 }
 #endif

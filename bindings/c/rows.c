@@ -38,6 +38,12 @@ static int32_t answer_of(const char *call, const uint8_t *octets, size_t length,
         if (status == FAN_OK)
             write_hexadecimal(out, size, answer);
     }
+    if (strcmp(call, "certificate_broken_rule") == 0) {
+        uint32_t rule = 0;
+        status = fan_certificate_broken_rule(octets, length, &rule, &size);
+        if (status == FAN_FAULT)
+            sprintf(answer, "%u %zu", rule, size);
+    }
     return status;
 }
 

@@ -1,5 +1,6 @@
 """What ../rows.txt says, and certificates beside OpenSSL, by the functions of the module."""
 
+import re
 import subprocess
 import sys
 import threading
@@ -24,6 +25,9 @@ CALLS = {
 
 def answer_of(call, octets):
     try:
+        if call == "certificate_broken_rule":
+            broken = fan.certificate_broken_rule(octets)
+            return ("0", "") if broken is None else ("1", f"{broken.rule} {broken.position}")
         return "0", CALLS[call](octets)
     except fan.Fault as fault:
         return "1", str(fault.position) if call == "der_check" else ""
@@ -44,20 +48,36 @@ def try_rows(path):
 
 
 def serial_number(certificate):
-    """The serial number, by the elements of the certificate."""
-    first = fan.der_element(fan.der_element(fan.der_element(certificate).contents).contents)
-    serial = fan.der_element(first.rest) if first.tag_class == 2 else first
+    serial = fan.der_element(fan.certificate_part(certificate, fan.Part.SERIAL_NUMBER))
     return int(fan.integer_text(serial.contents), 0)
 
 
+def openssl(certificate, *words):
+    return subprocess.run(["openssl", *words, "-inform", "DER"], input=certificate, capture_output=True, check=True).stdout
+
+
 def serial_of_openssl(certificate):
-    told = subprocess.run(["openssl", "x509", "-noout", "-serial", "-inform", "DER"], input=certificate, capture_output=True, check=True)
-    return int(told.stdout.decode().strip().removeprefix("serial="), 16)
+    return int(openssl(certificate, "x509", "-noout", "-serial").decode().strip().removeprefix("serial="), 16)
+
+
+def parts_of_openssl(certificate):
+    """Positions and lengths of the elements at the depths of parts, by asn1parse: lines such as "4:d=1  hl=4 l= 645 cons: SEQUENCE"."""
+    inside = {1: [], 2: []}
+    for line in openssl(certificate, "asn1parse").decode().splitlines():
+        place, depth, header, size = re.match(r" *(\d+):d=(\d+) +hl=(\d+) +l= *(\d+)", line).groups()
+        if int(depth) in inside and len(inside[1]) < 2 + (int(depth) == 1):
+            inside[int(depth)].append(certificate[int(place) : int(place) + int(header) + int(size)])
+    first = int(inside[2][0][0] == 0xA0)
+    signed = inside[2][first:]
+    return [inside[1][0], signed[0], signed[2], signed[4], signed[5], inside[1][2]]
 
 
 def try_certificates(certificates):
     tell("certificates are DER", all(fan.der_check(c) is None for c in certificates))
-    tell("serial numbers are those of OpenSSL", all(serial_number(c) == serial_of_openssl(c) for c in certificates[:20]))
+    some = certificates[:20]
+    tell("parts are those of OpenSSL", all([fan.certificate_part(c, part) for part in fan.Part] == parts_of_openssl(c) for c in some))
+    tell("certificates break no rule", all(fan.certificate_broken_rule(c) is None for c in some))
+    tell("serial numbers are those of OpenSSL", all(serial_number(c) == serial_of_openssl(c) for c in some))
 
 
 def try_threads(certificates):

@@ -1,9 +1,10 @@
-"""DER and BER of which no type is known, by proved code.
+"""DER, BER and certificates by proved code.
 
 A call takes `bytes` and answers values of Python. ctypes lets other threads run during a call, and calls share nothing.
 """
 
 import ctypes
+from enum import IntEnum
 from pathlib import Path
 from typing import NamedTuple
 
@@ -33,6 +34,8 @@ _der_check = _call("fan_der_check", _octets, _size, _to_size)
 _der_element = _call("fan_der_element", _octets, _size, ctypes.POINTER(_RawElement))
 _integer_text = _call("fan_integer_text", _octets, _size, _octets, _size, _to_size)
 _ber_normal = _call("fan_ber_normal", _octets, _size, _octets, _size, _to_size)
+_broken_rule = _call("fan_certificate_broken_rule", _octets, _size, ctypes.POINTER(ctypes.c_uint32), _to_size)
+_part = _call("fan_certificate_part", _octets, _size, ctypes.c_uint32, _to_size, _to_size)
 _version = _call("fan_version")
 
 
@@ -47,6 +50,24 @@ class Fault(ValueError):
 
 class Deep(ValueError):
     """Octets lie inside more than 64 elements."""
+
+
+class Part(IntEnum):
+    """A part of a certificate (RFC 5280, 4.1)."""
+
+    SIGNED = 0
+    SERIAL_NUMBER = 1
+    ISSUER = 2
+    SUBJECT = 3
+    KEY = 4
+    SIGNATURE = 5
+
+
+class BrokenRule(NamedTuple):
+    """A rule of DER that octets break: its number in fanughespu.h, and the position, from 0."""
+
+    rule: int
+    position: int
 
 
 class Element(NamedTuple):
@@ -87,6 +108,22 @@ def integer_text(octets: bytes) -> str:
 def ber_normal(octets: bytes) -> bytes:
     """The elements of BER that the octets are, with definite lengths of the fewest octets. Raises `Fault` or `Deep`."""
     return _result(_ber_normal, octets, len(octets))
+
+
+def certificate_broken_rule(octets: bytes) -> BrokenRule | None:
+    """A rule of DER that the octets of a certificate break, if they break one. Octets that are no certificate may break none."""
+    rule, position = ctypes.c_uint32(), _size()
+    status = _broken_rule(octets, len(octets), rule, position)
+    if status == _FAULT:
+        return BrokenRule(rule.value, position.value)
+    return _raise(status, None)
+
+
+def certificate_part(octets: bytes, part: Part) -> bytes:
+    """The element that is this part of the certificate with these octets. Raises `Fault` if there is none."""
+    position, size = _size(), _size()
+    _raise(_part(octets, len(octets), part, position, size), None)
+    return octets[position.value : position.value + size.value]
 
 
 def _result(call, octets, room):

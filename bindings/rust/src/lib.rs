@@ -6,10 +6,15 @@
 //! | [`der_element`] | the element with which they begin |
 //! | [`integer_text`] | the number of which they are the contents octets, as text |
 //! | [`ber_normal`] | the elements of BER that they are, with definite lengths of the fewest octets |
+//! | [`certificate_broken_rule`] | a rule of DER that they break as a certificate, and where |
+//! | [`certificate_part`] | a part of the certificate that they are |
 //! | [`version`] | the version of the library |
 
 mod calls;
+mod certificates;
 mod heap;
+
+pub use certificates::{BrokenRule, Part, certificate_broken_rule, certificate_part};
 
 use calls::{DEEP, FAULT, MEMORY, OK, ROOM, RawElement, Writer};
 use std::fmt;

@@ -1,5 +1,5 @@
 //! What ../rows.txt says, by the functions of this crate.
-use fanughespu::{Error, ber_normal, der_check, der_element, integer_text, version};
+use fanughespu::{Error, ber_normal, certificate_broken_rule, der_check, der_element, integer_text, version};
 
 fn octets_of(digits: &str) -> Vec<u8> {
     let digits = if digits == "-" { "" } else { digits };
@@ -26,10 +26,22 @@ fn answer_of(call: &str, octets: &[u8]) -> Result<String, Error> {
     }
 }
 
+fn broken_rule(octets: &[u8]) -> (String, String) {
+    match certificate_broken_rule(octets) {
+        Ok(None) => ("0".to_string(), String::new()),
+        Ok(Some(broken)) => ("1".to_string(), format!("{} {}", broken.rule, broken.position)),
+        Err(_) => ("4".to_string(), String::new()),
+    }
+}
+
 fn assert_row(row: &str) {
     let parts: Vec<&str> = row.split('|').collect();
     let wanted = if parts[3] == "-" { "" } else { parts[3] };
-    let (status, answer) = match answer_of(parts[0], &octets_of(parts[1])) {
+    let octets = octets_of(parts[1]);
+    if parts[0] == "certificate_broken_rule" {
+        return assert_eq!(broken_rule(&octets), (parts[2].to_string(), wanted.to_string()), "{row}");
+    }
+    let (status, answer) = match answer_of(parts[0], &octets) {
         Ok(answer) => (0, answer),
         Err(Error::NoElement(position)) if parts[0] == "der_check" => (1, position.to_string()),
         Err(Error::NoElement(_) | Error::Malformed) => (1, String::new()),
