@@ -1,0 +1,101 @@
+#!/bin/bash
+# Builds libfanughespu.a and the bindings to C, Rust and Python, and runs their tests. Its last line is "N passed, M failed".
+# FANUGHESPU_LIB, if set, is a folder with a library that is built; else `rt lib` proves and builds one.
+set -u
+cd "$(dirname "$0")" || exit 2
+build=${FANUGHESPU_BUILD:-$(mktemp -d)}
+mkdir -p "$build/certificates"
+log=$build/log
+: > "$log"
+
+# A step that says nothing of its own.
+step() {
+    local name=$1
+    shift
+    if "$@" > "$build/step" 2>&1; then
+        echo "ok $name" | tee -a "$log"
+    else
+        cat "$build/step"
+        echo "FAILED $name" | tee -a "$log"
+    fi
+}
+
+# Tests that write a line for each, "ok .." or "FAILED ..".
+tests() {
+    local name=$1
+    shift
+    "$@" > "$build/tests" 2> "$build/step" || { cat "$build/step"; echo "FAILED $name" >> "$build/tests"; }
+    grep "^FAILED" "$build/tests"
+    cat "$build/tests" >> "$log"
+}
+
+build_library() {
+    rm -rf ../crates/fanughespu/out
+    local start=$SECONDS
+    (cd ../crates/fanughespu && rt lib) > "$build/rt_lib" 2>&1 || { tail -20 "$build/rt_lib"; return 1; }
+    took=$((SECONDS - start))
+    cp ../crates/fanughespu/out/libfanughespu.a "$build/"
+}
+
+# The certificates of the machine, as DER.
+make_certificates() {
+    python3 - /etc/ssl/certs/ca-certificates.crt "$build/certificates" <<'PYTHON'
+import pathlib, ssl, sys
+parts = pathlib.Path(sys.argv[1]).read_text().split("-----BEGIN CERTIFICATE-----")[1:]
+for number, part in enumerate(parts):
+    der = ssl.PEM_cert_to_DER_cert("-----BEGIN CERTIFICATE-----" + part[: part.index("-----END")] + "-----END CERTIFICATE-----\n")
+    pathlib.Path(sys.argv[2], f"{number:03}.der").write_bytes(der)
+sys.exit(not parts)
+PYTHON
+}
+
+c_warnings="-std=c11 -Wall -Wextra -Werror -pedantic"
+build_c() {
+    local name
+    for name in example rows certificates; do
+        gcc $c_warnings -O1 -g -Ic "c/$name.c" c/heap.c "$build/libfanughespu.a" -pthread -o "$build/$name.c.out" || return 1
+    done
+    gcc $c_warnings -O1 -g -Ic c/no_memory.c "$build/libfanughespu.a" -o "$build/no_memory.c.out" || return 1
+    echo '#include "fanughespu.h"' > "$build/header.cc"
+    g++ -std=c++17 -Wall -Wextra -Werror -Ic -c "$build/header.cc" -o "$build/header.o"
+}
+
+build_module() {
+    cp -r python "$build/"
+    gcc -O2 -shared -fPIC -o "$build/python/fanughespu/libfanughespu.so" c/heap.c -Wl,--whole-archive "$build/libfanughespu.a" \
+        -Wl,--no-whole-archive -Wl,-z,defs -Wl,-z,text -Wl,--version-script=version.map
+}
+
+rust_tests() {
+    (cd rust && FANUGHESPU_LIB=$build CARGO_TARGET_DIR=$build/target cargo test --offline) |
+        sed -n 's/^test \(.*\) \.\.\. ok$/ok Rust \1/p; s/^test \(.*\) \.\.\. FAILED$/FAILED Rust \1/p'
+    return "${PIPESTATUS[0]}"
+}
+
+if [ -n "${FANUGHESPU_LIB:-}" ]; then
+    step "library that was built before" cp "$FANUGHESPU_LIB/libfanughespu.a" "$build/"
+else
+    took=0
+    step "rt lib" build_library
+    echo "rt lib took $took s, with the crates below as they were kept"
+fi
+step "certificates of the machine" make_certificates
+certificates=("$build"/certificates/*.der)
+
+step "C" build_c
+tests "rows in C" "$build/rows.c.out" rows.txt
+tests "no memory in C" "$build/no_memory.c.out"
+step "example" "$build/example.c.out" "${certificates[0]}"
+tests "certificates in C" "$build/certificates.c.out" 3 "${certificates[@]}"
+step "rows under valgrind" valgrind -q --error-exitcode=9 "$build/rows.c.out" rows.txt
+step "certificates under valgrind" valgrind -q --error-exitcode=9 --leak-check=full "$build/certificates.c.out" 1 "${certificates[@]:0:2}"
+
+tests "Rust" rust_tests
+
+step "shared object" build_module
+tests "Python" env PYTHONPATH="$build/python" python3 "$build/python/test.py" "$PWD/rows.txt" "${certificates[@]}"
+
+passed=$(grep -c "^ok" "$log")
+failed=$(grep -c "^FAILED" "$log")
+echo "$passed passed, $failed failed"
+[ "$failed" -eq 0 ]

@@ -1,0 +1,104 @@
+"""What ../rows.txt says, and certificates beside OpenSSL, by the functions of the module."""
+
+import re
+import subprocess
+import sys
+import threading
+from pathlib import Path
+
+import fanughespu as fan
+
+
+def element_text(octets):
+    e = fan.der_element(octets)
+    header = len(octets) - len(e.rest) - len(e.contents)
+    return f"{e.tag_class} {e.number} {int(e.constructed)} {header} {len(e.contents)}"
+
+
+CALLS = {
+    "der_check": lambda octets: fan.der_check(octets) or "",
+    "der_element": element_text,
+    "integer_text": fan.integer_text,
+    "ber_normal": lambda octets: fan.ber_normal(octets).hex().upper(),
+}
+
+
+def answer_of(call, octets):
+    try:
+        if call == "certificate_broken_rule":
+            broken = fan.certificate_broken_rule(octets)
+            return ("0", "") if broken is None else ("1", f"{broken.rule} {broken.position}")
+        return "0", CALLS[call](octets)
+    except fan.Fault as fault:
+        return "1", str(fault.position) if call == "der_check" else ""
+    except fan.Deep:
+        return "4", ""
+
+
+def tell(what, passes):
+    print("ok" if passes else "FAILED", "Python", what)
+
+
+def try_rows(path):
+    for number, row in enumerate(path.read_text().splitlines(), 1):
+        if not row.startswith("#"):
+            call, octets, status, answer, _source = row.split("|")
+            told = answer_of(call, b"" if octets == "-" else bytes.fromhex(octets))
+            tell(f"row {number} {call}", told == (status, "" if answer == "-" else answer))
+
+
+def serial_number(certificate):
+    serial = fan.der_element(fan.certificate_part(certificate, fan.Part.SERIAL_NUMBER))
+    return int(fan.integer_text(serial.contents), 0)
+
+
+def openssl(certificate, *words):
+    return subprocess.run(["openssl", *words, "-inform", "DER"], input=certificate, capture_output=True, check=True).stdout
+
+
+def serial_of_openssl(certificate):
+    return int(openssl(certificate, "x509", "-noout", "-serial").decode().strip().removeprefix("serial="), 16)
+
+
+def parts_of_openssl(certificate):
+    """Positions and lengths of the elements at the depths of parts, by asn1parse: lines such as "4:d=1  hl=4 l= 645 cons: SEQUENCE"."""
+    inside = {1: [], 2: []}
+    for line in openssl(certificate, "asn1parse").decode().splitlines():
+        place, depth, header, size = re.match(r" *(\d+):d=(\d+) +hl=(\d+) +l= *(\d+)", line).groups()
+        if int(depth) in inside and len(inside[1]) < 2 + (int(depth) == 1):
+            inside[int(depth)].append(certificate[int(place) : int(place) + int(header) + int(size)])
+    first = int(inside[2][0][0] == 0xA0)
+    signed = inside[2][first:]
+    return [inside[1][0], signed[0], signed[2], signed[4], signed[5], inside[1][2]]
+
+
+def try_certificates(certificates):
+    tell("certificates are DER", all(fan.der_check(c) is None for c in certificates))
+    some = certificates[:20]
+    tell("parts are those of OpenSSL", all([fan.certificate_part(c, part) for part in fan.Part] == parts_of_openssl(c) for c in some))
+    tell("certificates break no rule", all(fan.certificate_broken_rule(c) is None for c in some))
+    tell("serial numbers are those of OpenSSL", all(serial_number(c) == serial_of_openssl(c) for c in some))
+
+
+def try_threads(certificates):
+    wrong = []
+
+    def check():
+        for certificate in certificates * 20:
+            if fan.ber_normal(certificate) != certificate:
+                wrong.append(certificate)
+
+    threads = [threading.Thread(target=check) for _ in range(4)]
+    for thread in threads:
+        thread.start()
+    for thread in threads:
+        thread.join()
+    tell("four threads", not wrong)
+
+
+if __name__ == "__main__":
+    tell("version", fan.version() == 1)
+    try_rows(Path(sys.argv[1]))
+    all_certificates = [Path(name).read_bytes() for name in sys.argv[2:]]
+    try_certificates(all_certificates)
+    try_threads(all_certificates)

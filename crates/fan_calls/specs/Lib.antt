@@ -1,0 +1,3 @@
+pub mod Depths
+pub mod Results
+pub mod Statuses

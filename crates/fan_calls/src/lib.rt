@@ -1,0 +1,18 @@
+//! Parts of the calls from C that several static libraries share.
+//!
+//! | Item | What it is | In `specs/` |
+//! |---|---|---|
+//! | [`Status`] | what a call answers, and its number | `Statuses` |
+//! | [`put`] | writes a result into the memory of the caller, if there is room | `Results` |
+//! | [`lies_deeper`], [`DEPTH`] | whether elements lie deeper than a call looks | `Depths` |
+//!
+//! A static library cannot be named by another crate, so these are in a library.
+#![tactic(auto)]
+
+mod depth;
+mod result;
+mod status;
+
+pub use depth::{DEPTH, lies_deeper};
+pub use result::put;
+pub use status::Status;

@@ -1,0 +1,5 @@
+pub mod CertificateParts
+pub mod CertificateRules
+pub mod Normals
+pub mod Parts
+pub mod Texts

@@ -1,0 +1,36 @@
+//! Octets of DER, of BER and of certificates, for C: `libfanughespu.a`.
+//!
+//! | Function | What it answers of octets |
+//! |---|---|
+//! | [`fan_der_check`] | whether they are elements of DER, and where not |
+//! | [`fan_der_element`], [`FanElement`] | the element with which they begin |
+//! | [`fan_integer_text`] | the number of which they are the contents octets, as text |
+//! | [`fan_ber_normal`] | the elements of BER that they are, with definite lengths of the fewest octets |
+//! | [`fan_certificate_broken_rule`] | a rule of DER that they break as a certificate, and where |
+//! | [`fan_certificate_part`] | where a part of the certificate that they are begins, and its length |
+//! | [`fan_version`] | the version of these calls |
+//!
+//! A slice crosses to C as a pointer and a length, and `alloc` as nothing. Results go into the memory of the caller, and nothing is
+//! kept after a call. The answer is a status (`specs/Statuses` of `fan_calls`). Each call states which it answers (`statuses`), what
+//! holds of each of them, and which octets have it.
+//!
+//! The linker, the header for C and the lengths that a caller hands in are outside of the proof (docs/EMBEDDING.md).
+#![tactic(auto)]
+
+mod ber;
+mod certificate_parts;
+mod certificate_rules;
+mod elements;
+mod integers;
+mod refusal;
+mod version;
+
+pub use ber::fan_ber_normal;
+pub use certificate_parts::fan_certificate_part;
+pub use certificate_rules::fan_certificate_broken_rule;
+pub use elements::{FanElement, fan_der_check, fan_der_element};
+pub use integers::fan_integer_text;
+pub use version::fan_version;
+
+#[cfg(test)]
+mod tests;
