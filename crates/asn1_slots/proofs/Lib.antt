@@ -1,7 +1,7 @@
-mod FilledSlots
-mod Layouts
-mod NamedErrors
-mod ReadByIndex
+pub mod FilledSlots
+pub mod Layouts
+pub mod NamedErrors
+pub mod ReadByIndex
 pub mod ReadChoices
-mod ReadInSets
+pub mod ReadInSets
 mod TreesWithTags

@@ -45,11 +45,11 @@ pub trait DecodeByIndex: Eq + Sized + Drop {
 
 /// A component that was not read.
 #[derive(Drop)]
-struct NotRead {
-    /// The index of the component.
-    index: usize,
-    /// Its error, as it is.
-    error: DecodeError,
+pub struct NotRead {
+    /// The index of the component in the definition.
+    pub index: usize,
+    /// Its error, without its name.
+    pub error: DecodeError,
 }
 
 /// The slots of all components, which are read one after another.

@@ -6,10 +6,11 @@ ghost use Rattle.std.specs.Prelude.{◌≡◌, ◌<◌, false, IfSome, length, s
 use asn1_components::FieldTable;
 use asn1_laws::DecodeError;
 
-/// The error as that of the component at this index of the table ([`DecodeError::in_field`]).
+/// The error as that of the component at this index of the table ([`DecodeError::in_field`]), so that it has a name
+/// (`has_name`). An error that has one is unchanged (`same`).
 #[cold]
 #[inline(never)]
-pub(crate) fn in_component<C: FieldTable>(index: usize, error: DecodeError) -> DecodeError
+pub fn in_component<C: FieldTable>(index: usize, error: DecodeError) -> DecodeError
     requires { index < length (table C.components) }
     ensures named { lacks_name (reason error) ≡ true → IfSome (slice_get (table C.components) index)
         (λ entry. reason result ≡ field_error entry.name (number (reason error))) }

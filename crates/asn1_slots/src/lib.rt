@@ -19,6 +19,7 @@
 //! | [`from_tag_by_index`], [`from_tag_by_table`] | read the alternative that can begin with a tag | `TagIndices` |
 //! | [`index_of_tag`] | its index | `TagIndices` |
 //! | [`Tagging`] | the tagging of a component or an alternative | `Taggings` |
+//! | [`NotRead`], [`in_component`] | a component that was not read, and its error with its name | `ReadSlots` |
 //! | [`laws`] | a component with a default is absent if it has the default, and only then | `Slots` |
 //!
 //! The main promises (docs/PROMISES.md has more):
@@ -52,13 +53,14 @@ mod tagged;
 mod tagging;
 
 pub use by_index::{
-    DecodeByIndex, decode_fields_by_index, decode_fields_naming_errors,
+    DecodeByIndex, NotRead, decode_fields_by_index, decode_fields_naming_errors,
     decode_sequence_naming_errors,
 };
 pub use calls::{Decoded, addition, decode_unique, group, optional, required};
 pub use cases::alternative;
 pub use choice_by_index::{DecodeChoiceByIndex, from_tag_by_index, from_tag_by_table};
 pub use constrained::{decode_unique_with_constraints, required_with_constraints};
+pub use errors::in_component;
 pub use set_by_index::{DecodeSetByIndex, decode_set_by_index};
 pub use slot_values::{missing, or_default, or_empty};
 pub use tag_indices::index_of_tag;
