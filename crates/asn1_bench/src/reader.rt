@@ -1,11 +1,11 @@
 //! Values at the front of packed bytes.
 ghost use Rattle.asn1_bench.specs.Fronts.{IsCut};
-ghost use Rattle.std.specs.Prelude.{MatchOption, ℕ};
+ghost use Rattle.std.specs.Prelude.{MatchResult, ℕ};
 
 use crate::PackedDecoder;
 use asn1_buffers::read_whole;
 use asn1_dec::{Decode, DecodeError};
-use asn1_items::find_header;
+use asn1_items::{ItemError, find_header};
 use asn1_rules::FrontReader;
 use std::alloc::Global;
 
@@ -32,6 +32,20 @@ impl BenchReader {
         ensures depth { result.depth ≡ depth }
     {
         BenchReader { alloc, depth }
+    }
+
+    /// How many bytes the first value of an input has: those of the item that it begins with.
+    ///
+    /// # Errors
+    /// Why the input begins with no whole item; [`ItemError::Missing`] if it ends inside one.
+    pub fn front_length(&self, input: &[u8]) -> Result<usize, ItemError>
+        ensures { MatchResult result (IsCut input.now) (λ e. (n : ℕ) → ¬ IsCut input.now n) }
+    {
+        let header = find_header(input)?;
+        match header.body.split_at_checked(header.size as usize) {
+            Some((_inside, rest)) => Ok(input.len() - rest.len()),
+            None => Err(ItemError::Missing(header.size as usize - header.body.len())),
+        }
     }
 
     /// Reads the value whose bytes these are.
@@ -63,7 +77,7 @@ impl<D: Decode> FrontReader<D> for BenchReader {
     ghost came = { λ reader progress bytes. ⊤ };
 
     fn read_front(&self, input: &[u8]) -> Result<(D, usize), DecodeError> {
-        let Some(length) = item_length(input) else {
+        let Ok(length) = self.front_length(input) else {
             return Err(self.refusal::<D>(input));
         };
         let value = self.read(&input[..length])?;
@@ -78,15 +92,4 @@ impl<D: Decode> FrontReader<D> for BenchReader {
     } };
 
     ghost goes_on = { λ reader progress bytes behind came. tt };
-}
-
-/// How long the item is with which the bytes begin, where all of it is there.
-fn item_length(bytes: &[u8]) -> Option<usize>
-    ensures { MatchOption result ((n : ℕ) → ¬ IsCut bytes.now n) (IsCut bytes.now) }
-{
-    let Ok(header) = find_header(bytes) else {
-        return None;
-    };
-    let (_inside, rest) = header.body.split_at_checked(header.size as usize)?;
-    Some(bytes.len() - rest.len())
 }

@@ -1,10 +1,13 @@
 //! Values at the front of octets of BER.
-ghost use Rattle.std.specs.Prelude.{◌≡◌};
+ghost use Rattle.asn1_ber.specs.Cuts.{IsCut};
+ghost use Rattle.asn1_items.specs.declared.error.ItemError.TheVariants.{Memory};
+ghost use Rattle.std.specs.Prelude.{◌≡◌, MatchResult, ℕ};
 
 use crate::errors::decode_error_of;
 use crate::reading::read_normal;
 use asn1_ber_items::{Progress, find_end, front_element};
 use asn1_dec::{Decode, DecodeError};
+use asn1_items::ItemError;
 use asn1_rules::FrontReader;
 use std::alloc::Global;
 
@@ -29,6 +32,19 @@ impl BerReader {
         ensures depth { result.depth ≡ depth }
     {
         BerReader { alloc, depth }
+    }
+
+    /// How many octets the first value of an input has: those of the element that it begins with.
+    ///
+    /// # Errors
+    /// Why the input begins with no whole element; [`ItemError::Missing`] if it ends inside one. [`ItemError::Memory`] may come of any
+    /// input.
+    pub fn front_length(&self, input: &[u8]) -> Result<usize, ItemError>
+        ensures { MatchResult result (IsCut input.now)
+            (λ e. (n : ℕ) → IsCut input.now n → e ≡ Memory) }
+    {
+        let front = front_element(self.alloc, input)?;
+        Ok(input.len() - front.rest.len())
     }
 }
 

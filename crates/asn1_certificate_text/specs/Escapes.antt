@@ -1,18 +1,12 @@
 -- The values of attributes in the text of a name (RFC 4514, 2.4).
-use Rattle.std.specs.Prelude.{ℕ, zero, suc, ◌+◌, Bool, ◌||◌, ◌&&◌, ◌==◌, List, [], ◌++◌, length, slice_index, codes, encode_utf8, if◌then◌else◌}
-use Rattle.std.specs.Char.{is_control}
-use Rattle.std.specs.Int.{is_in_range}
+use Rattle.std.specs.Prelude.{ℕ, zero, suc, ◌+◌, Bool, ◌||◌, ◌&&◌, ◌==◌, not, List, [], ◌++◌, length, slice_index, codes, encode_utf8, if◌then◌else◌}
 use Rattle.std.specs.List.{flat_map}
+use Rattle.asn1_values.specs.Shown.{is_shown}
 use Rattle.asn1_values.specs.Text.{byte_text}
 
--- one of the characters that change the direction in which others are written, or end a line or a paragraph (Unicode's property
--- Bidi_Control, and its categories Zl and Zp)
-abbrev pub turns_or_ends_line : ℕ → Bool
-turns_or_ends_line c = c == 0x61C || is_in_range 0x200E 0x200F c || is_in_range 0x2028 0x202E c || is_in_range 0x2066 0x2069 c
-
--- one of the controls of Unicode, which are those of ASCII and of Latin-1, or one of these
+-- a character that a line cannot show
 abbrev pub is_written_as_octets : ℕ → Bool
-is_written_as_octets c = is_control c || turns_or_ends_line c
+is_written_as_octets c = not (is_shown c)
 
 -- one of  " # + , ; < > \
 abbrev pub is_special : ℕ → Bool

@@ -2,9 +2,10 @@
 ghost use Rattle.std.specs.Prelude.{◌≡◌, ◌<◌, ◌++◌, OnOk};
 ghost use Rattle.std.specs.List.{flat_map};
 ghost use Rattle.std.specs.String.{string_bytes};
-ghost use Rattle.asn1_certificate_text.specs.Escapes.{turns_or_ends_line, control_text, escaped, escaped_text, is_written_as_octets, is_end, is_special, octet_escaped, needs_backslash, visible};
+ghost use Rattle.asn1_certificate_text.specs.Escapes.{control_text, escaped, escaped_text, is_written_as_octets, is_end, is_special, octet_escaped, needs_backslash, visible};
 
 use crate::octets::push_octet;
+use asn1_values::shown::is_shown;
 use std::alloc::AllocError;
 
 /// Appends a value's characters, with a backslash before each that has a meaning in the text of a name, and control characters as
@@ -99,17 +100,7 @@ fn push_escaped_octet(text: &mut String, octet: u8) -> Result<(), AllocError>
 fn is_written_as_octets(character: char) -> bool
     ensures { result ≡ is_written_as_octets character }
 {
-    character.is_control() || turns_or_ends_line(character)
-}
-
-/// Whether a character changes the direction in which others are written, or ends a line or a paragraph.
-fn turns_or_ends_line(character: char) -> bool
-    ensures { result ≡ turns_or_ends_line character }
-{
-    matches!(
-        character,
-        '\u{61c}' | '\u{200e}'..='\u{200f}' | '\u{2028}'..='\u{202e}' | '\u{2066}'..='\u{2069}'
-    )
+    !is_shown(character)
 }
 
 /// Whether a character would end a value or change how it is read.

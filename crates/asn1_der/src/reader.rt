@@ -1,11 +1,12 @@
 //! Values at the front of bytes of DER.
 ghost use Rattle.asn1_der.specs.Cuts.{IsCut};
-ghost use Rattle.std.specs.Prelude.{MatchOption, ℕ};
+ghost use Rattle.std.specs.Prelude.{MatchResult, ℕ};
 
 use crate::DerDecoder;
 use asn1_buffers::read_whole;
 use asn1_dec::{Decode, DecodeError};
 use asn1_der_items::find_element;
+use asn1_items::ItemError;
 use asn1_rules::FrontReader;
 use std::alloc::Global;
 
@@ -33,6 +34,17 @@ impl DerReader {
         ensures depth { result.depth ≡ depth }
     {
         DerReader { alloc, depth }
+    }
+
+    /// How many octets the first value of an input has: those of the element that it begins with.
+    ///
+    /// # Errors
+    /// Why the input begins with no whole element; [`ItemError::Missing`] if it ends inside one.
+    pub fn front_length(&self, input: &[u8]) -> Result<usize, ItemError>
+        ensures { MatchResult result (IsCut input.now) (λ e. (n : ℕ) → ¬ IsCut input.now n) }
+    {
+        let element = find_element(input)?;
+        Ok(input.len() - element.rest.len())
     }
 
     /// Reads the value whose bytes these are.
@@ -64,7 +76,7 @@ impl<D: Decode> FrontReader<D> for DerReader {
     ghost came = { λ reader progress bytes. ⊤ };
 
     fn read_front(&self, input: &[u8]) -> Result<(D, usize), DecodeError> {
-        let Some(length) = element_length(input) else {
+        let Ok(length) = self.front_length(input) else {
             return Err(self.refusal::<D>(input));
         };
         let value = self.read(&input[..length])?;
@@ -79,14 +91,4 @@ impl<D: Decode> FrontReader<D> for DerReader {
     } };
 
     ghost goes_on = { λ reader progress bytes behind came. tt };
-}
-
-/// How long the element is with which the bytes begin, where all of it is there.
-fn element_length(bytes: &[u8]) -> Option<usize>
-    ensures { MatchOption result ((n : ℕ) → ¬ IsCut bytes.now n) (IsCut bytes.now) }
-{
-    match find_element(bytes) {
-        Ok(element) => Some(bytes.len() - element.rest.len()),
-        Err(_) => None,
-    }
 }

@@ -1,3 +1,4 @@
 pub mod Digits
+pub mod LowNumbers
 pub mod Signs
 pub mod Texts

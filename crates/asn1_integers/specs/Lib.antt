@@ -1,3 +1,4 @@
+pub mod Decimal
 pub mod Integer
 pub mod Numbers
 pub mod Text

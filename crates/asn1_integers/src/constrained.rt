@@ -1,7 +1,9 @@
 //! Whole numbers within limits.
-ghost use Rattle.std.specs.Prelude.{◌≡◌, ◌↔◌, ℤ, ◌≤ℤ◌, IsSome, IfSome};
+ghost use Rattle.std.specs.Prelude.{◌≡◌, ◌↔◌, ℤ, ◌≤ℤ◌, IsSome, IfSome, Some};
+ghost use Rattle.asn1_integers.specs.Text.{integer_text};
 
 use crate::integer::Integer;
+use std::fmt;
 use std::marker::{Model, PhantomData};
 
 /// The least and the greatest number of a [`LimitedInteger`].
@@ -42,7 +44,7 @@ impl<const S: i64, const E: i64> Limits for Between<S, E> {
 ///
 /// Contracts see it as its number.
 #[derive(Drop)]
-#[derive_where(Debug, PartialEq, Eq, PartialOrd, Ord, Hash)]
+#[derive_where(PartialEq, Eq, PartialOrd, Ord, Hash)]
 pub struct LimitedInteger<L: Limits> {
     number: Integer,
     limits: PhantomData<L>,
@@ -84,5 +86,23 @@ impl<L: Limits> LimitedInteger<L> {
         ensures to_end { self.now ≤ℤ L.end }
     {
         &self.number
+    }
+}
+
+/// The number, in decimal digits.
+impl<L: Limits> fmt::Display for LimitedInteger<L> {
+    ghost output = { λ number. Some (integer_text number) };
+
+    fn fmt<W: fmt::Write>(&self, f: &mut fmt::Formatter<W>) -> fmt::Result {
+        fmt::Display::fmt(&self.number, f)
+    }
+}
+
+/// As `Display` writes it.
+impl<L: Limits> fmt::Debug for LimitedInteger<L> {
+    ghost debug_output = { λ number. Some (integer_text number) };
+
+    fn fmt<W: fmt::Write>(&self, f: &mut fmt::Formatter<W>) -> fmt::Result {
+        fmt::Display::fmt(&self.number, f)
     }
 }

@@ -15,13 +15,13 @@ use std::marker::Model;
 /// A whole number.
 ///
 /// Contracts see it as its number.
-#[derive(Debug, Drop)]
+#[derive(Drop)]
 pub struct Integer {
     representation: Representation,
 }
 
 /// The representation of a number, which is unique: narrow if it fits, else wide and without leading zeros.
-#[derive(Debug, Drop)]
+#[derive(Drop)]
 enum Representation {
     Narrow(i128),
     Wide { negative: bool, bytes: Vec<u8> },

@@ -16,7 +16,7 @@ use crate::constrained::{ConstrainedInteger, LimitedInteger, Limits};
 use crate::error::OutOfRangeError;
 use crate::integer::Integer;
 use crate::integer_type::IntegerType;
-use std::fmt::Display;
+use std::fmt::{Debug, Display};
 use std::hash::Hash;
 
 /// Whether the numbers are the same. Integers are compared and ordered by their numbers, and feed a hasher the sign and
@@ -45,6 +45,9 @@ pub fn limited_integers_are_compared_by_number<L: Limits>(
     ensures order { (x y : ℤ) → ⟦<LimitedInteger<L> as Ord>⟧.cmp x y ≡ int_cmp x y }
     ensures hash { (x : ℤ) → ⟦<LimitedInteger<L> as Hash>⟧.hash_input x ≡
         ⟦<Integer as Hash>⟧.hash_input x }
+    ensures text { (x : ℤ) → ⟦<LimitedInteger<L> as Display>⟧.output x ≡ Some (integer_text x) }
+    ensures debug { (x : ℤ) → ⟦<LimitedInteger<L> as Debug>⟧.debug_output x ≡
+        Some (integer_text x) }
 {
     a == b
 }
@@ -92,6 +95,7 @@ pub fn integers_are_made_and_written_by_number()
     ensures of_i64 { (n z : ℤ) → ⟦<Integer as From<i64>>⟧.from_gives n z ↔ (z ≡ n) }
     ensures of_isize { (n z : ℤ) → ⟦<Integer as From<isize>>⟧.from_gives n z ↔ (z ≡ n) }
     ensures text { (z : ℤ) → ⟦<Integer as Display>⟧.output z ≡ Some (integer_text z) }
+    ensures debug { (z : ℤ) → ⟦<Integer as Debug>⟧.debug_output z ≡ Some (integer_text z) }
     ensures styled { (z : ℤ) (options : _) → IsTrue (is_narrow z) →
         ⟦<Integer as Display>⟧.styled_output z options ≡ Some (styled_signed_decimal options z) }
 {}

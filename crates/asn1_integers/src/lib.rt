@@ -22,7 +22,7 @@
 //! - `Integer` is also made by `From` of an `i128` and of each built-in integer of at most 64 bits, copied by `try_clone`
 //!   (`number`), and made by `Default`, which is 0. Each built-in integer
 //!   is made by `TryFrom<Integer>` if and only if the number fits it, else the error is [`OutOfRangeError`].
-//! - An `Integer` is written as `integer_text` of `specs/Text.antt`: in decimal what an `i128` holds, else in hexadecimal.
+//! - An `Integer` is written as `integer_text` of `specs/Text.antt`: in decimal digits; so is a `LimitedInteger`.
 //! - `IntegerType::try_from_integer` answers if and only if the number fits the type (`fitting`), and with
 //!   the value of that number (`same_number`). Two values with one number are equal (`injective`).
 //! - `LimitedInteger::new` succeeds if and only if the number is within the limits (`within`).
@@ -33,6 +33,7 @@
 #![tactic(auto)]
 
 mod constrained;
+mod decimal;
 mod error;
 mod integer;
 mod integer_type;

@@ -5,7 +5,7 @@ ghost use Rattle.asn1_laws.specs.declared.decode_error.DecodeError.TheVariants.{
 
 use crate::needed::Needed;
 use asn1_tags::Tag;
-use std::alloc::AllocError;
+use std::alloc::{AllocError, Global};
 use thiserror::Error;
 
 /// Why a value was not read.
@@ -119,6 +119,34 @@ impl DecodeError {
             | DecodeError::Depth
             | DecodeError::Failed => self,
         }
+    }
+
+    /// The cause in words, behind the name of the component if the error names one, as `component minor: outside its limits`.
+    /// Fails only if memory runs out. No contract covers the words.
+    pub fn cause_text(self, alloc: Global) -> Result<String, AllocError> {
+        match self {
+            DecodeError::FieldError { name, cause } => {
+                format!(in alloc; "component {name}: {}", inner_cause(cause))
+            }
+            DecodeError::MissingField(name) => format!(in alloc; "component {name}: missing"),
+            DecodeError::DuplicateField(name) => format!(in alloc; "component {name}: there twice"),
+            DecodeError::OutOfRange => String::from_str(alloc, OUTSIDE),
+            error => format!(in alloc; "{error}"),
+        }
+    }
+}
+
+/// The words for a value outside the limits of its type.
+const OUTSIDE: &str = "outside its limits";
+
+/// The words for the error of this number inside a component.
+fn inner_cause(number: u8) -> &'static str {
+    if number == DecodeError::OutOfRange.number() {
+        OUTSIDE
+    } else if number == DecodeError::NoValidChoice("").number() {
+        "no alternative of its type"
+    } else {
+        "no value of its type"
     }
 }
 

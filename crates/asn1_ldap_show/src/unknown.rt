@@ -18,12 +18,6 @@ use std::fmt::Write;
 /// The greatest number of octets of an INTEGER that is shown. RFC 4511 has four of a message's number.
 const LONGEST_MESSAGE_ID: usize = 8;
 
-/// The number of [`DecodeError::NoValidChoice`].
-const NO_VALID_CHOICE: u8 = 5;
-
-/// The number of [`DecodeError::OutOfRange`].
-const OUT_OF_RANGE: u8 = 13;
-
 /// The line of a message with this beginning that is not understood, for this error. It fails only if memory runs out.
 pub(crate) fn unknown_line(
     alloc: Global,
@@ -44,23 +38,10 @@ pub(crate) fn unknown_line(
 /// The words for the error of reading a message.
 fn cause_text(alloc: Global, error: DecodeError) -> Result<String, AllocError> {
     match error {
-        DecodeError::FieldError { name, cause } => {
-            format!(in alloc; "component {name}: {}", component_cause(cause))
-        }
-        DecodeError::MissingField(name) => format!(in alloc; "component {name}: missing"),
         DecodeError::Depth => {
             format!(in alloc; "filters are nested more than {NESTED_FILTERS} deep")
         }
-        _ => format!(in alloc; "{error}"),
-    }
-}
-
-/// The words for the error inside a component, by its number (`number` of [`DecodeError`]).
-fn component_cause(number: u8) -> &'static str {
-    match number {
-        NO_VALID_CHOICE => "no alternative of its type",
-        OUT_OF_RANGE => "outside its limits",
-        _ => "no value of its type",
+        _ => error.cause_text(alloc),
     }
 }
 

@@ -1,3 +1,4 @@
 pub mod Alphabets
 pub mod Dotted
 pub mod Refusals
+pub mod Shown

@@ -10,6 +10,7 @@
 //! | [`AsciiAlphabet`] | an alphabet inside ASCII, whose strings are texts | |
 //! | [`AlphabetError`], [`StringError`], [`ObjectIdentifierError`], [`ArcError`] | why a string or an object identifier was not made | |
 //! | [`kind`] | the markers of the kinds of string, with their alphabets (`specs/Alphabets.antt`) | |
+//! | [`shown`] | octets, bits and characters as a person reads them, as `{:?}` writes them | |
 //! | [`laws`] | what derives, aliases and definitions give | |
 //!
 //! The main promises (docs/PROMISES.md has more):
@@ -29,6 +30,7 @@ mod error;
 pub mod kind;
 pub mod laws;
 mod object_identifier;
+pub mod shown;
 mod strings;
 
 pub use error::{AlphabetError, ArcError, ObjectIdentifierError, StringError};

@@ -9,15 +9,17 @@ ghost use Rattle.asn1_types.specs.Kinds.{any_type};
 
 use asn1_model::{AsnType, TreeForm, TypeTable};
 use asn1_tags::{Identifier, Tag};
+use asn1_values::shown::write_hexadecimal;
 use std::alloc::{AllocError, Global};
 use std::cmp::Ordering;
+use std::fmt;
 use std::hash::{Hash, Hasher};
 use std::marker::Model;
 
 /// A value of an open type, as the bytes that a codec makes of it.
 ///
 /// Contracts see it as the list of its bytes. Values are equal if their bytes are, and go lexicographically.
-#[derive(Debug, Drop)]
+#[derive(Drop)]
 pub struct Any {
     contents: Vec<u8>,
 }
@@ -60,6 +62,13 @@ impl Any {
         Ok(Any {
             contents: Vec::from_slice(alloc, &self.contents)?,
         })
+    }
+}
+
+/// The octets in hexadecimal, as `'0500'H`.
+impl fmt::Debug for Any {
+    fn fmt<W: fmt::Write>(&self, f: &mut fmt::Formatter<W>) -> fmt::Result {
+        write_hexadecimal(self.as_bytes(), f)
     }
 }
 

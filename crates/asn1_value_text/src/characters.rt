@@ -1,6 +1,7 @@
 //! Strings of characters as texts.
 
 use asn1_types::{AnyStr, OctetKind};
+use asn1_values::shown::is_shown;
 use std::alloc::{AllocError, Global};
 use std::str;
 
@@ -43,25 +44,4 @@ fn numbers_of_utf8(alloc: Global, octets: &[u8]) -> Result<Option<Vec<u32>>, All
 /// or ends a line or a paragraph.
 pub(crate) fn shown_character(number: u32) -> Option<char> {
     char::from_u32(number).filter(|character| is_shown(*character))
-}
-
-fn is_shown(character: char) -> bool {
-    !character.is_control() && !turns_or_ends_line(character)
-}
-
-fn turns_or_ends_line(character: char) -> bool {
-    matches!(
-        character,
-        '\u{61c}' | '\u{200e}'..='\u{200f}' | '\u{2028}'..='\u{202e}' | '\u{2066}'..='\u{2069}'
-    )
-}
-
-/// The text that octets are, if a line can show all of its characters.
-pub(crate) fn shown_text(octets: &[u8]) -> Option<&str> {
-    let text = str::from_utf8(octets).ok()?;
-    if text.chars().all(is_shown) {
-        Some(text)
-    } else {
-        None
-    }
 }

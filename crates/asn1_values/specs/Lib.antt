@@ -1,4 +1,5 @@
 -- of whole numbers
+pub use Rattle.asn1_integers.specs.Decimal
 pub use Rattle.asn1_integers.specs.Integer
 pub use Rattle.asn1_integers.specs.Numbers
 pub use Rattle.asn1_integers.specs.Text
@@ -7,4 +8,5 @@ pub use Rattle.asn1_integers.specs.contracts as integer_contracts
 pub use Rattle.asn1_strings.specs.Alphabets
 pub use Rattle.asn1_strings.specs.Dotted
 pub use Rattle.asn1_strings.specs.Refusals
+pub use Rattle.asn1_strings.specs.Shown
 pub use Rattle.asn1_strings.specs.contracts as string_contracts

@@ -9,6 +9,7 @@
 //! | [`BitString`], [`OctetString`], [`VisibleString`] and the like, [`kind`] | the kinds of string | `asn1_strings` |
 //! | [`AlphabetString`], [`UnitString`] | strings of an alphabet, and of any units | `asn1_strings` |
 //! | [`ObjectIdentifier`] | the arcs of an object identifier | `asn1_strings` |
+//! | [`shown`] | octets, bits and characters as a person reads them | `asn1_strings` |
 //! | [`integers`], [`strings`] | both crates, with their modules of laws | |
 //!
 //! The crate has no code and no promise of its own: the pages of the two crates have them. `specs/Lib` exports the definitions of
@@ -24,5 +25,5 @@ pub use asn1_strings::{
     Alphabet, AlphabetError, AlphabetString, ArcError, AsciiAlphabet, BitStr, BitString, BmpString,
     GeneralString, GraphicString, Ia5String, NumericString, ObjectIdentifier,
     ObjectIdentifierError, OctetString, PrintableString, StringError, StringUnit, TeletexString,
-    UnitString, Utf8String, VisibleString, kind,
+    UnitString, Utf8String, VisibleString, kind, shown,
 };

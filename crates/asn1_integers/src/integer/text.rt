@@ -1,14 +1,14 @@
 //! How an integer is written.
 ghost use Rattle.std.specs.Prelude.{if◌then◌else◌, None, Some};
-ghost use Rattle.std.specs.Fmt.{styled_signed_decimal, WritesOnOk};
-ghost use Rattle.std.specs.List.{flat_map};
-ghost use Rattle.asn1_integers.specs.Text.{byte_text, integer_text, is_narrow};
+ghost use Rattle.std.specs.Fmt.{styled_signed_decimal};
+ghost use Rattle.asn1_integers.specs.Text.{integer_text, is_narrow};
 
+use crate::decimal::decimal_text;
 use crate::integer::{Integer, Representation};
 use std::fmt;
 
-/// In decimal what an `i128` holds, else in hexadecimal, as `0x` or `-0x` and two digits for each byte of the magnitude
-/// that [`Integer::sign_magnitude`] gives.
+/// In decimal digits. Beyond 128 bits this takes memory and a time that goes with the square of the octets, and fails if memory runs
+/// out.
 impl fmt::Display for Integer {
     ghost output = { λ z. Some (integer_text z) };
 
@@ -20,19 +20,20 @@ impl fmt::Display for Integer {
             Representation::Narrow(number) => fmt::Display::fmt(number, f),
             Representation::Wide { negative, bytes } => {
                 let sign = if *negative { "-" } else { "" };
-                write!(f, "{sign}0x")?;
-                write_bytes(bytes, f)
+                match decimal_text(*bytes.allocator(), bytes) {
+                    Ok(digits) => write!(f, "{sign}{digits}"),
+                    Err(_refused) => Err(fmt::Error),
+                }
             }
         }
     }
 }
 
-/// Writes two hexadecimal digits for each byte.
-fn write_bytes<W: fmt::Write>(bytes: &[u8], f: &mut fmt::Formatter<W>) -> fmt::Result
-    ensures { WritesOnOk W.write_str_gives f.old result (flat_map byte_text bytes.now) f.new }
-{
-    for byte in bytes {
-        write!(f, "{:x}{:x}", byte / 16, byte % 16)?;
+/// As `Display` writes it.
+impl fmt::Debug for Integer {
+    ghost debug_output = { λ z. Some (integer_text z) };
+
+    fn fmt<W: fmt::Write>(&self, f: &mut fmt::Formatter<W>) -> fmt::Result {
+        fmt::Display::fmt(self, f)
     }
-    Ok(())
 }

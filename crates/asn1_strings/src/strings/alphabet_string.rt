@@ -24,7 +24,7 @@ pub trait Alphabet<U> {
 /// Contracts see it as the list of its units. Strings are equal if their units are, and go
 /// lexicographically.
 #[derive(Drop)]
-#[derive_where(Debug, PartialEq, Eq, PartialOrd, Ord, Hash; U)]
+#[derive_where(PartialEq, Eq, PartialOrd, Ord, Hash; U)]
 pub struct AlphabetString<U, A: Alphabet<U>> {
     units: UnitString<U, A>,
 }

@@ -15,7 +15,6 @@ use std::marker::{Model, PhantomData};
 /// Contracts see it as the list of its units. Strings are equal if their units are, and go
 /// lexicographically.
 #[derive(Drop)]
-#[derive_where(Debug; U)]
 pub struct UnitString<U, K> {
     units: Vec<U>,
     kind: PhantomData<K>,

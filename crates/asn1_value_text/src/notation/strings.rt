@@ -1,8 +1,9 @@
 //! Strings in X.680's notation of values.
 
-use crate::characters::{character_numbers, shown_character, shown_text};
+use crate::characters::{character_numbers, shown_character};
 use crate::notation::{push_bits, push_octets};
 use asn1_types::{AnyStr, OctetKind};
+use asn1_values::shown::shown_text;
 use std::alloc::{AllocError, Global};
 use std::fmt::Write;
 

@@ -68,13 +68,7 @@ fn numbers_out_of_range_are_refused(rt: HostRuntime) {
 }
 
 /// Asserts how the number of this sign and magnitude is written.
-fn assert_hexadecimal(
-    rt: &impl Abort,
-    alloc: Global,
-    is_negative: bool,
-    magnitude: &[u8],
-    text: &str,
-) {
+fn assert_decimal(rt: &impl Abort, alloc: Global, is_negative: bool, magnitude: &[u8], text: &str) {
     let wide = number(rt, alloc, is_negative, magnitude);
     assert_written(rt, alloc, &wide, text);
 }
@@ -85,10 +79,10 @@ fn numbers_are_written(rt: HostRuntime) {
     let least = Integer::from_i128(i128::MIN);
     let text = "-170141183460469231731687303715884105728";
     assert_written(&rt, alloc, &least, text);
-    let text = "0x80000000000000000000000000000000";
-    assert_hexadecimal(&rt, alloc, false, &TWO_TO_127, text);
-    let text = "-0x0a0a0a0a0a0a0a0a0a0a0a0a0a0a0a0a0a";
-    assert_hexadecimal(&rt, alloc, true, &[0x0a; 17], text);
+    let text = "170141183460469231731687303715884105728";
+    assert_decimal(&rt, alloc, false, &TWO_TO_127, text);
+    let text = "-3416168075755303790063682333432653416970";
+    assert_decimal(&rt, alloc, true, &[0x0a; 17], text);
 }
 
 /// Asserts that a copy of the number, and one by way of the type's own conversions, is the same number.

@@ -1,6 +1,6 @@
 use Rattle.std.proofs.Common.{arith}
 use Rattle.asn1_ber.proofs.Cuts.{rest_within}
-use Rattle.asn1_convert.proofs.fronts.spelled_length.Goals as goal
+use Rattle.asn1_ber.proofs.reader.BerReader.front_length.Goals as goal
 
 pub overflow_sub-result : goal.overflow_sub-result
 overflow_sub-result c =

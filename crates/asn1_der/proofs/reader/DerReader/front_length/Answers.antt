@@ -1,7 +1,7 @@
 use Rattle.std.proofs.Common.{arith}
 use Rattle.asn1_der_items.proofs.TrailingBytes.{element_at-shorter}
 use Rattle.asn1_der_items.specs.Elements.{Element}
-use Rattle.asn1_convert.proofs.fronts.element_length.Goals as goal
+use Rattle.asn1_der.proofs.reader.DerReader.front_length.Goals as goal
 
 pub overflow_sub-result : goal.overflow_sub-result
 overflow_sub-result c =
