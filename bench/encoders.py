@@ -32,7 +32,7 @@ NAMES = {
     "Vec<u8>": "Numbers", "[u8;2]": "Numbers", "SetOf<u8>": "SetOfNumbers", "SetOf<i32>": "SetOfNumbers",
     "[31]bool": "TaggedFlag", "[1]bool": "ExplicitFlag", "[0]BitString": "TaggedBits", "[0]TeletexString": "TaggedTeletex",
     "[0]BmpString": "TaggedBmp", "[0]SetOf<u8>": "TaggedSet", "[201]String": "WrappedUtf8", "LdapMessage": "LDAPMessage",
-    "Any": "",
+    "Any": "", "UtcTime": "Utc", "GeneralizedTime": "Generalized",
 }
 NUMBERS = {"Integer", "1..10", "Box<u8>", "Cow<u8>", "u8", "u16", "u32", "u64", "i8", "i16", "i32", "i64", "i128", "isize"}
 SAME = {

@@ -34,8 +34,9 @@ decode(Octets, _) -> jiffy:decode(Octets, [return_maps]).
 """
 
 # Types of whose values Erlang's compiler makes none from some notations, or another: with additions, a component of a SET that is
-# absent, a list of their own values, {1 39}, characters by group, plane, row and cell, and those of a text that are not of ASCII.
-WITHOUT_VALUES = {"Profile", "Visit", "Badge", "Node", "Arcs", "Teletex", "Graphic", "Bmp", "Utf8"}
+# absent, a SET whose tags are not in the order of the definition, a list of their own values, {1 39}, characters by group, plane, row
+# and cell, and those of a text that are not of ASCII.
+WITHOUT_VALUES = {"Profile", "Visit", "Badge", "PersonnelRecord", "Node", "Arcs", "Teletex", "Graphic", "Bmp", "Utf8"}
 
 # Types of which Erlang makes no JSON: of octets beyond ASCII, and of a BMPString.
 WITHOUT_JSON = {"Teletex", "Graphic", "Bmp"}

@@ -8,6 +8,7 @@ ghost use Rattle.asn1_rules.specs.CanonicalReading.{IsWrittenAs};
 ghost use Rattle.std.specs.Prelude.{IfErr, IfOk, OnOk};
 
 use crate::differences::differing_element;
+use crate::failing_place::place_at;
 use crate::form::CodecForm;
 use crate::places::push_read_error;
 use asn1_certificate_rules::{Finding, Part, RuleSet, find_broken_rule};
@@ -64,9 +65,11 @@ pub(crate) fn check_line<T: Encode + Decode>(
     let mut text = String::new(alloc);
     match error {
         CheckError::Broken(Finding::Broken(broken)) => {
+            push_path::<T>(&mut text, alloc, octets, broken.position, depth)?;
             write!(&mut text, "{}, at octet {}", broken.rule, broken.position)?;
         }
         CheckError::Broken(Finding::Deeper(position)) => {
+            push_path::<T>(&mut text, alloc, octets, position, depth)?;
             write!(
                 &mut text,
                 "elements lie more than {depth} deep, at octet {position}"
@@ -89,6 +92,7 @@ pub(crate) fn check_line<T: Encode + Decode>(
         }
         CheckError::NotCanonical(CanonicalError::NotCanonical { at }) => {
             let position = differing_position::<T>(alloc, octets, at, depth);
+            push_path::<T>(&mut text, alloc, octets, position, depth)?;
             write!(
                 &mut text,
                 "writing the value makes other octets, at octet {position}"
@@ -97,6 +101,20 @@ pub(crate) fn check_line<T: Encode + Decode>(
     }
     text.push('\n')?;
     Ok(text)
+}
+
+/// Appends the path to the element at a position, if there is one.
+fn push_path<T: Decode>(
+    text: &mut String,
+    alloc: Global,
+    octets: &[u8],
+    position: usize,
+    depth: usize,
+) -> Result<(), AllocError> {
+    match place_at::<T>(alloc, octets, position, depth) {
+        Some(place) if !place.path.is_empty() => write!(text, "{}: ", place.path),
+        _ => Ok(()),
+    }
 }
 
 /// The position of octets behind the first element, if there are some.

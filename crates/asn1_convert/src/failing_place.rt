@@ -1,5 +1,6 @@
-//! The place in a value at which reading fails.
+//! The place in a value at which reading fails, and that of a position.
 
+use crate::element_numbers::element_numbers;
 use crate::form::CodecForm;
 use asn1_ber::BerDecoder;
 use asn1_ber_items::normal_form;
@@ -31,4 +32,20 @@ fn place_in<T: Decode, D: Decoder + Drop>(decoder: D) -> Option<Place> {
     let _ = T::decode(&mut noting);
     let (_decoder, place) = noting.into_parts();
     place.ok()
+}
+
+/// The place of the innermost element at a position that reading meets, if these octets of BER are read so far.
+pub(crate) fn place_at<T: Decode>(
+    alloc: Global,
+    octets: &[u8],
+    position: usize,
+    depth: usize,
+) -> Option<Place> {
+    let numbers = element_numbers(alloc, octets, position).ok()?;
+    let normal = normal_form(alloc, octets).ok()?;
+    let decoder = BerDecoder::new(alloc, normal.as_slice(), depth);
+    let mut looking = PathDecoder::looking_for(decoder, numbers);
+    let _ = T::decode(&mut looking);
+    let (_decoder, place) = looking.into_found();
+    place
 }

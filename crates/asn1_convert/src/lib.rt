@@ -29,6 +29,7 @@ mod arguments;
 mod causes;
 mod check;
 mod differences;
+mod element_numbers;
 mod failing_place;
 mod form;
 mod fronts;

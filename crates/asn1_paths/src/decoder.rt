@@ -27,6 +27,19 @@ impl<D: Decoder> PathDecoder<D> {
         PathDecoder { inner, path }
     }
 
+    /// A decoder that reads as this one does, and looks for an element: the numbers say how many elements are before it in each element
+    /// that it is inside of, from the outermost on.
+    pub fn looking_for(inner: D, element_numbers: Vec<usize>) -> PathDecoder<D> {
+        let path = Path::looking_for(inner.global(), element_numbers);
+        PathDecoder { inner, path }
+    }
+
+    /// The decoder that reads, and the place of the element that was looked for, or of the innermost one around it that was begun. There
+    /// is none if no element was begun, or memory ran out.
+    pub fn into_found(self) -> (D, Option<Place>) {
+        (self.inner, self.path.into_found())
+    }
+
     /// The decoder that reads, and where it came to.
     pub fn into_parts(self) -> (D, Result<Place, AllocError>) {
         let place = self.path.place();

@@ -7,7 +7,7 @@
 //! | [`push_component_names`], [`alternative_name`] | the names that tables have | |
 //!
 //! A codec's error has no place in a value (docs/DECISIONS.md), and a type's error names one component at most. So who wants the place
-//! reads the octets again with a [`PathDecoder`], of any codec, and asks it where it came to.
+//! reads the octets again with a [`PathDecoder`], of any codec, and asks it where it came to, or where an element lies that it was to look for.
 //!
 //! The contracts promise that the decoder opens scopes, closes them and fails as the one inside does (`path_reader`), so reading with it
 //! ends, nests as deep as that, and is total. No contract covers the place; the program test_converters shows it. If memory runs out, the place is shorter.

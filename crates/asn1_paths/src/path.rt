@@ -55,6 +55,10 @@ pub(crate) struct Path {
     names: Vec<String>,
     /// The limits of the element that was begun last.
     limits: Limits,
+    /// The element that is looked for: how many elements are before it in each element that it is inside of, from the outermost on.
+    wanted: Option<Vec<usize>>,
+    /// The place of that element, or else of the innermost one around it that has begun.
+    found: Option<Place>,
 }
 
 impl Path {
@@ -65,7 +69,16 @@ impl Path {
             scopes: Vec::new(alloc),
             names: Vec::new(alloc),
             limits: Limits::NONE,
+            wanted: None,
+            found: None,
         }
+    }
+
+    /// The place before a value in which an element is looked for.
+    pub(crate) fn looking_for(alloc: Global, element_numbers: Vec<usize>) -> Path {
+        let mut path = Path::new(alloc);
+        path.wanted = Some(element_numbers);
+        path
     }
 
     /// Goes to the next component or element, which is an element of the codec under these limits.
@@ -73,6 +86,35 @@ impl Path {
         self.begin_part();
         self.count_element();
         self.limits = limits;
+        self.note_if_wanted();
+    }
+
+    /// Notes the place of the element that was begun last if it is the wanted one or around that.
+    fn note_if_wanted(&mut self) {
+        if let Some(wanted) = &self.wanted
+            && self.leads_to(wanted.as_slice())
+        {
+            self.found = self.place().ok();
+        }
+    }
+
+    /// Whether the element that was begun last is the one that these numbers lead to, or around it.
+    fn leads_to(&self, wanted: &[usize]) -> bool {
+        let mut left = wanted;
+        for scope in self.scopes.as_slice() {
+            if scope.kind.is_element() && scope.elements > 0 {
+                match left {
+                    [number, rest @ ..] if *number == scope.elements - 1 => left = rest,
+                    _ => return false,
+                }
+            }
+        }
+        true
+    }
+
+    /// The place that was looked for, if it was found.
+    pub(crate) fn into_found(self) -> Option<Place> {
+        self.found
     }
 
     /// Goes to the next component or element.

@@ -1,4 +1,5 @@
 //! The texts of a value.
+use crate::others::Others;
 use crate::request::Request;
 use asn1_dec::Decode;
 use asn1_der::DerRules;
@@ -13,7 +14,10 @@ use test_calls::{TypeCase, TypeNames};
 const DEPTH: usize = 16;
 
 /// The types of the lines.
-const TYPES: (Items, (Strings, (Sequences, Samples))) = (Items, (Strings, (Sequences, Samples)));
+const TYPES: (Items, (Strings, (Sequences, (Samples, Others)))) = (
+    Items,
+    (Strings, (Sequences, (Samples, Others))),
+);
 
 /// The texts of the value of a request, or why there are none.
 pub(crate) fn texts_of(alloc: Global, request: &Request<'_>) -> Result<String, AllocError> {

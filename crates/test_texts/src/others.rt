@@ -1,0 +1,24 @@
+//! Types of lines that no list of `test_calls` has together.
+use asn1_samples::Envelope;
+use asn1_samples::personnel::PersonnelRecord;
+use asn1_schema::{GeneralizedTime, UtcTime};
+use asn1_types::Any;
+use test_calls::{TypeCase, TypeNames};
+
+/// Open types, times, a list of lists, and X.690's example.
+#[derive(Clone, Copy, Drop)]
+pub(crate) struct Others;
+
+impl TypeNames for Others {
+    fn try_named<C: TypeCase>(&self, case: &C, name: &str) -> Option<C::Answer> {
+        match name {
+            "Any" => Some(case.try_type::<Any>()),
+            "Envelope" => Some(case.try_type::<Envelope>()),
+            "GeneralizedTime" => Some(case.try_type::<GeneralizedTime>()),
+            "PersonnelRecord" => Some(case.try_type::<PersonnelRecord>()),
+            "UtcTime" => Some(case.try_type::<UtcTime>()),
+            "Vec<Vec<bool>>" => Some(case.try_type::<Vec<Vec<bool>>>()),
+            _ => None,
+        }
+    }
+}
