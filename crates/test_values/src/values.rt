@@ -3,3 +3,4 @@ mod character_strings;
 mod errors;
 mod integers;
 mod object_identifiers;
+mod shown;
