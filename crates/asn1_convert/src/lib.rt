@@ -3,12 +3,11 @@
 //! | Item | What it is | In `specs/` |
 //! |---|---|---|
 //! | [`run`], [`TypeList`] | the program over a list of types | |
-//! | [`Task`], [`Action`], [`Answer`] | what is asked of the octets of values of a type, and what is written for it | |
+//! | [`Task`], [`Action`], [`Answer`], [`Progress`] | what is asked of the octets of values of a type, and what is written for it | |
 //! | [`convert_values`], [`Conversion`], [`Stop`], [`Cause`] | values one after another, in another form | `Conversions` |
 //! | [`convert_value`], [`recode_between`] | the octets of one value | `Conversions` |
 //! | [`front_length`] | how many octets the first value of an input has | `Forms` |
 //! | [`check_der`], [`CheckError`] | whether octets are the DER of a type, and if not why | `Checks` |
-//! | [`stop_line`] | the line for a value that was not converted: its octets, where in it and why | |
 //! | [`CodecForm`], [`OutputForm`] | the forms of values: DER, BER, packed octets, X.680's notation and JSON | |
 //!
 //! The contracts promise:
@@ -22,7 +21,8 @@
 //!   (`keeps`). An error is a true reason (`departs`).
 //!
 //! No contract covers texts in X.680's notation (`asn1_value_text`), nor the words of a line on standard error, nor the place that it
-//! names (`asn1_paths`); the stored run of test_converters shows them. A program keeps its whole input in memory.
+//! names (`asn1_paths`); the stored run of test_converters shows them. A program converts its input as it comes, and keeps
+//! the octets of the value that is not there whole, at most as many again, and those of `--check` and `--hex`.
 #![tactic(auto)]
 
 mod arguments;
@@ -34,6 +34,7 @@ mod failing_place;
 mod form;
 mod fronts;
 mod hexadecimal;
+mod pieces;
 mod places;
 mod program;
 mod recoding;
@@ -46,6 +47,5 @@ pub use form::{CodecForm, OutputForm};
 pub use fronts::front_length;
 pub use program::run;
 pub use recoding::{convert_value, recode_between};
-pub use report::stop_line;
 pub use stream::{Cause, Conversion, Stop, convert_values};
-pub use task::{Action, Answer, Task, TypeList};
+pub use task::{Action, Answer, Progress, Task, TypeList};

@@ -3,27 +3,33 @@
 use crate::form::CodecForm;
 use crate::places::push_read_error;
 use crate::stream::{Cause, Stop};
+use crate::task::Task;
 use asn1_dec::Decode;
 use asn1_items::ItemError;
 use asn1_rules::RecodeError;
-use std::alloc::{AllocError, Global};
+use std::alloc::AllocError;
 use std::fmt::Write;
 
-/// The line for a value of an input that was not converted: its number, from 1, its octets, and where in it and why.
-pub fn stop_line<T: Decode>(
-    alloc: Global,
+/// The line for a value of a task that was not converted: its number in the input, from 1, its octets, and where in it and why.
+pub(crate) fn stop_line<T: Decode>(
+    task: Task<'_>,
     from: CodecForm,
-    input: &[u8],
     stop: Stop,
-    depth: usize,
 ) -> Result<String, AllocError> {
-    let mut text = format!(in alloc; "value {}, ", stop.before.saturating_add(1))?;
-    push_octets(&mut text, stop.start, stop.length)?;
+    let alloc = task.alloc;
+    let number = task
+        .before
+        .values
+        .saturating_add(stop.before)
+        .saturating_add(1);
+    let start = task.before.octets.saturating_add(stop.start);
+    let mut text = format!(in alloc; "value {number}, ")?;
+    push_octets(&mut text, start, stop.length)?;
     text.push_str(": ")?;
     match stop.cause {
         Cause::NotRecoded(RecodeError::Read(error)) => {
-            let octets = octets_of(input, stop.start, stop.length);
-            push_read_error::<T>(&mut text, alloc, from, octets, stop.start, error, depth)?;
+            let octets = octets_of(task.input, stop.start, stop.length);
+            push_read_error::<T>(&mut text, alloc, from, octets, start, error, task.depth)?;
         }
         Cause::NotRecoded(RecodeError::Write(error)) => write!(&mut text, "not written: {error}")?,
         Cause::NoFront(ItemError::Missing(_)) => text.push_str("the input ends inside it")?,

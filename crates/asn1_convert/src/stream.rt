@@ -1,7 +1,7 @@
 //! Values one after another.
 ghost use Rattle.asn1_convert.specs.Forms.{IsFront};
 ghost use Rattle.asn1_convert.specs.Conversions.{HasAppended, HasConverted, HaveConverted, IsCause, IsStop, IsValueCause};
-ghost use Rattle.std.specs.Prelude.{◌≡◌, [], IfOk, IfSome, MatchOption, MatchResult, ℕ};
+ghost use Rattle.std.specs.Prelude.{◌≡◌, [], IfOk, IfSome, MatchOption, MatchResult};
 
 use crate::form::{CodecForm, OutputForm};
 use crate::fronts::front_length;
@@ -43,6 +43,8 @@ pub struct Stop {
 /// The conversion of the values of an input, and its stop, if it did not come to the end.
 #[derive(Debug, Drop)]
 pub struct Conversion {
+    /// How many values were converted.
+    pub count: usize,
     /// The conversions of the values, one after another.
     pub output: Vec<u8>,
     /// The value that was not converted.
@@ -58,9 +60,10 @@ pub fn convert_values<T: Encode + Decode>(
     depth: usize,
 ) -> Conversion
     ensures { MatchOption result.stop
-        ((count : ℕ) × HaveConverted T.meaning T.eq T.refusals depth from to input.now [] result.output.items
-        count)
-        (IsStop T.meaning T.eq T.refusals depth from to input.now result.output.items) }
+        (HaveConverted T.meaning T.eq T.refusals depth from to input.now [] result.output.items
+        result.count)
+        (λ stop. IsStop T.meaning T.eq T.refusals depth from to input.now result.output.items stop ×
+        (stop.before ≡ result.count)) }
 {
     let mut rest = input;
     let mut before = 0;
@@ -77,6 +80,7 @@ pub fn convert_values<T: Encode + Decode>(
                     cause: refused.cause,
                 };
                 return Conversion {
+                    count: before,
                     output,
                     stop: Some(stop),
                 };
@@ -84,7 +88,11 @@ pub fn convert_values<T: Encode + Decode>(
         }
         before += 1;
     }
-    Conversion { output, stop: None }
+    Conversion {
+        count: before,
+        output,
+        stop: None,
+    }
 }
 
 /// A value that was not converted.

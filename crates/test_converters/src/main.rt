@@ -16,7 +16,7 @@ mod types;
 
 use crate::request::Request;
 use crate::types::Types;
-use asn1_convert::{Action, Answer, OutputForm, Task, TypeList};
+use asn1_convert::{Action, Answer, OutputForm, Progress, Task, TypeList};
 use std::alloc::{AllocError, Global};
 use std::io::{self, BufRead, BufReader};
 
@@ -39,6 +39,7 @@ fn main(rt: HostRuntime) -> io::Result<()> {
 fn text_of(alloc: Global, request: &Request<'_>) -> Result<String, AllocError> {
     let task = Task {
         alloc,
+        before: Progress::default(),
         input: &request.octets,
         action: request.action,
         depth: DEPTH,
