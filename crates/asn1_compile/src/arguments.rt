@@ -46,6 +46,12 @@ fn command<'a>(alloc: Global) -> Result<Command<'a>, AllocError> {
         .help(
             "Write, beside the crate, the program CRATE_convert, which converts values of its types",
         );
+    let exports = Arg::new(alloc, "exports")
+        .long("exports")
+        .action(ArgAction::SetTrue)
+        .help(
+            "Write, beside the crate, the crate CRATE_c, which exports calls for its types to C, Rust and Python",
+        );
     let check = Arg::new(alloc, "check")
         .long("check")
         .action(ArgAction::SetTrue)
@@ -57,6 +63,7 @@ fn command<'a>(alloc: Global) -> Result<Command<'a>, AllocError> {
         .arg(externs)?
         .arg(extern_modules)?
         .arg(program)?
+        .arg(exports)?
         .arg(check)?
         .arg(name)?
         .arg(files)

@@ -1,7 +1,7 @@
 //! The line for a value that was not converted.
 
 use crate::form::CodecForm;
-use crate::places::push_read_error;
+use crate::places::read_failure;
 use crate::stream::{Cause, Stop};
 use asn1_dec::Decode;
 use asn1_items::ItemError;
@@ -23,7 +23,9 @@ pub fn stop_line<T: Decode>(
     match stop.cause {
         Cause::NotRecoded(RecodeError::Read(error)) => {
             let octets = octets_of(input, stop.start, stop.length);
-            push_read_error::<T>(&mut text, alloc, from, octets, stop.start, error, depth)?;
+            let failure = read_failure::<T>(alloc, from, octets, error, depth)?;
+            text.push_str(failure.words.as_str())?;
+            push_position(&mut text, stop.start, failure.position)?;
         }
         Cause::NotRecoded(RecodeError::Write(error)) => write!(&mut text, "not written: {error}")?,
         Cause::NoFront(ItemError::Missing(_)) => text.push_str("the input ends inside it")?,
@@ -45,6 +47,18 @@ fn push_octets(text: &mut String, start: usize, length: Option<usize>) -> Result
             )
         }
         _ => write!(text, "octet {start}"),
+    }
+}
+
+/// Appends the octet of a position in octets that begin here, if it is known.
+pub(crate) fn push_position(
+    text: &mut String,
+    start: usize,
+    position: Option<usize>,
+) -> Result<(), AllocError> {
+    match position {
+        Some(position) => write!(text, ", at octet {}", start.saturating_add(position)),
+        None => Ok(()),
     }
 }
 
