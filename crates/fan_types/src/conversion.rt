@@ -5,7 +5,7 @@ ghost use Rattle.asn1_convert.specs.declared.form.OutputForm.TheVariants.{Codec,
 ghost use Rattle.fan_calls.specs.Results.{LacksRoom, Puts};
 ghost use Rattle.fan_calls.specs.Statuses.{FAN_DEEP, FAN_FAULT, FAN_MEMORY, FAN_OK, FAN_ROOM};
 ghost use Rattle.fan_calls.specs.declared.status.Status.TheVariants as status;
-ghost use Rattle.fan_types.specs.Conversions.{IsConversion, IsNotConverted};
+ghost use Rattle.fan_types.specs.Conversions.{IsConversion, IsDerMade, IsJsonMade, IsNotConverted};
 
 use crate::refusal::status_of_recoding;
 use asn1_convert::{CodecForm, OutputForm, convert_value};
@@ -24,14 +24,14 @@ pub fn der<T: Encode + Decode>(
 ) -> i32
     ensures statuses { (result ≡ FAN_OK) ⊎ ((result ≡ FAN_FAULT) ⊎
         ((result ≡ FAN_ROOM) ⊎ ((result ≡ FAN_MEMORY) ⊎ (result ≡ FAN_DEEP)))) }
-    ensures written { result ≡ FAN_OK → Puts
-        (IsConversion T.meaning T.eq T.refusals octets.now (Codec Der)) out.old out.new size.new }
+    ensures written { result ≡ FAN_OK →
+        Puts (IsDerMade T.meaning T.eq octets.now) out.old out.new size.new }
+    ensures no_room { result ≡ FAN_ROOM →
+        LacksRoom (IsDerMade T.meaning T.eq octets.now) out.old out.new size.new }
     ensures refused { result ≡ FAN_FAULT →
         IsNotConverted T.meaning T.eq T.refusals octets.now (Codec Der) status.Fault }
     ensures deep { result ≡ FAN_DEEP →
         IsNotConverted T.meaning T.eq T.refusals octets.now (Codec Der) status.Deep }
-    ensures no_room { result ≡ FAN_ROOM → LacksRoom
-        (IsConversion T.meaning T.eq T.refusals octets.now (Codec Der)) out.old out.new size.new }
     ensures stays { result ≢ FAN_OK → out.new ≡ out.old }
 {
     convert::<T>(alloc, octets, OutputForm::Codec(CodecForm::Der), out, size).number()
@@ -70,14 +70,12 @@ pub fn json<T: Encode + Decode>(
 ) -> i32
     ensures statuses { (result ≡ FAN_OK) ⊎ ((result ≡ FAN_FAULT) ⊎
         ((result ≡ FAN_ROOM) ⊎ ((result ≡ FAN_MEMORY) ⊎ (result ≡ FAN_DEEP)))) }
-    ensures written { result ≡ FAN_OK → Puts
-        (IsConversion T.meaning T.eq T.refusals octets.now Json) out.old out.new size.new }
+    ensures written { result ≡ FAN_OK → Puts IsJsonMade out.old out.new size.new }
+    ensures no_room { result ≡ FAN_ROOM → LacksRoom IsJsonMade out.old out.new size.new }
     ensures refused { result ≡ FAN_FAULT →
         IsNotConverted T.meaning T.eq T.refusals octets.now Json status.Fault }
     ensures deep { result ≡ FAN_DEEP →
         IsNotConverted T.meaning T.eq T.refusals octets.now Json status.Deep }
-    ensures no_room { result ≡ FAN_ROOM → LacksRoom
-        (IsConversion T.meaning T.eq T.refusals octets.now Json) out.old out.new size.new }
     ensures stays { result ≢ FAN_OK → out.new ≡ out.old }
 {
     convert::<T>(alloc, octets, OutputForm::Json, out, size).number()
