@@ -28,7 +28,7 @@ struct fan_element {
 /* The element of DER with which the octets begin, whatever follows it. FAN_FAULT: none does. */
 int32_t fan_der_element(const uint8_t *octets, size_t octets_length, struct fan_element *element);
 
-/* The text of the INTEGER with these contents octets: decimal digits if it fits 128 bits, else hexadecimal ones after 0x.
+/* The decimal digits of the INTEGER with these contents octets.
  * FAN_FAULT: no octets, or one more than need be. FAN_ROOM, FAN_MEMORY. */
 int32_t fan_integer_text(const uint8_t *octets, size_t octets_length, uint8_t *text, size_t text_length, size_t *size);
 

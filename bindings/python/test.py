@@ -49,7 +49,7 @@ def try_rows(path):
 
 def serial_number(certificate):
     serial = fan.der_element(fan.certificate_part(certificate, fan.Part.SERIAL_NUMBER))
-    return int(fan.integer_text(serial.contents), 0)
+    return int(fan.integer_text(serial.contents))
 
 
 def openssl(certificate, *words):

@@ -112,7 +112,7 @@ def der_element(octets: bytes) -> Element:
 
 
 def integer_text(octets: bytes) -> str:
-    """The text of the INTEGER with these contents octets: decimal digits if it fits 128 bits, else hexadecimal ones after 0x."""
+    """The decimal digits of the INTEGER with these contents octets."""
     return _result(_integer_text, octets, 40).decode()
 
 

@@ -104,7 +104,7 @@ pub fn der_element(octets: &[u8]) -> Result<Element<'_>, Error> {
     Ok(Element { class: class_of(raw.tag_class), number: raw.number, constructed: raw.constructed, contents, rest })
 }
 
-/// The text of the INTEGER with these contents octets: decimal digits if it fits 128 bits, else hexadecimal ones after `0x`.
+/// The decimal digits of the INTEGER with these contents octets.
 ///
 /// # Errors
 /// [`Error::Malformed`] without octets, or with one more than need be, and [`Error::Memory`].

@@ -19,9 +19,9 @@
 //! No contract covers the position and the words of a refusal.
 #![tactic(auto)]
 
-mod check;
+mod checking;
 mod conversion;
 mod refusal;
 
-pub use check::check;
+pub use checking::check;
 pub use conversion::{der, json, text};
