@@ -1,5 +1,5 @@
 /* Octets of values of the types of greetings, for C and C++: libgreetings_c.a. fan_calls.h has the statuses and what each call asks of its
- * caller. Of a TYPE:
+ * caller. For each type there are:
  *
  * - TYPE_check: FAN_OK if the octets are the DER of a value. FAN_FAULT if not: *position is the octet, if that is known, and else 0, and
  *   the text says why. FAN_ROOM: the text needs *size octets. FAN_MEMORY, FAN_DEEP.

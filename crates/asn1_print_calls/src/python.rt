@@ -5,7 +5,7 @@ use crate::files::Parts;
 pub(crate) const PARTS: Parts = Parts {
     head: "\"\"\"Octets of values of the types of @crate@, by proved code: lib@crate@_c.so beside this file.
 
-Of a TYPE: `TYPE_check` raises `Fault` unless octets are the DER of a value. `TYPE_der`, `TYPE_text` and `TYPE_json` answer the value whose
+For each type `TYPE_check` raises `Fault` unless octets are the DER of a value. `TYPE_der`, `TYPE_text` and `TYPE_json` answer the value whose
 BER octets are as DER, in X.680's notation and as JSON, and raise `Fault` of others. Each raises `Deep` if the scopes of the value are
 nested more than 64 deep. ctypes lets other threads run during a call, and calls share nothing.
 \"\"\"

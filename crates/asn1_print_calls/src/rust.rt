@@ -5,7 +5,7 @@ use crate::files::Parts;
 pub(crate) const PARTS: Parts = Parts {
     head: "//! Octets of values of the types of @crate@, by proved code: lib@crate@_c.a.
 //!
-//! Of a TYPE: `TYPE_check` succeeds if octets are the DER of a value. `TYPE_der`, `TYPE_text` and `TYPE_json` answer the value whose BER
+//! For each type `TYPE_check` succeeds if octets are the DER of a value. `TYPE_der`, `TYPE_text` and `TYPE_json` answer the value whose BER
 //! octets are as DER, in X.680's notation and as JSON.
 use std::fmt;
 
