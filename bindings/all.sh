@@ -1,6 +1,6 @@
 #!/bin/bash
-# Builds libfanughespu.a and the bindings to C, Rust and Python, and runs their tests. Its last line is "N passed, M failed".
-# FANUGHESPU_LIB, if set, is a folder with a library that is built; else `rt lib` proves and builds one.
+# Builds libfanughespu.a and libgreetings_c.a and the bindings to C, Rust and Python, and runs their tests. Its last line is
+# "N passed, M failed". FANUGHESPU_LIB, if set, is a folder with both libraries; else `rt lib` proves and builds them.
 set -u
 cd "$(dirname "$0")" || exit 2
 build=${FANUGHESPU_BUILD:-$(mktemp -d)}
@@ -30,11 +30,11 @@ tests() {
 }
 
 build_library() {
-    rm -rf ../crates/fanughespu/out
-    local start=$SECONDS
-    (cd ../crates/fanughespu && rt lib) > "$build/rt_lib" 2>&1 || { tail -20 "$build/rt_lib"; return 1; }
-    took=$((SECONDS - start))
-    cp ../crates/fanughespu/out/libfanughespu.a "$build/"
+    local start=$SECONDS name=$1
+    rm -rf "../crates/$name/out"
+    (cd "../crates/$name" && rt lib) > "$build/rt_lib" 2>&1 || { tail -20 "$build/rt_lib"; return 1; }
+    cp "../crates/$name/out/lib$name.a" "$build/"
+    echo "rt lib of $name took $((SECONDS - start)) s, with the crates below as they were kept" >> "$build/times"
 }
 
 # The certificates of the machine, as DER.
@@ -52,7 +52,7 @@ PYTHON
 c_warnings="-std=c11 -Wall -Wextra -Werror -pedantic"
 build_c() {
     local name
-    for name in example rows certificates; do
+    for name in example damaged rows certificates texts; do
         gcc $c_warnings -O1 -g -Ic "c/$name.c" c/heap.c "$build/libfanughespu.a" -pthread -o "$build/$name.c.out" || return 1
     done
     gcc $c_warnings -O1 -g -Ic c/no_memory.c "$build/libfanughespu.a" -o "$build/no_memory.c.out" || return 1
@@ -73,27 +73,47 @@ rust_tests() {
 }
 
 if [ -n "${FANUGHESPU_LIB:-}" ]; then
-    step "library that was built before" cp "$FANUGHESPU_LIB/libfanughespu.a" "$build/"
+    step "libraries that were built before" cp "$FANUGHESPU_LIB/libfanughespu.a" "$FANUGHESPU_LIB/libgreetings_c.a" "$build/"
 else
-    took=0
-    step "rt lib" build_library
-    echo "rt lib took $took s, with the crates below as they were kept"
+    for name in fanughespu greetings_c; do
+        step "rt lib of $name" build_library $name
+    done
+    cat "$build/times"
 fi
 step "certificates of the machine" make_certificates
 certificates=("$build"/certificates/*.der)
+texts=(../examples/certificates/*.txt ../examples/ldap/*.txt)
 
 step "C" build_c
 tests "rows in C" "$build/rows.c.out" rows.txt
 tests "no memory in C" "$build/no_memory.c.out"
 step "example" "$build/example.c.out" "${certificates[0]}"
+tests "texts in C" "$build/texts.c.out" 1 "${texts[@]}"
 tests "certificates in C" "$build/certificates.c.out" 3 "${certificates[@]}"
 step "rows under valgrind" valgrind -q --error-exitcode=9 "$build/rows.c.out" rows.txt
+step "texts under valgrind" valgrind -q --error-exitcode=9 --leak-check=full "$build/texts.c.out" 97 "${texts[@]:0:1}" ../examples/ldap/add.txt
 step "certificates under valgrind" valgrind -q --error-exitcode=9 --leak-check=full "$build/certificates.c.out" 1 "${certificates[@]:0:2}"
 
 tests "Rust" rust_tests
 
 step "shared object" build_module
-tests "Python" env PYTHONPATH="$build/python" python3 "$build/python/test.py" "$PWD/rows.txt" "${certificates[@]}"
+tests "Python" env PYTHONPATH="$build/python" python3 "$build/python/test.py" "$PWD/rows.txt" "$PWD/../examples" "${certificates[@]}"
+
+greetings=../crates/greetings_c
+build_greetings() {
+    gcc $c_warnings -O1 -g -Ic -I$greetings greetings/rows.c c/heap.c "$build/libgreetings_c.a" -o "$build/greetings.c.out" || return 1
+    echo '#include "greetings.h"' > "$build/greetings.cc"
+    g++ -std=c++17 -Wall -Wextra -Werror -Ic -I$greetings -c "$build/greetings.cc" -o "$build/greetings.o" || return 1
+    rustc --edition 2024 -D warnings -A dead_code -L "$build" greetings/rows.rs -o "$build/greetings.rust.out" || return 1
+    cp $greetings/greetings.py greetings/test.py "$build/"
+    gcc -O2 -shared -fPIC -o "$build/libgreetings_c.so" c/heap.c -Wl,--whole-archive "$build/libgreetings_c.a" \
+        -Wl,--no-whole-archive -Wl,-z,defs -Wl,-z,text -Wl,--version-script=greetings/version.map
+}
+step "greetings" build_greetings
+tests "greetings in C" "$build/greetings.c.out" greetings/rows.txt
+step "greetings under valgrind" valgrind -q --error-exitcode=9 --leak-check=full "$build/greetings.c.out" greetings/rows.txt
+tests "greetings in Rust" "$build/greetings.rust.out"
+tests "greetings in Python" python3 "$build/test.py" greetings/rows.txt
 
 passed=$(grep -c "^ok" "$log")
 failed=$(grep -c "^FAILED" "$log")

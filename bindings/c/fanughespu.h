@@ -1,37 +1,14 @@
-/* Fanughespu for C and C++: DER, BER, certificates.
- *
- * Each function ends, and reads and writes only the memory that its arguments name, if its caller keeps these rules:
- *
- * - `const uint8_t *x, size_t x_length` are octets that are read, and `uint8_t *x, size_t x_length` octets that may be written. The
- *   pointer may be NULL if the length is 0. A length is below 2^63.
- * - Variables that a function writes have a value before (`size_t position = 0;`).
- * - Memory that is written overlaps no other memory of the call, and no other thread uses it during the call.
- * - malloc, realloc and free belong to one allocator. No call is made in a signal handler, nor in the child of a fork of a process
- *   with threads.
- *
- * No memory is kept after a call, so there is nothing to free, and threads may call at once. A result goes into the memory of the
- * caller, from its front on, without a zero at its end, and its length into *size, also with FAN_ROOM. So a call with a length of 0
- * asks for the length. Positions are those of octets, from 0. Variables and memory that no status names are as before. */
+/* Fanughespu for C and C++: DER, BER, certificates, messages of LDAP. fan_calls.h has the statuses and the rules of a call. */
 #ifndef FANUGHESPU_H
 #define FANUGHESPU_H
 
-#include <stdbool.h>
-#include <stddef.h>
-#include <stdint.h>
+#include "fan_calls.h"
 
 #ifdef __cplusplus
 extern "C" {
 #endif
 
 #define FAN_VERSION 1
-
-enum {
-    FAN_OK = 0,     /* the function did what its comment says */
-    FAN_FAULT = 1,  /* the octets are at fault */
-    FAN_ROOM = 2,   /* the result needs *size octets; the memory is as before */
-    FAN_MEMORY = 3, /* malloc or realloc failed */
-    FAN_DEEP = 4    /* octets lie inside more than 64 elements */
-};
 
 /* The version of these functions: FAN_VERSION of the header that belongs to the library. */
 uint32_t fan_version(void);
@@ -51,13 +28,17 @@ struct fan_element {
 /* The element of DER with which the octets begin, whatever follows it. FAN_FAULT: none does. */
 int32_t fan_der_element(const uint8_t *octets, size_t octets_length, struct fan_element *element);
 
-/* The text of the INTEGER with these contents octets: decimal digits if it fits 128 bits, else hexadecimal ones after 0x.
+/* The decimal digits of the INTEGER with these contents octets.
  * FAN_FAULT: no octets, or one more than need be. FAN_ROOM, FAN_MEMORY. */
 int32_t fan_integer_text(const uint8_t *octets, size_t octets_length, uint8_t *text, size_t text_length, size_t *size);
 
 /* The elements of BER that the octets are, with definite lengths of the fewest octets. Contents octets of primitive elements stay.
  * FAN_FAULT: the octets are no elements of BER. FAN_ROOM, FAN_MEMORY, FAN_DEEP. */
 int32_t fan_ber_normal(const uint8_t *octets, size_t octets_length, uint8_t *out, size_t out_length, size_t *size);
+
+/* The lines of the report of the certificate whose DER the octets are, with a line feed at the end.
+ * FAN_FAULT: they are no certificate, and the text says why and at which byte. FAN_ROOM, FAN_MEMORY, FAN_DEEP. */
+int32_t fan_certificate_report(const uint8_t *octets, size_t octets_length, uint8_t *text, size_t text_length, size_t *size);
 
 enum {
     FAN_LONG_IDENTIFIER = 1, /* X.690, 8.1.2 */
@@ -90,6 +71,12 @@ enum {
 
 /* An element of a certificate: it begins at *position and has *size octets. FAN_FAULT: the octets have no such element. */
 int32_t fan_certificate_part(const uint8_t *octets, size_t octets_length, uint32_t part, size_t *position, size_t *size);
+
+/* The lines of the messages of LDAP with which the octets begin, in BER, and in *used how many octets these messages have. A message that
+ * is not understood has a line that says so. FAN_OK: behind them is nothing, or an element that the octets end inside: call again with
+ * the octets from *used on, and more. FAN_FAULT: what is behind them begins no message; the text has the lines before it. FAN_ROOM,
+ * FAN_MEMORY. */
+int32_t fan_ldap_lines(const uint8_t *octets, size_t octets_length, uint8_t *text, size_t text_length, size_t *size, size_t *used);
 
 #ifdef __cplusplus
 }

@@ -49,7 +49,7 @@ def try_rows(path):
 
 def serial_number(certificate):
     serial = fan.der_element(fan.certificate_part(certificate, fan.Part.SERIAL_NUMBER))
-    return int(fan.integer_text(serial.contents), 0)
+    return int(fan.integer_text(serial.contents))
 
 
 def openssl(certificate, *words):
@@ -80,6 +80,34 @@ def try_certificates(certificates):
     tell("serial numbers are those of OpenSSL", all(serial_number(c) == serial_of_openssl(c) for c in some))
 
 
+def report_of(octets):
+    try:
+        return fan.certificate_report(octets)
+    except fan.Fault as fault:
+        return str(fault)
+
+
+def try_texts(examples):
+    certificates = sorted((examples / "certificates").glob("*.der"))
+    tell("reports", certificates and all(report_of(c.read_bytes()) == c.with_suffix(".txt").read_text() for c in certificates))
+    tell("a cut certificate", all("byte" in report_of(c.read_bytes()[:60]) for c in certificates))
+    streams = sorted((examples / "ldap").glob("*.ber"))
+    tell("lines of LDAP", streams and all(lines_of(s.read_bytes(), 10**6) == s.with_suffix(".txt").read_text() for s in streams))
+    tell("lines of LDAP in pieces", all(lines_of(s.read_bytes(), 100) == s.with_suffix(".txt").read_text() for s in streams))
+
+
+def lines_of(stream, piece):
+    """The lines of a stream that comes in pieces of this length."""
+    text, octets = "", b""
+    for at in range(0, len(stream), piece):
+        octets += stream[at : at + piece]
+        lines = fan.ldap_lines(octets)
+        text, octets = text + lines.text, octets[lines.used :]
+        if lines.is_damaged:
+            return text + "damaged"
+    return text
+
+
 def try_threads(certificates):
     wrong = []
 
@@ -99,6 +127,7 @@ def try_threads(certificates):
 if __name__ == "__main__":
     tell("version", fan.version() == 1)
     try_rows(Path(sys.argv[1]))
-    all_certificates = [Path(name).read_bytes() for name in sys.argv[2:]]
+    try_texts(Path(sys.argv[2]))
+    all_certificates = [Path(name).read_bytes() for name in sys.argv[3:]]
     try_certificates(all_certificates)
     try_threads(all_certificates)

@@ -1,4 +1,4 @@
-"""DER, BER and certificates by proved code.
+"""DER, BER, certificates and messages of LDAP by proved code.
 
 A call takes `bytes` and answers values of Python. ctypes lets other threads run during a call, and calls share nothing.
 """
@@ -36,6 +36,8 @@ _integer_text = _call("fan_integer_text", _octets, _size, _octets, _size, _to_si
 _ber_normal = _call("fan_ber_normal", _octets, _size, _octets, _size, _to_size)
 _broken_rule = _call("fan_certificate_broken_rule", _octets, _size, ctypes.POINTER(ctypes.c_uint32), _to_size)
 _part = _call("fan_certificate_part", _octets, _size, ctypes.c_uint32, _to_size, _to_size)
+_report = _call("fan_certificate_report", _octets, _size, _octets, _size, _to_size)
+_ldap_lines = _call("fan_ldap_lines", _octets, _size, _octets, _size, _to_size, _to_size)
 _version = _call("fan_version")
 
 
@@ -43,8 +45,8 @@ class Fault(ValueError):
     """The octets are not what the call reads. `position` is the first octet, from 0, at which an element is due and none begins, if
     the call tells it."""
 
-    def __init__(self, position: int | None = None):
-        super().__init__("the octets are not what is read" if position is None else f"no element begins at octet {position}")
+    def __init__(self, position: int | None = None, message: str = "the octets are not what is read"):
+        super().__init__(message if position is None else f"no element begins at octet {position}")
         self.position = position
 
 
@@ -68,6 +70,15 @@ class BrokenRule(NamedTuple):
 
     rule: int
     position: int
+
+
+class LdapLines(NamedTuple):
+    """The lines of the messages of LDAP with which octets begin, how many octets these have, and whether what is behind them begins no
+    message. Else there is nothing, or they end inside an element."""
+
+    text: str
+    used: int
+    is_damaged: bool
 
 
 class Element(NamedTuple):
@@ -101,13 +112,31 @@ def der_element(octets: bytes) -> Element:
 
 
 def integer_text(octets: bytes) -> str:
-    """The text of the INTEGER with these contents octets: decimal digits if it fits 128 bits, else hexadecimal ones after 0x."""
+    """The decimal digits of the INTEGER with these contents octets."""
     return _result(_integer_text, octets, 40).decode()
 
 
 def ber_normal(octets: bytes) -> bytes:
     """The elements of BER that the octets are, with definite lengths of the fewest octets. Raises `Fault` or `Deep`."""
     return _result(_ber_normal, octets, len(octets))
+
+
+def certificate_report(octets: bytes) -> str:
+    """The lines of the report of the certificate whose DER the octets are. Raises `Fault` with the reason and the byte, or `Deep`."""
+    status, text = _written(_report, octets, 4096)
+    if status == _FAULT:
+        raise Fault(None, text.decode(errors="replace"))
+    _raise(status, None)
+    return text.decode(errors="replace")
+
+
+def ldap_lines(octets: bytes) -> LdapLines:
+    """The lines of the messages of LDAP with which the octets begin, in BER."""
+    used = _size()
+    status, text = _written(_ldap_lines, octets, 4096, used)
+    if status != _FAULT:
+        _raise(status, None)
+    return LdapLines(text.decode(errors="replace"), used.value, status == _FAULT)
 
 
 def certificate_broken_rule(octets: bytes) -> BrokenRule | None:
@@ -127,12 +156,17 @@ def certificate_part(octets: bytes, part: Part) -> bytes:
 
 
 def _result(call, octets, room):
+    status, out = _written(call, octets, room)
+    _raise(status, None)
+    return out
+
+
+def _written(call, octets, room, *more):
     while True:
         size, out = _size(), ctypes.create_string_buffer(room)
-        status = call(octets, len(octets), out, room, size)
+        status = call(octets, len(octets), out, room, size, *more)
         if status != _ROOM:
-            _raise(status, None)
-            return out.raw[: size.value]
+            return status, out.raw[: size.value]
         room = size.value
 
 

@@ -26,6 +26,8 @@ unsafe extern "C" {
     pub(crate) fn fan_der_element(octets: *const u8, length: usize, element: *mut RawElement) -> i32;
     pub(crate) fn fan_integer_text(octets: *const u8, length: usize, text: *mut u8, room: usize, size: *mut usize) -> i32;
     pub(crate) fn fan_ber_normal(octets: *const u8, length: usize, out: *mut u8, room: usize, size: *mut usize) -> i32;
+    pub(crate) fn fan_certificate_report(octets: *const u8, length: usize, text: *mut u8, room: usize, size: *mut usize) -> i32;
+    pub(crate) fn fan_ldap_lines(octets: *const u8, length: usize, text: *mut u8, room: usize, size: *mut usize, used: *mut usize) -> i32;
     pub(crate) fn fan_certificate_broken_rule(octets: *const u8, length: usize, rule: *mut u32, position: *mut usize) -> i32;
     pub(crate) fn fan_certificate_part(octets: *const u8, length: usize, part: u32, position: *mut usize, size: *mut usize) -> i32;
 }

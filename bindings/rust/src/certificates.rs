@@ -1,6 +1,27 @@
 //! Certificates.
 use crate::calls::{self, FAULT, OK};
-use crate::{Error, error_of};
+use crate::{Error, error_of, written};
+use std::fmt;
+
+/// Why a certificate has no report.
+#[derive(Clone, Debug, PartialEq, Eq)]
+pub enum ReportError {
+    /// It is refused, for this reason.
+    Refused(String),
+    /// There was no memory, or octets lie inside more than 64 elements.
+    Other(Error),
+}
+
+impl fmt::Display for ReportError {
+    fn fmt(&self, f: &mut fmt::Formatter<'_>) -> fmt::Result {
+        match self {
+            ReportError::Refused(message) => f.write_str(message),
+            ReportError::Other(error) => error.fmt(f),
+        }
+    }
+}
+
+impl std::error::Error for ReportError {}
 
 /// A rule of DER that octets break: its number in fanughespu.h, and the position, from 0.
 #[derive(Clone, Copy, Debug, PartialEq, Eq)]
@@ -21,6 +42,23 @@ pub enum Part {
     Key,
     /// `signatureValue`
     Signature,
+}
+
+/// The lines of the report of the certificate whose DER the octets are.
+///
+/// # Errors
+/// [`ReportError::Refused`] with the reason and the byte, if they are no certificate.
+pub fn certificate_report(octets: &[u8]) -> Result<String, ReportError> {
+    let (status, text) = written(4096, |text, size| {
+        // SAFETY: a slice is memory of its length, and no one else has the variables.
+        unsafe { calls::fan_certificate_report(octets.as_ptr(), octets.len(), text.as_mut_ptr(), text.len(), size) }
+    });
+    let text = String::from_utf8_lossy(&text).into_owned();
+    match status {
+        OK => Ok(text),
+        FAULT => Err(ReportError::Refused(text)),
+        status => Err(ReportError::Other(error_of(status))),
+    }
 }
 
 /// A rule of DER that the octets of a certificate break, if they break one. Octets that are no certificate may break none.

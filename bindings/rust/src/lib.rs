@@ -1,4 +1,4 @@
-//! DER and BER of which no type is known, by proved code.
+//! DER and BER of which no type is known, certificates and messages of LDAP, by proved code.
 //!
 //! | Function | What it answers of octets |
 //! |---|---|
@@ -6,15 +6,19 @@
 //! | [`der_element`] | the element with which they begin |
 //! | [`integer_text`] | the number of which they are the contents octets, as text |
 //! | [`ber_normal`] | the elements of BER that they are, with definite lengths of the fewest octets |
+//! | [`certificate_report`] | the report of the certificate that they are |
 //! | [`certificate_broken_rule`] | a rule of DER that they break as a certificate, and where |
 //! | [`certificate_part`] | a part of the certificate that they are |
+//! | [`ldap_lines`] | the messages of LDAP with which they begin, as lines |
 //! | [`version`] | the version of the library |
 
 mod calls;
 mod certificates;
 mod heap;
+mod ldap;
 
-pub use certificates::{BrokenRule, Part, certificate_broken_rule, certificate_part};
+pub use certificates::{BrokenRule, Part, ReportError, certificate_broken_rule, certificate_part, certificate_report};
+pub use ldap::{LdapLines, ldap_lines};
 
 use calls::{DEEP, FAULT, MEMORY, OK, ROOM, RawElement, Writer};
 use std::fmt;
@@ -100,7 +104,7 @@ pub fn der_element(octets: &[u8]) -> Result<Element<'_>, Error> {
     Ok(Element { class: class_of(raw.tag_class), number: raw.number, constructed: raw.constructed, contents, rest })
 }
 
-/// The text of the INTEGER with these contents octets: decimal digits if it fits 128 bits, else hexadecimal ones after `0x`.
+/// The decimal digits of the INTEGER with these contents octets.
 ///
 /// # Errors
 /// [`Error::Malformed`] without octets, or with one more than need be, and [`Error::Memory`].
@@ -119,17 +123,27 @@ pub fn ber_normal(octets: &[u8]) -> Result<Vec<u8>, Error> {
 
 /// The result of a call, for which there is room for this many octets at first.
 fn result_of(call: Writer, octets: &[u8], room: usize) -> Result<Vec<u8>, Error> {
+    let (status, out) = written(room, |out, size| {
+        // SAFETY: as in `der_check`; no one else has `out`.
+        unsafe { call(octets.as_ptr(), octets.len(), out.as_mut_ptr(), out.len(), size) }
+    });
+    match status {
+        OK => Ok(out),
+        status => Err(error_of(status)),
+    }
+}
+
+/// What a call writes, for which there is room for this many octets at first, and its status.
+fn written(room: usize, mut call: impl FnMut(&mut [u8], &mut usize) -> i32) -> (i32, Vec<u8>) {
     let mut out = vec![0; room];
     loop {
         let mut size = 0;
-        // SAFETY: as in `der_check`; no one else has `out`.
-        match unsafe { call(octets.as_ptr(), octets.len(), out.as_mut_ptr(), out.len(), &mut size) } {
-            OK => {
-                out.truncate(size);
-                return Ok(out);
-            }
+        match call(&mut out, &mut size) {
             ROOM => out.resize(size, 0),
-            status => return Err(error_of(status)),
+            status => {
+                out.truncate(size);
+                return (status, out);
+            }
         }
     }
 }

@@ -1,5 +1,8 @@
 //! What ../rows.txt says, by the functions of this crate.
-use fanughespu::{Error, ber_normal, certificate_broken_rule, der_check, der_element, integer_text, version};
+use fanughespu::{
+    Error, ReportError, ber_normal, certificate_broken_rule, certificate_report, der_check, der_element, integer_text, ldap_lines,
+    version,
+};
 
 fn octets_of(digits: &str) -> Vec<u8> {
     let digits = if digits == "-" { "" } else { digits };
@@ -55,6 +58,23 @@ fn assert_row(row: &str) {
 fn rows_are_answered() {
     let rows = include_str!("../../rows.txt");
     rows.lines().filter(|row| !row.starts_with('#')).for_each(assert_row);
+}
+
+#[test]
+fn a_certificate_has_its_report() {
+    let certificate = include_bytes!("../../../examples/certificates/leaf-ec.der");
+    let report = include_str!("../../../examples/certificates/leaf-ec.txt");
+    assert_eq!(certificate_report(certificate).as_deref(), Ok(report));
+    let Err(ReportError::Refused(message)) = certificate_report(&certificate[..40]) else { panic!("it is cut") };
+    assert!(message.contains("byte"), "{message}");
+}
+
+#[test]
+fn messages_of_ldap_have_their_lines() {
+    let messages = include_bytes!("../../../examples/ldap/search.ber");
+    let lines = ldap_lines(messages).unwrap();
+    assert_eq!((lines.text.as_str(), lines.used), (include_str!("../../../examples/ldap/search.txt"), messages.len()));
+    assert!(!lines.is_damaged && ldap_lines(b"text").unwrap().is_damaged);
 }
 
 #[test]

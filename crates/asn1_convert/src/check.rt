@@ -10,15 +10,15 @@ ghost use Rattle.std.specs.Prelude.{IfErr, IfOk, OnOk};
 use crate::differences::differing_element;
 use crate::failing_place::place_at;
 use crate::form::CodecForm;
-use crate::places::push_read_error;
+use crate::places::read_failure;
+use crate::report::push_position;
 use asn1_certificate_rules::{Finding, Part, RuleSet, find_broken_rule};
-use asn1_dec::Decode;
+use asn1_dec::{Decode, DecodeError};
 use asn1_der::DerRules;
 use asn1_der_items::find_element;
 use asn1_enc::Encode;
 use asn1_rules::{CanonicalError, read_canonical, recode};
 use std::alloc::{AllocError, Global};
-use std::fmt::Write;
 
 /// Why octets are not the DER of a value of a type.
 #[derive(Clone, Copy, Debug, Drop, PartialEq, Eq)]
@@ -55,6 +55,91 @@ pub fn check_der<T: Encode + Decode>(
     }
 }
 
+/// Where octets are not the DER of a type, and why.
+#[derive(Debug, Drop)]
+pub struct CheckFault {
+    /// A rule that they break, or the path to the place and the cause, in words without a line feed.
+    pub cause: String,
+    /// The position of the octet, from 0, if it is known.
+    pub position: Option<usize>,
+}
+
+/// Where and why octets are not the DER of a type, for this error of [`check_der`]. No contract covers the words and the position.
+pub fn check_fault<T: Encode + Decode>(
+    alloc: Global,
+    octets: &Vec<u8>,
+    error: CheckError,
+    depth: usize,
+) -> Result<CheckFault, AllocError> {
+    match error {
+        CheckError::Broken(Finding::Broken(broken)) => Ok(CheckFault {
+            cause: cause_at::<T>(
+                alloc,
+                octets,
+                broken.position,
+                depth,
+                format!(in alloc; "{}", broken.rule)?,
+            )?,
+            position: Some(broken.position),
+        }),
+        CheckError::Broken(Finding::Deeper(position)) => Ok(CheckFault {
+            cause: cause_at::<T>(
+                alloc,
+                octets,
+                position,
+                depth,
+                format!(in alloc; "elements lie more than {depth} deep")?,
+            )?,
+            position: Some(position),
+        }),
+        CheckError::NotCanonical(error) => canonical_fault::<T>(alloc, octets, error, depth),
+    }
+}
+
+/// The same of octets that break no rule.
+fn canonical_fault<T: Encode + Decode>(
+    alloc: Global,
+    octets: &Vec<u8>,
+    error: CanonicalError,
+    depth: usize,
+) -> Result<CheckFault, AllocError> {
+    match error {
+        CanonicalError::Read(error) => reading_fault::<T>(alloc, octets, error, depth),
+        CanonicalError::Write(error) => Ok(CheckFault {
+            cause: format!(in alloc; "not written: {error}")?,
+            position: None,
+        }),
+        CanonicalError::NotCanonical { at } => {
+            let position = differing_position::<T>(alloc, octets, at, depth);
+            let cause = String::from_str(alloc, "writing the value makes other octets")?;
+            Ok(CheckFault {
+                cause: cause_at::<T>(alloc, octets, position, depth, cause)?,
+                position: Some(position),
+            })
+        }
+    }
+}
+
+/// The same of octets that are not read.
+fn reading_fault<T: Decode>(
+    alloc: Global,
+    octets: &[u8],
+    error: DecodeError,
+    depth: usize,
+) -> Result<CheckFault, AllocError> {
+    if let Some(position) = octets_behind(octets) {
+        return Ok(CheckFault {
+            cause: String::from_str(alloc, "octets follow the value")?,
+            position: Some(position),
+        });
+    }
+    let failure = read_failure::<T>(alloc, CodecForm::Der, octets, error, depth)?;
+    Ok(CheckFault {
+        cause: failure.words,
+        position: failure.position,
+    })
+}
+
 /// The line for octets that are not the DER of a type: where, and why.
 pub(crate) fn check_line<T: Encode + Decode>(
     alloc: Global,
@@ -62,58 +147,24 @@ pub(crate) fn check_line<T: Encode + Decode>(
     error: CheckError,
     depth: usize,
 ) -> Result<String, AllocError> {
-    let mut text = String::new(alloc);
-    match error {
-        CheckError::Broken(Finding::Broken(broken)) => {
-            push_path::<T>(&mut text, alloc, octets, broken.position, depth)?;
-            write!(&mut text, "{}, at octet {}", broken.rule, broken.position)?;
-        }
-        CheckError::Broken(Finding::Deeper(position)) => {
-            push_path::<T>(&mut text, alloc, octets, position, depth)?;
-            write!(
-                &mut text,
-                "elements lie more than {depth} deep, at octet {position}"
-            )?;
-        }
-        CheckError::NotCanonical(CanonicalError::Read(error)) => match octets_behind(octets) {
-            Some(position) => write!(&mut text, "octets follow the value, at octet {position}")?,
-            None => push_read_error::<T>(
-                &mut text,
-                alloc,
-                CodecForm::Der,
-                octets,
-                0,
-                error,
-                depth,
-            )?,
-        },
-        CheckError::NotCanonical(CanonicalError::Write(error)) => {
-            write!(&mut text, "not written: {error}")?;
-        }
-        CheckError::NotCanonical(CanonicalError::NotCanonical { at }) => {
-            let position = differing_position::<T>(alloc, octets, at, depth);
-            push_path::<T>(&mut text, alloc, octets, position, depth)?;
-            write!(
-                &mut text,
-                "writing the value makes other octets, at octet {position}"
-            )?;
-        }
-    }
+    let fault = check_fault::<T>(alloc, octets, error, depth)?;
+    let mut text = fault.cause;
+    push_position(&mut text, 0, fault.position)?;
     text.push('\n')?;
     Ok(text)
 }
 
-/// Appends the path to the element at a position, if there is one.
-fn push_path<T: Decode>(
-    text: &mut String,
+/// A cause behind the path to the element at a position, if there is one.
+fn cause_at<T: Decode>(
     alloc: Global,
     octets: &[u8],
     position: usize,
     depth: usize,
-) -> Result<(), AllocError> {
+    cause: String,
+) -> Result<String, AllocError> {
     match place_at::<T>(alloc, octets, position, depth) {
-        Some(place) if !place.path.is_empty() => write!(text, "{}: ", place.path),
-        _ => Ok(()),
+        Some(place) if !place.path.is_empty() => format!(in alloc; "{}: {cause}", place.path),
+        _ => Ok(cause),
     }
 }
 

@@ -8,6 +8,7 @@
 //! | [`convert_value`], [`recode_between`] | the octets of one value | `Conversions` |
 //! | [`front_length`] | how many octets the first value of an input has | `Forms` |
 //! | [`check_der`], [`CheckError`] | whether octets are the DER of a type, and if not why | `Checks` |
+//! | [`check_fault`], [`CheckFault`] | where they are not, and the reason in words | |
 //! | [`CodecForm`], [`OutputForm`] | the forms of values: DER, BER, packed octets, X.680's notation and JSON | |
 //!
 //! The contracts promise:
@@ -42,7 +43,7 @@ mod report;
 mod stream;
 mod task;
 
-pub use check::{CheckError, check_der};
+pub use check::{CheckError, CheckFault, check_der, check_fault};
 pub use form::{CodecForm, OutputForm};
 pub use fronts::front_length;
 pub use program::run;

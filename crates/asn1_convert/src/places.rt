@@ -9,40 +9,42 @@ use asn1_paths::Place;
 use std::alloc::{AllocError, Global};
 use std::fmt::Write;
 
-/// Appends the path to the place at which a value was not read, why, and its octet.
-pub(crate) fn push_read_error<T: Decode>(
-    text: &mut String,
+/// A value that was not read, in words.
+#[derive(Drop)]
+pub(crate) struct ReadFailure {
+    /// The path to the place, and the cause.
+    pub(crate) words: String,
+    /// The position of the octet, if its element is found in octets whose lengths are definite.
+    pub(crate) position: Option<usize>,
+}
+
+/// Why and where octets were not read, for this error.
+pub(crate) fn read_failure<T: Decode>(
     alloc: Global,
     from: CodecForm,
     octets: &[u8],
-    start: usize,
     error: DecodeError,
     depth: usize,
-) -> Result<(), AllocError> {
+) -> Result<ReadFailure, AllocError> {
     let place = failing_place::<T>(alloc, from, octets, depth);
     let limits = place.as_ref().map(|place| place.limits);
-    let cause = cause_text(alloc, error, limits)?;
+    let mut words = String::new(alloc);
     if let Some(place) = &place
         && !place.path.is_empty()
     {
-        write!(text, "{}: ", place.path)?;
+        write!(&mut words, "{}: ", place.path)?;
     }
-    text.push_str(cause.as_str())?;
-    push_position(text, octets, start, &place)
+    words.push_str(cause_text(alloc, error, limits)?.as_str())?;
+    Ok(ReadFailure {
+        words,
+        position: position_of(octets, &place),
+    })
 }
 
-/// Appends the octet of a place, if its element is found in octets whose lengths are definite.
-fn push_position(
-    text: &mut String,
-    octets: &[u8],
-    start: usize,
-    place: &Option<Place>,
-) -> Result<(), AllocError> {
-    let Some(place) = place else {
-        return Ok(());
-    };
-    match position_at_path(octets, place.element_numbers.as_slice()) {
-        Some(position) => write!(text, ", at octet {}", start.saturating_add(position)),
-        None => Ok(()),
+/// The position of a place, if its element is found.
+fn position_of(octets: &[u8], place: &Option<Place>) -> Option<usize> {
+    match place {
+        Some(place) => position_at_path(octets, place.element_numbers.as_slice()),
+        None => None,
     }
 }

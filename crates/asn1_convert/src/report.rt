@@ -1,7 +1,7 @@
 //! The line for a value that was not converted.
 
 use crate::form::CodecForm;
-use crate::places::push_read_error;
+use crate::places::read_failure;
 use crate::stream::{Cause, Stop};
 use crate::task::Task;
 use asn1_dec::Decode;
@@ -29,7 +29,9 @@ pub(crate) fn stop_line<T: Decode>(
     match stop.cause {
         Cause::NotRecoded(RecodeError::Read(error)) => {
             let octets = octets_of(task.input, stop.start, stop.length);
-            push_read_error::<T>(&mut text, alloc, from, octets, start, error, task.depth)?;
+            let failure = read_failure::<T>(alloc, from, octets, error, task.depth)?;
+            text.push_str(failure.words.as_str())?;
+            push_position(&mut text, start, failure.position)?;
         }
         Cause::NotRecoded(RecodeError::Write(error)) => write!(&mut text, "not written: {error}")?,
         Cause::NoFront(ItemError::Missing(_)) => text.push_str("the input ends inside it")?,
@@ -51,6 +53,18 @@ fn push_octets(text: &mut String, start: usize, length: Option<usize>) -> Result
             )
         }
         _ => write!(text, "octet {start}"),
+    }
+}
+
+/// Appends the octet of a position in octets that begin here, if it is known.
+pub(crate) fn push_position(
+    text: &mut String,
+    start: usize,
+    position: Option<usize>,
+) -> Result<(), AllocError> {
+    match position {
+        Some(position) => write!(text, ", at octet {}", start.saturating_add(position)),
+        None => Ok(()),
     }
 }
 

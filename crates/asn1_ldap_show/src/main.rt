@@ -1,15 +1,10 @@
 //! Shows LDAP messages (RFC 4511): reads the messages that a client and a server sent one another from a file or standard input, in
-//! whatever pieces they come, and writes each to standard output as soon as it is whole, as lines for a person (`message_text` of
-//! `asn1_ldap_text`).
+//! whatever pieces they come, and writes each to standard output as soon as it is whole, as lines for a person (`show_messages` of
+//! `asn1_ldap_stream`, whose contract covers what is written).
 //!
-//! The stream is read as elements of BER, in any spelling, and each element as a message. An element that begins as a message does, a
-//! SEQUENCE with an INTEGER first, and is not read as one has a line in its place: the number of the message, its operation, and the
-//! cause, as `20 search done: not understood: component resultCode: no value of its type`. Its value may be one that the module does
-//! not list, its filters may be nested more than 64 deep, or it may be damaged inside. A number or an operation that is not known is
-//! left out. The messages behind it are shown.
-//!
-//! Any other element, octets that begin no element, and the end of the input inside an element end the display: a line on standard
-//! error tells which of these, and the byte of the stream at which it begins, from 0. All that came before it is shown.
+//! A message that is not understood has a line that says so and why, and the messages behind it are shown. Any other element, octets
+//! that begin no element, and the end of the input inside an element end the display: a line on standard error tells which of these,
+//! and the byte of the stream at which it begins, from 0. All that came before it is shown.
 //!
 //! | Argument | Effect |
 //! |---|---|
@@ -20,39 +15,15 @@
 //! display ended before the input did; and with 2 if the arguments are none of these, the file was not opened, memory ran out, or
 //! reading or writing failed. The stored run is three conversations of examples/ldap, and messages of each operation that are not
 //! understood, among others that are, so its status is 1.
-//!
-//! The contract of `show` covers this for any reader of elements and any rules of messages (`specs/Showing.antt`), however the input is
-//! cut into pieces. The elements are the reader's answers for the bytes of the input, one after another. The text of each is
-//! written, once and in this order (`specs/Elements.antt`): the lines of a message that the rules may read of it, or the line of one
-//! that they may refuse, unless memory runs out. An element that ends the display begins at the byte that the failure
-//! names, the sum of the lengths before it.
 #![tactic(auto)]
 
 mod arguments;
-mod beginning;
-mod failure;
-mod input;
-mod messages;
-mod stream;
-mod unknown;
 
-use crate::messages::MessageRules;
-use asn1_ber::{BerReader, BerRules};
+use asn1_ldap_stream::show_messages;
 use std::fs::File;
 use std::io::Read;
 use std::process::ExitCode;
 use std::{env, io};
-
-/// How many filters may nest: the ANDs, ORs and NOTs around a filter that holds no other.
-const NESTED_FILTERS: usize = 64;
-
-/// How many scopes of a message may nest: 3 above the filter of a search (the message, the CHOICE of its operation and the request), 2
-/// for each filter that holds others (its CHOICE, and its SET or its tag), and 4 in the deepest that holds none, of substrings (its
-/// CHOICE, its SEQUENCE, the SEQUENCE OF its substrings, and the CHOICE of each).
-const DEPTH: usize = 3 + 2 * NESTED_FILTERS + 4;
-
-/// How many scopes the reader of elements opens: none, since it takes each element whole.
-const ELEMENT_DEPTH: usize = 0;
 
 fn main(rt: HostRuntime) -> ExitCode {
     let alloc = rt.alloc();
@@ -89,15 +60,7 @@ fn show_file(rt: &HostRuntime, name: &str) -> ExitCode {
 
 /// Shows the messages of an input.
 fn show_input<R: Read>(rt: &HostRuntime, reader: &mut R) -> ExitCode {
-    let alloc = rt.alloc();
-    let messages = MessageRules {
-        alloc,
-        rules: BerRules::new(alloc),
-        depth: DEPTH,
-    };
-    let elements_reader = BerReader::new(alloc, ELEMENT_DEPTH);
-    let mut writer = io::writer(rt);
-    match input::show(&messages, elements_reader, reader, &mut writer) {
+    match show_messages(rt.alloc(), reader, &mut io::writer(rt)) {
         Ok(true) => ExitCode::SUCCESS,
         Ok(false) => ExitCode::from(1),
         Err(failure) => {

@@ -1,4 +1,5 @@
 pub mod CertificateParts
+pub mod CertificateReports
 pub mod CertificateRules
 pub mod Normals
 pub mod Parts

@@ -14,8 +14,8 @@ use asn1_items::ItemError;
 use fan_calls::put;
 use std::alloc::Global;
 
-/// Writes the text of the INTEGER whose contents octets these are: decimal digits if it fits 128 bits, else hexadecimal ones.
-/// `FAN_FAULT` if they are those of none in DER: there is no octet, or one more than need be.
+/// Writes the decimal digits of the INTEGER whose contents octets these are. `FAN_FAULT` if they are those of none in DER: there is no
+/// octet, or one more than need be.
 #[unsafe(no_mangle)]
 pub extern "C" fn fan_integer_text(
     alloc: Global,

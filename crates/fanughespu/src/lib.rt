@@ -1,4 +1,4 @@
-//! Octets of DER, of BER and of certificates, for C: `libfanughespu.a`.
+//! Octets of DER, of BER, of certificates and of messages of LDAP, for C: `libfanughespu.a`.
 //!
 //! | Function | What it answers of octets |
 //! |---|---|
@@ -6,8 +6,10 @@
 //! | [`fan_der_element`], [`FanElement`] | the element with which they begin |
 //! | [`fan_integer_text`] | the number of which they are the contents octets, as text |
 //! | [`fan_ber_normal`] | the elements of BER that they are, with definite lengths of the fewest octets |
+//! | [`fan_certificate_report`] | the report of the certificate that they are, or why there is none |
 //! | [`fan_certificate_broken_rule`] | a rule of DER that they break as a certificate, and where |
 //! | [`fan_certificate_part`] | where a part of the certificate that they are begins, and its length |
+//! | [`fan_ldap_lines`] | the messages of LDAP with which they begin, as lines |
 //! | [`fan_version`] | the version of these calls |
 //!
 //! A slice crosses to C as a pointer and a length, and `alloc` as nothing. Results go into the memory of the caller, and nothing is
@@ -19,17 +21,21 @@
 
 mod ber;
 mod certificate_parts;
+mod certificate_reports;
 mod certificate_rules;
 mod elements;
 mod integers;
+mod ldap;
 mod refusal;
 mod version;
 
 pub use ber::fan_ber_normal;
 pub use certificate_parts::fan_certificate_part;
+pub use certificate_reports::fan_certificate_report;
 pub use certificate_rules::fan_certificate_broken_rule;
 pub use elements::{FanElement, fan_der_check, fan_der_element};
 pub use integers::fan_integer_text;
+pub use ldap::fan_ldap_lines;
 pub use version::fan_version;
 
 #[cfg(test)]

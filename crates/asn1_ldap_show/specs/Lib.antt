@@ -1,4 +1,0 @@
-pub mod Beginnings
-pub mod Elements
-pub mod Failures
-pub mod Showing

@@ -1,0 +1,31 @@
+use Rattle.std.proofs.Common.{refl}
+use Rattle.std.proofs.lemmas.Result.{err_from_is_err_and}
+use Rattle.asn1_ldap_stream.proofs.Elements.{memory_runs_out}
+use Rattle.asn1_ldap_stream.proofs.messages.MessageRules.message_lines.Goals as goal
+
+pub returns-in_err-message-clause-not_read : goal.returns-in_err-message-clause-not_read
+returns-in_err-message-clause-not_read g c =
+    let p = err_from_is_err_and c.from_residual.result c.from_residual.ensures.1 in
+    rw (p.1, p.2) (record {
+      not_read = record {
+        input = c.args.octets.now;
+        are = refl;
+        may = record { read = c.in_err-message.ensures.read; refuses = c.in_err-message.ensures.refuses };
+      };
+    })
+
+pub returns-in_err-text-clause-not_read : goal.returns-in_err-text-clause-not_read
+returns-in_err-text-clause-not_read g c =
+    let p = err_from_is_err_and c.from_residual-in_err-text.result c.from_residual-in_err-text.ensures.1 in
+    rw (p.1, p.2) (memory_runs_out g.M.Rules.format c.args.self.now.depth c.args.octets.now)
+
+pub returns-clause-lines : goal.returns-clause-lines
+returns-clause-lines g c = record {
+  message = c.in_ok-message.message;
+  read = record {
+    input = c.args.octets.now;
+    are = refl;
+    may = record { read = c.in_ok-message.ensures.read; refuses = c.in_ok-message.ensures.refuses };
+  };
+  lines = c.in_ok-text.ensures.text;
+}

@@ -1,0 +1,69 @@
+-- Octets that were read and written again: what they are if that succeeds, and why it fails.
+use Rattle.std.proofs.Common.{◌≡◌, ◌≢◌, ◌∙◌, ◌<◌, ℕ, Bool, List, ap, refl, subst, sym, inl, inr}
+use Rattle.std.specs.Prelude.{◌⊎◌, ℤ, Vec}
+use Rattle.std.specs.declared.alloc.Global.{Global}
+use Rattle.asn1_der.specs.Format.{Carries, der_format}
+use Rattle.asn1_laws.specs.declared.decode_error.DecodeError.TheVariants as reading
+use Rattle.asn1_laws.specs.declared.encode_error.EncodeError.TheVariants as writing
+use Rattle.asn1_model.specs.Meaning.{IsWellTagged, Meaning, own_records}
+use Rattle.asn1_model.specs.Records.{highest}
+use Rattle.asn1_rules.specs.CanonicalReading.{HasOneSpelling, IsRefusedFor, IsWrittenAs}
+use Rattle.asn1_rules.specs.declared.canonical.CanonicalError.{CanonicalError}
+use Rattle.asn1_rules.specs.declared.canonical.CanonicalError.TheVariants.{Read, Write}
+use Rattle.fan_calls.specs.Statuses.{number_of}
+use Rattle.fan_calls.specs.declared.status.Status.{Status}
+use Rattle.fan_calls.specs.declared.status.Status.TheVariants.{Deep, Fault, Memory}
+use Rattle.fan_types.specs.Checks.{AcceptsOnlyDer, IsDerOf, IsOnlyDerOf}
+use Rattle.fan_types.specs.Refusals.{status_of_canonical}
+
+-- statuses differ
+fault_is_not_memory : Fault ≡ Memory → ⊥
+fault_is_not_memory same = cc
+
+fault_is_not_deep : Fault ≡ Deep → ⊥
+fault_is_not_deep same = cc
+
+module _ {V : Type 0} (m : Meaning V) where
+  -- octets that writing a value makes are its DER
+  pub is_der : (depth : ℕ) (value : V) (own octets : List ℕ) → own ≡ octets → IsWrittenAs der_format m depth value own → IsDerOf m octets
+  is_der depth value own octets same w = record {
+    value = value;
+    of_type = w.written.of_type;
+    carries = subst (λ l. Carries l (own_records m value)) (w.has_bytes ∙ same) w.written.carried;
+  }
+
+  -- why octets that are the only DER of a value are refused: memory ran out, or the scopes are nested too deep
+  status_of_refused : (value : V) (e : CanonicalError) → IsRefusedFor der_format m 64 value e →
+      (status_of_canonical e ≡ Memory) ⊎ ((status_of_canonical e ≡ Deep) × (64 < highest (own_records m value)))
+  status_of_refused value e (inl is) = inl (subst (λ x. status_of_canonical x ≡ Memory) (sym is) refl)
+  status_of_refused value e (inr (inl is)) = inl (subst (λ x. status_of_canonical x ≡ Memory) (sym is) refl)
+  status_of_refused value e (inr (inr (is, deeper))) = inr (subst (λ x. status_of_canonical x ≡ Deep) (sym is) refl, deeper)
+
+  module _ (eq : V → V → Bool) (own : Vec ℕ Global) (octets : List ℕ) (same : own.items ≡ octets) (e : CanonicalError) where
+    -- each value of which the octets are the only DER is refused for memory or depth
+    IsRefusedWell : Type 0
+    IsRefusedWell = (value : V) → IsWellTagged m → m.IsOfType value → m.IsValid der_format.accepts value →
+        der_format.carries own (own_records m value) → HasOneSpelling der_format m eq value own.items → IsRefusedFor der_format m 64 value e
+
+    of_only : IsRefusedWell → (value : V) → IsWellTagged m → IsOnlyDerOf m eq value octets →
+        (status_of_canonical e ≡ Memory) ⊎ ((status_of_canonical e ≡ Deep) × (64 < highest (own_records m value)))
+    of_only refused value tagged only =
+        status_of_refused value e (refused value tagged only.of_type only.valid
+        (subst (λ l. Carries l (own_records m value)) (sym same) only.carries)
+        (subst (λ l. HasOneSpelling der_format m eq value l) (sym same) only.one_spelling))
+
+    -- they are accepted, for a status that is that of the error
+    pub accepted : IsRefusedWell → (status : Status) → status ≡ status_of_canonical e → AcceptsOnlyDer m eq octets (number_of status)
+    accepted refused status is value tagged only =
+        elim (of_only refused value tagged only) [
+          | inl memory ↦ inr (inl (ap number_of (is ∙ memory)))
+          | inr (deep, deeper) ↦ inr (inr (ap number_of (is ∙ deep), deeper))
+        ]
+
+    -- there is no such value, if the error is that of octets at fault
+    pub none_at_fault : IsRefusedWell → status_of_canonical e ≡ Fault → (number : ℤ) → AcceptsOnlyDer m eq octets number
+    none_at_fault refused fault number value tagged only =
+        elim (of_only refused value tagged only) [
+          | inl memory ↦ absurd (fault_is_not_memory (sym fault ∙ memory))
+          | inr (deep, deeper) ↦ absurd (fault_is_not_deep (sym fault ∙ deep))
+        ]

@@ -1,0 +1,109 @@
+//! The value whose BER octets are, in another form.
+ghost use Rattle.std.specs.Prelude.{◌≡◌, ◌≢◌, ◌⊎◌};
+ghost use Rattle.asn1_convert.specs.declared.form.CodecForm.TheVariants.{Der};
+ghost use Rattle.asn1_convert.specs.declared.form.OutputForm.TheVariants.{Codec, Json, Notation};
+ghost use Rattle.fan_calls.specs.Results.{LacksRoom, Puts};
+ghost use Rattle.fan_calls.specs.Statuses.{FAN_DEEP, FAN_FAULT, FAN_MEMORY, FAN_OK, FAN_ROOM};
+ghost use Rattle.fan_calls.specs.declared.status.Status.TheVariants as status;
+ghost use Rattle.fan_types.specs.Conversions.{IsConversion, IsDerMade, IsJsonMade, IsNotConverted};
+
+use crate::refusal::status_of_recoding;
+use asn1_convert::{CodecForm, OutputForm, convert_value};
+use asn1_dec::Decode;
+use asn1_enc::Encode;
+use fan_calls::{DEPTH, Status, put};
+use std::alloc::Global;
+
+/// Writes the DER of the value of the type whose BER the octets are. `FAN_FAULT` if they are that of none, or if it has no DER;
+/// `FAN_DEEP` if its scopes are nested more than 64 deep.
+pub fn der<T: Encode + Decode>(
+    alloc: Global,
+    octets: &[u8],
+    out: &mut [u8],
+    size: &mut usize,
+) -> i32
+    ensures statuses { (result ≡ FAN_OK) ⊎ ((result ≡ FAN_FAULT) ⊎
+        ((result ≡ FAN_ROOM) ⊎ ((result ≡ FAN_MEMORY) ⊎ (result ≡ FAN_DEEP)))) }
+    ensures written { result ≡ FAN_OK →
+        Puts (IsDerMade T.meaning T.eq octets.now) out.old out.new size.new }
+    ensures no_room { result ≡ FAN_ROOM →
+        LacksRoom (IsDerMade T.meaning T.eq octets.now) out.old out.new size.new }
+    ensures refused { result ≡ FAN_FAULT →
+        IsNotConverted T.meaning T.eq T.refusals octets.now (Codec Der) status.Fault }
+    ensures deep { result ≡ FAN_DEEP →
+        IsNotConverted T.meaning T.eq T.refusals octets.now (Codec Der) status.Deep }
+    ensures stays { result ≢ FAN_OK → out.new ≡ out.old }
+{
+    convert::<T>(alloc, octets, OutputForm::Codec(CodecForm::Der), out, size).number()
+}
+
+/// Writes the value of the type whose BER the octets are in X.680's notation of values, with a line feed at its end. The statuses are
+/// those of [`der`].
+pub fn text<T: Encode + Decode>(
+    alloc: Global,
+    octets: &[u8],
+    out: &mut [u8],
+    size: &mut usize,
+) -> i32
+    ensures statuses { (result ≡ FAN_OK) ⊎ ((result ≡ FAN_FAULT) ⊎
+        ((result ≡ FAN_ROOM) ⊎ ((result ≡ FAN_MEMORY) ⊎ (result ≡ FAN_DEEP)))) }
+    ensures written { result ≡ FAN_OK → Puts
+        (IsConversion T.meaning T.eq T.refusals octets.now Notation) out.old out.new size.new }
+    ensures refused { result ≡ FAN_FAULT →
+        IsNotConverted T.meaning T.eq T.refusals octets.now Notation status.Fault }
+    ensures deep { result ≡ FAN_DEEP →
+        IsNotConverted T.meaning T.eq T.refusals octets.now Notation status.Deep }
+    ensures no_room { result ≡ FAN_ROOM → LacksRoom
+        (IsConversion T.meaning T.eq T.refusals octets.now Notation) out.old out.new size.new }
+    ensures stays { result ≢ FAN_OK → out.new ≡ out.old }
+{
+    convert::<T>(alloc, octets, OutputForm::Notation, out, size).number()
+}
+
+/// Writes the value of the type whose BER the octets are as JSON (X.697), in one line with a line feed at its end. The statuses are those
+/// of [`der`].
+pub fn json<T: Encode + Decode>(
+    alloc: Global,
+    octets: &[u8],
+    out: &mut [u8],
+    size: &mut usize,
+) -> i32
+    ensures statuses { (result ≡ FAN_OK) ⊎ ((result ≡ FAN_FAULT) ⊎
+        ((result ≡ FAN_ROOM) ⊎ ((result ≡ FAN_MEMORY) ⊎ (result ≡ FAN_DEEP)))) }
+    ensures written { result ≡ FAN_OK → Puts IsJsonMade out.old out.new size.new }
+    ensures no_room { result ≡ FAN_ROOM → LacksRoom IsJsonMade out.old out.new size.new }
+    ensures refused { result ≡ FAN_FAULT →
+        IsNotConverted T.meaning T.eq T.refusals octets.now Json status.Fault }
+    ensures deep { result ≡ FAN_DEEP →
+        IsNotConverted T.meaning T.eq T.refusals octets.now Json status.Deep }
+    ensures stays { result ≢ FAN_OK → out.new ≡ out.old }
+{
+    convert::<T>(alloc, octets, OutputForm::Json, out, size).number()
+}
+
+/// Writes the value of the type whose BER the octets are in a form.
+fn convert<T: Encode + Decode>(
+    alloc: Global,
+    octets: &[u8],
+    to: OutputForm,
+    out: &mut [u8],
+    size: &mut usize,
+) -> Status
+    ensures written { result ≡ status.Ok → Puts
+        (IsConversion T.meaning T.eq T.refusals octets.now to) out.old out.new size.new }
+    ensures refused { result ≡ status.Fault →
+        IsNotConverted T.meaning T.eq T.refusals octets.now to status.Fault }
+    ensures deep { result ≡ status.Deep →
+        IsNotConverted T.meaning T.eq T.refusals octets.now to status.Deep }
+    ensures no_room { result ≡ status.Room → LacksRoom
+        (IsConversion T.meaning T.eq T.refusals octets.now to) out.old out.new size.new }
+    ensures stays { result ≢ status.Ok → out.new ≡ out.old }
+{
+    let Ok(own) = Vec::from_slice(alloc, octets) else {
+        return Status::Memory;
+    };
+    match convert_value::<T>(alloc, CodecForm::Ber, &own, to, DEPTH) {
+        Ok(written) => put(written.as_slice(), out, size),
+        Err(error) => status_of_recoding(error),
+    }
+}
