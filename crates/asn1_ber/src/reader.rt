@@ -1,7 +1,9 @@
 //! Values at the front of octets of BER.
 ghost use Rattle.asn1_ber.specs.Cuts.{IsCut};
+ghost use Rattle.asn1_ber_items.specs.Ends.{EndsInside};
+ghost use Rattle.asn1_der_items.specs.Cuts.{IsMissing};
 ghost use Rattle.asn1_items.specs.declared.error.ItemError.TheVariants.{Memory};
-ghost use Rattle.std.specs.Prelude.{◌≡◌, MatchResult, ℕ};
+ghost use Rattle.std.specs.Prelude.{◌≡◌, IfErr, MatchResult, ℕ};
 
 use crate::errors::decode_error_of;
 use crate::reading::read_normal;
@@ -37,11 +39,13 @@ impl BerReader {
     /// How many octets the first value of an input has: those of the element that it begins with.
     ///
     /// # Errors
-    /// Why the input begins with no whole element; [`ItemError::Missing`] if it ends inside one. [`ItemError::Memory`] may come of any
-    /// input.
+    /// [`ItemError::Missing`] if the input ends inside its first element, else [`ItemError::Malformed`] if it begins with none.
+    /// [`ItemError::Memory`] may come of any input.
     pub fn front_length(&self, input: &[u8]) -> Result<usize, ItemError>
-        ensures { MatchResult result (IsCut input.now)
+        ensures length { MatchResult result (IsCut input.now)
             (λ e. (n : ℕ) → IsCut input.now n → e ≡ Memory) }
+        ensures missing { IfErr result (λ e. IsMissing e → EndsInside 0 input.now) }
+        ensures cut { EndsInside 0 input.now → MatchResult result (λ _. ⊥) IsMissing }
     {
         let front = front_element(self.alloc, input)?;
         Ok(input.len() - front.rest.len())

@@ -43,7 +43,7 @@ struct Child<'a> {
     offset: usize,
 }
 
-/// The element at a position among elements, or the last one that is found before it.
+/// The element at a position among elements, or the first one that cannot be found.
 fn child_at(alloc: Global, elements: &[u8], position: usize) -> Child<'_> {
     let mut child = Child {
         number: 0,

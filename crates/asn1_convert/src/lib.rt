@@ -3,7 +3,8 @@
 //! | Item | What it is | In `specs/` |
 //! |---|---|---|
 //! | [`run`], [`TypeList`] | the program over a list of types | |
-//! | [`Task`], [`Action`], [`Answer`], [`Progress`] | what is asked of the octets of values of a type, and what is written for it | |
+//! | [`Pieces`] | an input that comes in pieces | |
+//! | [`Task`], [`Action`], [`Answer`], [`Converted`] | what is asked of the octets of values of a type, and what is written for it | |
 //! | [`convert_values`], [`Conversion`], [`Stop`], [`Cause`] | values one after another, in another form | `Conversions` |
 //! | [`convert_value`], [`recode_between`] | the octets of one value | `Conversions` |
 //! | [`front_length`] | how many octets the first value of an input has | `Forms` |
@@ -22,8 +23,9 @@
 //!   (`keeps`). An error is a true reason (`departs`).
 //!
 //! No contract covers texts in X.680's notation (`asn1_value_text`), nor the words of a line on standard error, nor the place that it
-//! names (`asn1_paths`); the stored run of test_converters shows them. A program converts its input as it comes, and keeps
-//! the octets of the value that is not there whole, at most as many again, and those of `--check` and `--hex`.
+//! names (`asn1_paths`); the stored run of test_converters shows them. A program converts its input as it comes
+//! ([`Pieces`], of which no contract says more than that it ends), and keeps the octets of the value that is not there whole, and all
+//! those of `--check` and `--hex`.
 #![tactic(auto)]
 
 mod arguments;
@@ -46,7 +48,8 @@ mod task;
 pub use check::{CheckError, CheckFault, check_der, check_fault};
 pub use form::{CodecForm, OutputForm};
 pub use fronts::front_length;
+pub use pieces::Pieces;
 pub use program::run;
 pub use recoding::{convert_value, recode_between};
 pub use stream::{Cause, Conversion, Stop, convert_values};
-pub use task::{Action, Answer, Progress, Task, TypeList};
+pub use task::{Action, Answer, Converted, Task, TypeList};

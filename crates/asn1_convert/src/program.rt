@@ -1,15 +1,25 @@
 //! A program that converts values of the types of a list.
 
 use crate::arguments::{action_of, matches_of};
+use crate::form::{CodecForm, OutputForm};
 use crate::hexadecimal::octets_of_digits;
 use crate::pieces::Pieces;
-use crate::task::{Action, Answer, Progress, Task, TypeList};
+use crate::task::{Action, Answer, Converted, Task, TypeList};
 use std::env;
 use std::io::{self, Read, Write};
 use std::process::ExitCode;
 
 /// How many nested scopes may be open.
 const DEPTH: usize = 64;
+
+/// How many octets are read at once at most.
+const PIECE: usize = 4096;
+
+/// What is told where the input cannot be read.
+const NOT_READ: &str = "standard input was not read";
+
+/// What is told where a list has no type of the name.
+const NO_TYPE: &str = "the program has no type of this name";
 
 /// What is told where memory runs out.
 const NO_MEMORY: &str = "no memory";
@@ -52,9 +62,9 @@ pub fn run<L: TypeList>(rt: &HostRuntime, program: &'static str) -> ExitCode {
     }
     let is_hexadecimal = matches.get_flag("hex");
     match action {
-        Action::Convert { .. } if !is_hexadecimal => convert_pieces::<L>(rt, name, action),
+        Action::Convert { from, to } if !is_hexadecimal => convert_pieces::<L>(rt, name, from, to),
         _ => match input_of(rt, is_hexadecimal) {
-            Ok(input) => match answer_of::<L>(rt, name, action, &input, Progress::default()) {
+            Ok(input) => match answer_of::<L>(rt, name, action, &input, Converted::default()) {
                 Ok(answer) => give(rt, &answer),
                 Err(message) => fail(rt, message),
             },
@@ -64,40 +74,34 @@ pub fn run<L: TypeList>(rt: &HostRuntime, program: &'static str) -> ExitCode {
 }
 
 /// Converts the values of standard input as they come.
-fn convert_pieces<L: TypeList>(rt: &HostRuntime, name: &str, action: Action) -> ExitCode {
-    let mut pieces = Pieces::new(rt.alloc());
-    let Ok(mut room) = Pieces::room(rt.alloc()) else {
-        return fail(rt, NO_MEMORY);
-    };
+fn convert_pieces<L: TypeList>(
+    rt: &HostRuntime,
+    name: &str,
+    from: CodecForm,
+    to: OutputForm,
+) -> ExitCode {
+    let alloc = rt.alloc();
+    let mut pieces = Pieces::new(alloc, from, to, DEPTH);
+    let mut room = [0u8; PIECE];
     let mut input = rt.reader();
     for _ in 0..u64::MAX {
-        let size = match input.read(room.as_mut_slice()) {
-            Ok(size) => size,
-            Err(_) => return fail(rt, "standard input was not read"),
+        let Ok(size) = input.read(&mut room) else {
+            return fail(rt, NOT_READ);
         };
-        if pieces
-            .octets
-            .extend_from_slice(room.get(..size).unwrap_or(&[]))
-            .is_err()
-        {
-            return fail(rt, NO_MEMORY);
-        }
         let is_end = size == 0;
-        if !is_end && !pieces.are_enough() {
-            continue;
-        }
-        let answer = match answer_of::<L>(rt, name, action, &pieces.octets, pieces.before) {
-            Ok(answer) => answer,
-            Err(message) => return fail(rt, message),
-        };
-        if is_end || (answer.failure.is_some() && !answer.is_cut) {
-            return give(rt, &answer);
-        }
-        if !written(rt, &answer) {
-            return fail(rt, NOT_WRITTEN);
-        }
-        if pieces.take(&answer).is_err() {
+        if pieces.append(room.get(..size).unwrap_or(&[])).is_err() {
             return fail(rt, NO_MEMORY);
+        }
+        match pieces.answer::<L>(alloc, name, is_end) {
+            Err(_) => return fail(rt, NO_MEMORY),
+            Ok(Some(answer)) if is_end || answer.failure.is_some() => return give(rt, &answer),
+            Ok(Some(answer)) => {
+                if !written(rt, &answer) {
+                    return fail(rt, NOT_WRITTEN);
+                }
+            }
+            Ok(None) if is_end => return fail(rt, NO_TYPE),
+            Ok(None) => {}
         }
     }
     fail(rt, "the input has no end")
@@ -109,7 +113,7 @@ fn answer_of<L: TypeList>(
     name: &str,
     action: Action,
     input: &Vec<u8>,
-    before: Progress,
+    before: Converted,
 ) -> Result<Answer, &'static str> {
     let task = Task {
         alloc: rt.alloc(),
@@ -119,7 +123,7 @@ fn answer_of<L: TypeList>(
         depth: DEPTH,
     };
     match L::answer(name, task) {
-        None => Err("the program has no type of this name"),
+        None => Err(NO_TYPE),
         Some(Err(_)) => Err(NO_MEMORY),
         Some(Ok(answer)) => Ok(answer),
     }
@@ -129,7 +133,7 @@ fn answer_of<L: TypeList>(
 fn input_of(rt: &HostRuntime, is_hexadecimal: bool) -> Result<Vec<u8>, &'static str> {
     let mut input = Vec::new(rt.alloc());
     if rt.reader().read_to_end(&mut input).is_err() {
-        return Err("standard input was not read");
+        return Err(NOT_READ);
     }
     if !is_hexadecimal {
         return Ok(input);

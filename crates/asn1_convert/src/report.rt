@@ -1,10 +1,11 @@
 //! The line for a value that was not converted.
 
 use crate::form::CodecForm;
-use crate::places::read_failure;
+use crate::places::{ReadFailure, read_failure};
 use crate::stream::{Cause, Stop};
 use crate::task::Task;
-use asn1_dec::Decode;
+use asn1_dec::{Decode, DecodeError};
+use asn1_der_items::find_element;
 use asn1_items::ItemError;
 use asn1_rules::RecodeError;
 use std::alloc::AllocError;
@@ -23,15 +24,20 @@ pub(crate) fn stop_line<T: Decode>(
         .saturating_add(stop.before)
         .saturating_add(1);
     let start = task.before.octets.saturating_add(stop.start);
+    let length = known_length(task.input, stop);
+    let octets = octets_of(task.input, stop.start, length);
     let mut text = format!(in alloc; "value {number}, ")?;
-    push_octets(&mut text, start, stop.length)?;
+    push_octets(&mut text, start, length)?;
     text.push_str(": ")?;
     match stop.cause {
         Cause::NotRecoded(RecodeError::Read(error)) => {
-            let octets = octets_of(task.input, stop.start, stop.length);
             let failure = read_failure::<T>(alloc, from, octets, error, task.depth)?;
-            text.push_str(failure.words.as_str())?;
-            push_position(&mut text, start, failure.position)?;
+            push_failure(&mut text, start, failure)?;
+        }
+        Cause::NoFront(ItemError::Malformed) if length.is_some() => {
+            let error = DecodeError::Custom("bad item");
+            let failure = read_failure::<T>(alloc, CodecForm::Der, octets, error, task.depth)?;
+            push_failure(&mut text, start, failure)?;
         }
         Cause::NotRecoded(RecodeError::Write(error)) => write!(&mut text, "not written: {error}")?,
         Cause::NoFront(ItemError::Missing(_)) => text.push_str("the input ends inside it")?,
@@ -40,6 +46,24 @@ pub(crate) fn stop_line<T: Decode>(
     }
     text.push('\n')?;
     Ok(text)
+}
+
+/// How many octets a value has that was not converted, if that is known: of an element whose inside is malformed by its own length.
+fn known_length(input: &[u8], stop: Stop) -> Option<usize> {
+    match stop.cause {
+        Cause::NoFront(ItemError::Malformed) => {
+            let octets = octets_of(input, stop.start, None);
+            let element = find_element(octets).ok()?;
+            octets.len().checked_sub(element.rest.len())
+        }
+        _ => stop.length,
+    }
+}
+
+/// Appends why and where a value was not read that begins at an octet.
+fn push_failure(text: &mut String, start: usize, failure: ReadFailure) -> Result<(), AllocError> {
+    text.push_str(failure.words.as_str())?;
+    push_position(text, start, failure.position)
 }
 
 /// Appends the first and the last octet of a value, or the first alone.

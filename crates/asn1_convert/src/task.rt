@@ -25,17 +25,17 @@ pub enum Action {
 
 /// How many values and octets of an input were converted.
 #[derive(Clone, Copy, Debug, Default, Drop, PartialEq, Eq)]
-pub struct Progress {
+pub struct Converted {
     /// The values.
     pub values: usize,
     /// The octets.
     pub octets: usize,
 }
 
-impl Progress {
+impl Converted {
     /// What was converted, with more behind it.
-    pub(crate) fn followed_by(self, more: Progress) -> Progress {
-        Progress {
+    pub(crate) fn followed_by(self, more: Converted) -> Converted {
+        Converted {
             values: self.values.saturating_add(more.values),
             octets: self.octets.saturating_add(more.octets),
         }
@@ -48,7 +48,7 @@ pub struct Task<'a> {
     /// The allocator.
     pub alloc: Global,
     /// What of an input was converted before the octets.
-    pub before: Progress,
+    pub before: Converted,
     /// The octets.
     pub input: &'a Vec<u8>,
     /// The work.
@@ -61,13 +61,13 @@ pub struct Task<'a> {
 #[derive(Debug, Drop)]
 pub struct Answer {
     /// What of the octets was converted.
-    pub converted: Progress,
+    pub converted: Converted,
     /// The output.
     pub output: Vec<u8>,
     /// The line on standard error, where something failed.
     pub failure: Option<String>,
-    /// Whether the octets end inside the value at which the work failed, so that more octets may complete it.
-    pub is_cut: bool,
+    /// How many octets the value at which the work failed lacks at least, if the octets end inside it.
+    pub missing: Option<usize>,
 }
 
 /// The names of types, and what each does with a task.
@@ -97,22 +97,22 @@ impl<'a> Task<'a> {
         let values = conversion.count;
         match conversion.stop {
             None => Ok(Answer {
-                converted: Progress {
+                converted: Converted {
                     values,
                     octets: self.input.len(),
                 },
                 output: conversion.output,
                 failure: None,
-                is_cut: false,
+                missing: None,
             }),
             Some(stop) => Ok(Answer {
-                converted: Progress {
+                converted: Converted {
                     values,
                     octets: stop.start,
                 },
                 output: conversion.output,
                 failure: Some(stop_line::<T>(self, from, stop)?),
-                is_cut: matches!(stop.cause, Cause::NoFront(ItemError::Missing(_))),
+                missing: missing_octets(stop.cause),
             }),
         }
     }
@@ -123,10 +123,18 @@ impl<'a> Task<'a> {
             Err(error) => Some(check_line::<T>(self.alloc, self.input, error, self.depth)?),
         };
         Ok(Answer {
-            converted: Progress::default(),
+            converted: Converted::default(),
             output: Vec::new(self.alloc),
             failure,
-            is_cut: false,
+            missing: None,
         })
+    }
+}
+
+/// How many octets a value lacks at least that was not converted, if the input ends inside it.
+fn missing_octets(cause: Cause) -> Option<usize> {
+    match cause {
+        Cause::NoFront(ItemError::Missing(count)) => Some(count),
+        _ => None,
     }
 }

@@ -162,8 +162,10 @@ impl<D: Decoder> Decoder for PathDecoder<D> {
 
     fn next_component<C: FieldTable>(&mut self) -> Result<Option<Tag>, DecodeError> {
         let next = self.inner.next_component::<C>();
-        if let Ok(Some(tag)) = next {
-            self.path.begin_component(component_index::<C>(tag));
+        match next {
+            Ok(Some(tag)) => self.path.begin_component(component_index::<C>(tag)),
+            Ok(None) => {}
+            Err(_) => self.path.begin_component(None),
         }
         next
     }

@@ -140,10 +140,12 @@ impl Path {
         }
     }
 
-    /// Passes over a component that is known to be absent.
+    /// Passes over a component that is known to be absent, and goes to one of which it is not known for an error.
     pub(crate) fn pass_unless_present(&mut self, presence: &Result<bool, DecodeError>) {
-        if let Ok(false) = presence {
-            self.pass_part();
+        match presence {
+            Ok(true) => {}
+            Ok(false) => self.pass_part(),
+            Err(_) => self.begin_element(Limits::NONE),
         }
     }
 

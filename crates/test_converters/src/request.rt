@@ -5,6 +5,8 @@ use std::alloc::{AllocError, Global};
 /// Work on octets of a type.
 #[derive(Drop)]
 pub(crate) struct Request<'a> {
+    /// How many octets come at once, if they come in pieces.
+    pub(crate) piece: Option<usize>,
     /// The work.
     pub(crate) action: Action,
     /// The name of the type.
@@ -23,6 +25,7 @@ impl<'a> Request<'a> {
             Some((asked, _comment)) => asked,
             None => line,
         };
+        let (piece, asked) = piece_of(asked);
         let Some((action, rest)) = action_of(asked) else {
             return Ok(None);
         };
@@ -30,10 +33,22 @@ impl<'a> Request<'a> {
             return Ok(None);
         };
         Ok(Some(Request {
+            piece,
             action,
             type_name,
             octets: octets_of(alloc, digits)?,
         }))
+    }
+}
+
+/// The size of the pieces that the first words ask for, and the rest.
+fn piece_of(asked: &str) -> (Option<usize>, &str) {
+    let Some(("pieces", rest)) = asked.split_once(' ') else {
+        return (None, asked);
+    };
+    match rest.split_once(' ') {
+        Some((size, rest)) => (size.parse().ok(), rest),
+        None => (None, asked),
     }
 }
 

@@ -7,8 +7,8 @@ overflow_sub-result c =
     let front = c.in_ok-front.front in
     omega (arith, rest_within c.args.input.now front.normal.items front.rest.now c.in_ok-front.ensures.only.spells)
 
-pub returns : goal.returns
-returns c =
+pub returns-clause-length : goal.returns-clause-length
+returns-clause-length c =
     let front = c.in_ok-front.front in
     record {
       normal = front.normal.items;
