@@ -39,8 +39,7 @@ impl DerReader {
     /// How many octets the first value of an input has: those of the element that it begins with.
     ///
     /// # Errors
-    /// Why the input begins with no whole element: [`ItemError::Missing`] if it ends inside one, else [`ItemError::Malformed`]. No clause
-    /// tells the two apart.
+    /// Why the input begins with no whole element; [`ItemError::Missing`] if it ends inside one.
     pub fn front_length(&self, input: &[u8]) -> Result<usize, ItemError>
         ensures { MatchResult result (IsCut input.now) (λ e. (n : ℕ) → ¬ IsCut input.now n) }
     {
