@@ -1,13 +1,15 @@
 -- Texts of printable characters: their parts, digits, and escaped octets.
-use Rattle.std.proofs.Common.{◌≡◌, ℕ, zero, suc, ◌+◌, ◌/◌, ◌%◌, ◌<◌, ◌≤◌, ◌==◌, ℤ, pos, negsuc, Bool, true, false, not, ◌&&◌, ◌||◌, List, [], ◌∷◌, ◌++◌, Option, None, Some, codes, cond, length, refl, ◌∙◌, arith}
+use Rattle.std.proofs.Common.{◌≡◌, ℕ, zero, suc, ◌+◌, ◌/◌, ◌%◌, ◌<◌, ◌≤◌, ◌==◌, ℤ, pos, negsuc, Bool, true, false, not, ◌&&◌, ◌||◌, List, [], ◌∷◌, ◌++◌, Option, None, Some, codes, cond, length, map, refl, ◌∙◌, arith}
 use Rattle.std.specs.Prelude.{unsigned_abs}
 use Rattle.std.specs.Fmt.{decimal, digit_glyph, digits, digits_onto, sign_text, signed_decimal}
 use Rattle.std.specs.Int.{is_negative}
-use Rattle.std.specs.Int.Digits.{digits_of}
+use Rattle.std.specs.Int.Digits.{AllBelowBase, digits_of}
 use Rattle.std.specs.List.{flat_map, list_all}
 use Rattle.std.proofs.lemmas.Bool.Decides.{nat_tests}
+use Rattle.std.proofs.lemmas.Int.Digits.{all_below_base_digits_of}
 use Rattle.std.proofs.lemmas.List.Folds.{list_all-append}
-use Rattle.asn1_values.specs.Text.{byte_text, hexadecimal_text, integer_text, is_narrow}
+use Rattle.asn1_values.specs.Decimal.{decimal_digits}
+use Rattle.asn1_values.specs.Text.{byte_text, integer_text, is_narrow}
 use Rattle.asn1_ldap_text.specs.Escapes.{escaped_text, is_plain, is_printable, is_special, octet_escaped, octet_text}
 use Rattle.asn1_ldap_text.specs.declared.escapes.Place.{Place}
 
@@ -68,14 +70,22 @@ signed_printable : (z : ℤ) → Printable (signed_decimal z)
 signed_printable (pos n) = decimal_printable n
 signed_printable (negsuc n) = decimal_printable (suc n)
 
-hexadecimal_printable : (z : ℤ) → Printable (hexadecimal_text z)
-hexadecimal_printable z =
-    both (sign_text (is_negative z) ++ codes "0x") (flat_map byte_text (digits_of 256 (unsigned_abs z)))
-    (both (sign_text (is_negative z)) (codes "0x") (either (is_negative z) (45 ∷ []) [] refl refl) refl)
-    (each byte_text (digits_of 256 (unsigned_abs z)) byte_printable)
+digit_printable : (digit : ℕ) → digit < 10 → is_printable (48 + digit) ≡ true
+digit_printable digit small = grind (arith, nat_tests)
+
+all_digits_printable : (ds : List ℕ) → AllBelowBase 10 ds → Printable (map (λ digit. 48 + digit) ds)
+all_digits_printable [] below = refl
+all_digits_printable (d ∷ ds) below =
+    passed (is_printable (48 + d)) (list_all is_printable (map (λ digit. 48 + digit) ds)) (digit_printable d below.0) (all_digits_printable ds below.1)
+
+wide_printable : (z : ℤ) → Printable (sign_text (is_negative z) ++ decimal_digits (unsigned_abs z))
+wide_printable z =
+    both (sign_text (is_negative z)) (decimal_digits (unsigned_abs z)) (either (is_negative z) (45 ∷ []) [] refl refl)
+    (all_digits_printable (digits_of 10 (unsigned_abs z)) (all_below_base_digits_of 10 (unsigned_abs z) (omega arith)))
 
 pub integer_printable : (z : ℤ) → Printable (integer_text z)
-integer_printable z = either (is_narrow z) (signed_decimal z) (hexadecimal_text z) (signed_printable z) (hexadecimal_printable z)
+integer_printable z =
+    either (is_narrow z) (signed_decimal z) (sign_text (is_negative z) ++ decimal_digits (unsigned_abs z)) (signed_printable z) (wide_printable z)
 
 -- ---- octets
 
