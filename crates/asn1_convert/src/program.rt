@@ -15,16 +15,16 @@ const DEPTH: usize = 64;
 /// How many octets are read at once at most.
 const PIECE: usize = 4096;
 
-/// The message if the input cannot be read.
+/// What is told where the input cannot be read.
 const NOT_READ: &str = "standard input was not read";
 
-/// The message if a list has no type of the name.
+/// What is told where a list has no type of the name.
 const NO_TYPE: &str = "the program has no type of this name";
 
-/// The message if memory runs out.
+/// What is told where memory runs out.
 const NO_MEMORY: &str = "no memory";
 
-/// The message if the output cannot be written.
+/// What is told where the output cannot be written.
 const NOT_WRITTEN: &str = "standard output was not written";
 
 /// The status where a value was refused.
