@@ -1,0 +1,4 @@
+pub mod KnotMeanings
+pub mod Knots
+pub mod Readers
+pub mod Words
