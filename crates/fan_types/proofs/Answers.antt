@@ -1,19 +1,20 @@
 -- Octets that were read and written again: what they are if that succeeds, and why it fails.
 use Rattle.std.proofs.Common.{◌≡◌, ◌≢◌, ◌∙◌, ◌<◌, ℕ, Bool, List, ap, refl, subst, sym, inl, inr}
-use Rattle.std.specs.Prelude.{◌⊎◌, ℤ, Vec}
+use Rattle.std.specs.Prelude.{◌⊎◌, Vec}
 use Rattle.std.specs.declared.alloc.Global.{Global}
 use Rattle.asn1_der.specs.Format.{Carries, der_format}
+use Rattle.asn1_laws.specs.Refusals.{Refusals}
 use Rattle.asn1_laws.specs.declared.decode_error.DecodeError.TheVariants as reading
 use Rattle.asn1_laws.specs.declared.encode_error.EncodeError.TheVariants as writing
 use Rattle.asn1_model.specs.Meaning.{IsWellTagged, Meaning, own_records}
 use Rattle.asn1_model.specs.Records.{highest}
-use Rattle.asn1_rules.specs.CanonicalReading.{HasOneSpelling, IsRefusedFor, IsWrittenAs}
+use Rattle.asn1_rules.specs.CanonicalReading.{DepartsAs, HasOneSpelling, IsRefusedFor, IsWrittenAs}
 use Rattle.asn1_rules.specs.declared.canonical.CanonicalError.{CanonicalError}
 use Rattle.asn1_rules.specs.declared.canonical.CanonicalError.TheVariants.{Read, Write}
 use Rattle.fan_calls.specs.Statuses.{number_of}
 use Rattle.fan_calls.specs.declared.status.Status.{Status}
 use Rattle.fan_calls.specs.declared.status.Status.TheVariants.{Deep, Fault, Memory}
-use Rattle.fan_types.specs.Checks.{AcceptsOnlyDer, IsDerOf, IsOnlyDerOf}
+use Rattle.fan_types.specs.Checks.{AcceptsOnlyDer, AreRefusedAs, IsDerOf, IsOnlyDerOf}
 use Rattle.fan_types.specs.Refusals.{status_of_canonical}
 
 -- statuses differ
@@ -52,18 +53,16 @@ module _ {V : Type 0} (m : Meaning V) where
         (subst (λ l. Carries l (own_records m value)) (sym same) only.carries)
         (subst (λ l. HasOneSpelling der_format m eq value l) (sym same) only.one_spelling))
 
-    -- they are accepted, for a status that is that of the error
-    pub accepted : IsRefusedWell → (status : Status) → status ≡ status_of_canonical e → AcceptsOnlyDer m eq octets (number_of status)
+    -- they are accepted in their way, if a status of octets that are not at fault is that of the error
+    pub accepted : IsRefusedWell → (status : Status) → (status_of_canonical e ≢ Fault → status ≡ status_of_canonical e) →
+        AcceptsOnlyDer m eq octets (number_of status)
     accepted refused status is value tagged only =
         elim (of_only refused value tagged only) [
-          | inl memory ↦ inr (inl (ap number_of (is ∙ memory)))
-          | inr (deep, deeper) ↦ inr (inr (ap number_of (is ∙ deep), deeper))
+          | inl memory ↦ inr (inl (ap number_of (is (λ fault. fault_is_not_memory (sym fault ∙ memory)) ∙ memory)))
+          | inr (deep, deeper) ↦ inr (inr (ap number_of (is (λ fault. fault_is_not_deep (sym fault ∙ deep)) ∙ deep), deeper))
         ]
 
-    -- there is no such value, if the error is that of octets at fault
-    pub none_at_fault : IsRefusedWell → status_of_canonical e ≡ Fault → (number : ℤ) → AcceptsOnlyDer m eq octets number
-    none_at_fault refused fault number value tagged only =
-        elim (of_only refused value tagged only) [
-          | inl memory ↦ absurd (fault_is_not_memory (sym fault ∙ memory))
-          | inr (deep, deeper) ↦ absurd (fault_is_not_deep (sym fault ∙ deep))
-        ]
+    -- why they were refused
+    pub are_refused : (refusals : Refusals) (status : Status) → DepartsAs der_format m eq refusals 64 own e → status_of_canonical e ≡ status →
+        AreRefusedAs m eq refusals status octets
+    are_refused refusals status departs is = record { error = e; input = own; are = same; departs = departs; is = is }

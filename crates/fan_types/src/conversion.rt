@@ -16,6 +16,7 @@ use std::alloc::Global;
 
 /// Writes the DER of the value of the type whose BER the octets are. `FAN_FAULT` if they are that of none, or if it has no DER;
 /// `FAN_DEEP` if its scopes are nested more than 64 deep.
+#[tactic(auto, using(crate::proofs::Conversions::puts_der, crate::proofs::Conversions::lacks_der))]
 pub fn der<T: Encode + Decode>(
     alloc: Global,
     octets: &[u8],
@@ -62,6 +63,7 @@ pub fn text<T: Encode + Decode>(
 
 /// Writes the value of the type whose BER the octets are as JSON (X.697), in one line with a line feed at its end. The statuses are those
 /// of [`der`].
+#[tactic(auto, using(crate::proofs::Conversions::puts_json, crate::proofs::Conversions::lacks_json))]
 pub fn json<T: Encode + Decode>(
     alloc: Global,
     octets: &[u8],
@@ -82,6 +84,7 @@ pub fn json<T: Encode + Decode>(
 }
 
 /// Writes the value of the type whose BER the octets are in a form.
+#[tactic(auto, using(crate::proofs::Conversions::one_of_all))]
 fn convert<T: Encode + Decode>(
     alloc: Global,
     octets: &[u8],
@@ -89,6 +92,8 @@ fn convert<T: Encode + Decode>(
     out: &mut [u8],
     size: &mut usize,
 ) -> Status
+    ensures statuses { (result ≡ status.Ok) ⊎ ((result ≡ status.Fault) ⊎
+        ((result ≡ status.Room) ⊎ ((result ≡ status.Memory) ⊎ (result ≡ status.Deep)))) }
     ensures written { result ≡ status.Ok → Puts
         (IsConversion T.meaning T.eq T.refusals octets.now to) out.old out.new size.new }
     ensures refused { result ≡ status.Fault →
