@@ -5,7 +5,7 @@ ghost use Rattle.asn1_convert.specs.declared.form.OutputForm.TheVariants.{Codec,
 ghost use Rattle.fan_calls.specs.Results.{LacksRoom, Puts};
 ghost use Rattle.fan_calls.specs.Statuses.{FAN_DEEP, FAN_FAULT, FAN_MEMORY, FAN_OK, FAN_ROOM};
 ghost use Rattle.fan_calls.specs.declared.status.Status.TheVariants as status;
-ghost use Rattle.fan_types.specs.Conversions.{IsConversion, IsDerMade, IsJsonMade, IsNotConverted};
+ghost use Rattle.fan_types.specs.Conversions.{IsConversion, IsDerMade, IsJsonMade, IsNotConverted, IsTextMade};
 
 use crate::refusal::status_of_recoding;
 use asn1_convert::{CodecForm, OutputForm, convert_value};
@@ -16,7 +16,6 @@ use std::alloc::Global;
 
 /// Writes the DER of the value of the type whose BER the octets are. `FAN_FAULT` if they are that of none, or if it has no DER;
 /// `FAN_DEEP` if its scopes are nested more than 64 deep.
-#[tactic(auto, using(crate::proofs::Conversions::puts_der, crate::proofs::Conversions::lacks_der))]
 pub fn der<T: Encode + Decode>(
     alloc: Global,
     octets: &[u8],
@@ -26,9 +25,9 @@ pub fn der<T: Encode + Decode>(
     ensures statuses { (result ≡ FAN_OK) ⊎ ((result ≡ FAN_FAULT) ⊎
         ((result ≡ FAN_ROOM) ⊎ ((result ≡ FAN_MEMORY) ⊎ (result ≡ FAN_DEEP)))) }
     ensures written { result ≡ FAN_OK →
-        Puts (IsDerMade T.meaning T.eq octets.now) out.old out.new size.new }
+        Puts (IsDerMade T.meaning T.eq T.refusals octets.now) out.old out.new size.new }
     ensures no_room { result ≡ FAN_ROOM →
-        LacksRoom (IsDerMade T.meaning T.eq octets.now) out.old out.new size.new }
+        LacksRoom (IsDerMade T.meaning T.eq T.refusals octets.now) out.old out.new size.new }
     ensures refused { result ≡ FAN_FAULT →
         IsNotConverted T.meaning T.eq T.refusals octets.now (Codec Der) status.Fault }
     ensures deep { result ≡ FAN_DEEP →
@@ -48,14 +47,14 @@ pub fn text<T: Encode + Decode>(
 ) -> i32
     ensures statuses { (result ≡ FAN_OK) ⊎ ((result ≡ FAN_FAULT) ⊎
         ((result ≡ FAN_ROOM) ⊎ ((result ≡ FAN_MEMORY) ⊎ (result ≡ FAN_DEEP)))) }
-    ensures written { result ≡ FAN_OK → Puts
-        (IsConversion T.meaning T.eq T.refusals octets.now Notation) out.old out.new size.new }
+    ensures written { result ≡ FAN_OK →
+        Puts (IsTextMade T.meaning T.eq T.refusals octets.now) out.old out.new size.new }
+    ensures no_room { result ≡ FAN_ROOM →
+        LacksRoom (IsTextMade T.meaning T.eq T.refusals octets.now) out.old out.new size.new }
     ensures refused { result ≡ FAN_FAULT →
         IsNotConverted T.meaning T.eq T.refusals octets.now Notation status.Fault }
     ensures deep { result ≡ FAN_DEEP →
         IsNotConverted T.meaning T.eq T.refusals octets.now Notation status.Deep }
-    ensures no_room { result ≡ FAN_ROOM → LacksRoom
-        (IsConversion T.meaning T.eq T.refusals octets.now Notation) out.old out.new size.new }
     ensures stays { result ≢ FAN_OK → out.new ≡ out.old }
 {
     convert::<T>(alloc, octets, OutputForm::Notation, out, size).number()
@@ -63,7 +62,6 @@ pub fn text<T: Encode + Decode>(
 
 /// Writes the value of the type whose BER the octets are as JSON (X.697), in one line with a line feed at its end. The statuses are those
 /// of [`der`].
-#[tactic(auto, using(crate::proofs::Conversions::puts_json, crate::proofs::Conversions::lacks_json))]
 pub fn json<T: Encode + Decode>(
     alloc: Global,
     octets: &[u8],
@@ -72,8 +70,10 @@ pub fn json<T: Encode + Decode>(
 ) -> i32
     ensures statuses { (result ≡ FAN_OK) ⊎ ((result ≡ FAN_FAULT) ⊎
         ((result ≡ FAN_ROOM) ⊎ ((result ≡ FAN_MEMORY) ⊎ (result ≡ FAN_DEEP)))) }
-    ensures written { result ≡ FAN_OK → Puts IsJsonMade out.old out.new size.new }
-    ensures no_room { result ≡ FAN_ROOM → LacksRoom IsJsonMade out.old out.new size.new }
+    ensures written { result ≡ FAN_OK →
+        Puts (IsJsonMade T.meaning T.eq T.refusals octets.now) out.old out.new size.new }
+    ensures no_room { result ≡ FAN_ROOM →
+        LacksRoom (IsJsonMade T.meaning T.eq T.refusals octets.now) out.old out.new size.new }
     ensures refused { result ≡ FAN_FAULT →
         IsNotConverted T.meaning T.eq T.refusals octets.now Json status.Fault }
     ensures deep { result ≡ FAN_DEEP →
