@@ -14,14 +14,18 @@ use Rattle.fan_types.specs.Refusals.{status_of_recoding}
 module _ {V : Type 0} (m : Meaning V) (eq : V → V → Bool) (refusals : Refusals) (octets : List ℕ) (to : OutputForm) where
   -- Reading the octets by BER, with 64 nested scopes at most, and writing the value in the other form may make these.
   pub record IsConversion (written : List ℕ) : Type 0 where
+    pub input : Vec ℕ Global
+    pub same : input.items ≡ octets
     pub piece : Vec ℕ Global
-    pub are : piece.items ≡ written
-    pub converted : Converts m eq refusals 64 Ber octets to (Ok piece)
+    pub are : written ≡ piece.items
+    pub converted : Converts m eq refusals 64 Ber input.items to (Ok piece)
 
   -- It may fail for an error of this status.
   pub record IsNotConverted (status : Status) : Type 0 where
+    pub input : Vec ℕ Global
+    pub same : input.items ≡ octets
     pub error : RecodeError
-    pub refused : Converts m eq refusals 64 Ber octets to (Err error)
+    pub refused : Converts m eq refusals 64 Ber input.items to (Err error)
     pub is : status_of_recoding error ≡ status
 
 module _ {V : Type 0} (m : Meaning V) (eq : V → V → Bool) (refusals : Refusals) (octets : List ℕ) where
