@@ -1,5 +1,5 @@
 //! The messages with which octets begin.
-ghost use Rattle.std.specs.Prelude.{◌≡◌, ◌≤◌, IfOk, false, length, true};
+ghost use Rattle.std.specs.Prelude.{◌≡◌, ◌≤◌, ◌<◌, ◌^◌, IfOk, false, length, true};
 ghost use Rattle.asn1_ldap_stream.specs.Octets.{AreLinesBy, AreLinesOf, BeginsNoMessage, BeginsNoMessageBy, EndsInside, EndsInsideBy};
 
 use crate::failure::Failure;
@@ -75,7 +75,9 @@ fn lines_by<F: FrontReader<Any> + Drop, M: Rules<Output = Vec<u8>>>(
 
 /// A position, which lies in the octets.
 fn position_in(octets: &[u8], position: u128) -> usize
-    ensures { position ≤ length octets.now → result ≡ position }
+    ensures exact { position ≤ length octets.now → result ≡ position }
+    // A length is that of memory.
+    ensures short { length octets.now < 2 ^ 64 }
 {
     usize::try_from(position).unwrap_or(octets.len())
 }

@@ -1,5 +1,5 @@
 -- The lines of the messages with which octets begin.
-use Rattle.std.proofs.Common.{◌≡◌, ◌∙◌, ℕ, ◌+◌, ◌-◌, ◌≤◌, ◌<◌, ◌^◌, min, Bool, true, List, [], ◌++◌, length, take, drop, length-append, ap, refl, subst, sym, arith, inr}
+use Rattle.std.proofs.Common.{◌≡◌, ◌∙◌, ℕ, ◌+◌, ◌-◌, ◌≤◌, ◌<◌, ◌^◌, min, Bool, true, List, [], ◌++◌, length, take, drop, length-append, ap, refl, subst, sym, arith, inl, inr}
 use Rattle.std.proofs.Math.Seq.{drop-append_seam, take-append_seam}
 use Rattle.std.proofs.lemmas.List.{append-nil}
 use Rattle.std.proofs.KnownBytes.{Appends-nil}
@@ -7,7 +7,9 @@ use Rattle.std.specs.Prelude.{◌⊎◌, Option, Some, Vec}
 use Rattle.std.specs.declared.alloc.Global.{Global}
 use Rattle.asn1_laws.specs.declared.decode_error.DecodeError.{DecodeError}
 use Rattle.asn1_ldap_stream.specs.Octets.{AreLinesBy, BeginsNoMessageBy, EndsInsideBy}
-use Rattle.asn1_ldap_stream.specs.Showing.{AreShown, Continues, HasNoFront, IsNotRead, IsOther, Shows, ShowsUpTo, none}
+use Rattle.asn1_ldap_stream.specs.Showing.{AreShown, Continues, HasNoFront, IsNotRead, IsOther, Shows, ShowsUpTo, StopsAt, StopsBefore, none}
+use Rattle.asn1_ldap_stream.specs.declared.failure.Failure.{Failure}
+use Rattle.asn1_ldap_stream.specs.declared.failure.Failure.TheVariants.{Damaged}
 use Rattle.asn1_rules.specs.Fronts.{Fronts}
 use Rattle.asn1_rules.specs.Rules.{Format}
 use Rattle.asn1_rules.specs.States.{State, begun, counted}
@@ -20,14 +22,13 @@ parts_long octets bytes left parts = ap length (sym (append-nil octets) ∙ part
 pub long_by_left : (octets bytes left : List ℕ) (used : ℕ) → octets ++ [] ≡ bytes ++ left → used ≡ length octets - length left → used ≡ length bytes
 long_by_left octets bytes left used parts is = omega (arith, is, parts_long octets bytes left parts)
 
--- a position of the octets is no greater than their length
-pub position_inside : (octets bytes left : List ℕ) (at : ℕ) → octets ++ [] ≡ bytes ++ left → at ≡ counted 0 (length bytes) → at ≤ length octets
-position_inside octets bytes left at parts is = omega (arith, is, parts_long octets bytes left parts)
-
--- it is the length of the first part
-pub long_by_position : (octets bytes left : List ℕ) (at : ℕ) → length octets < 2 ^ 64 → octets ++ [] ≡ bytes ++ left → at ≡ counted 0 (length bytes) →
-    at ≡ length bytes
-long_by_position octets bytes left at short parts is = omega (arith, short, is, parts_long octets bytes left parts)
+-- a position that ends the first part is its length, and so is the answer for a position of the octets
+pub used_at : (octets bytes left : List ℕ) (position consumed used : ℕ) → length octets < 2 ^ 64 → octets ++ [] ≡ bytes ++ left →
+    consumed ≡ counted 0 (length bytes) → position ≡ consumed → (position ≤ length octets → used ≡ position) → used ≡ length bytes
+used_at octets bytes left position consumed used short parts is at answers =
+    let long : length octets ≡ length bytes + length left = parts_long octets bytes left parts in
+    let exact : position ≡ length bytes = omega (arith, short, is, at, long) in
+    answers (omega (arith, exact, long)) ∙ exact
 
 -- the second part is no longer than the octets
 pub left_within : (octets bytes left : List ℕ) → octets ++ [] ≡ bytes ++ left → length left ≤ length octets
@@ -45,17 +46,38 @@ second_part octets bytes left used parts long =
 
 module _ {R : Type 0} (F : Fronts R (List ℕ)) (reader : R) (rules : Format (Vec ℕ Global)) (depth : ℕ) where
   -- nothing is shown of an iterator that begins
-  begins : (octets : List ℕ) (s : State R) (w : Option (List ℕ)) → s ≡ begun reader octets → ShowsUpTo F reader rules depth octets s w w true
-  begins octets s w is = subst (λ t. ShowsUpTo F reader rules depth octets t w w true) (sym is) (record {
-    same = refl;
-    shown = record { bytes = []; text = []; elements = none; parts = refl; position = refl; lines = Appends-nil w };
-  })
+  begins : (r : R) (octets : List ℕ) (s : State R) (w : Option (List ℕ)) → s ≡ begun r octets → s.reader ≡ reader → ShowsUpTo F reader rules depth octets s w w true
+  begins r octets s w is same = record {
+    same = same;
+    shown = record {
+      bytes = [];
+      text = [];
+      elements = none;
+      parts = sym (ap (λ (t : State R). t.unread) is);
+      position = ap (λ (t : State R). t.consumed) is;
+      lines = Appends-nil w;
+    };
+  }
 
-  -- what is shown after it went on
-  pub shown_of : (octets text : List ℕ) (old new : State R) (all : Bool) → old ≡ begun reader octets →
-      Continues F reader rules depth [] old new (Some []) (Some text) true all →
+  -- what is shown after it went on, where nothing was written before
+  pub shown_of : (r : R) (octets before text : List ℕ) (old new : State R) (all : Bool) → old ≡ begun r octets → old.reader ≡ reader → before ≡ [] →
+      Continues F reader rules depth [] old new (Some before) (Some text) true all →
       Shows F reader rules depth (octets ++ []) new.unread new.consumed (Some []) (Some text) all
-  shown_of octets text old new all is goes_on = (goes_on.after octets (Some []) (begins octets old (Some []) is)).shown
+  shown_of r octets before text old new all is same empty goes_on =
+      ((subst (λ b. Continues F reader rules depth [] old new (Some b) (Some text) true all) empty goes_on).after octets (Some [])
+      (begins r octets old (Some []) is same)).shown
+
+  -- it went on to an element that is no message, or to none
+  pub stopped_before : (failure : Failure) (position : ℕ) (why : DecodeError) (old : State R) (before written : Option (List ℕ)) (was : Bool) →
+      failure ≡ Damaged position why → StopsAt F reader rules depth [] old before written was failure →
+      StopsBefore F reader rules depth [] old before written was (Damaged position why)
+  stopped_before failure position why old before written was is stopped =
+      only (subst (λ f. StopsAt F reader rules depth [] old before written was f) is stopped)
+    where
+      only : StopsAt F reader rules depth [] old before written was (Damaged position why) →
+          StopsBefore F reader rules depth [] old before written was (Damaged position why)
+      only (inl outside) = absurd outside
+      only (inr stops) = stops
 
   -- the lines of the elements that were used
   pub lines_of : (octets text left : List ℕ) (at used : ℕ) (all : Bool) → (s : Shows F reader rules depth (octets ++ []) left at (Some []) (Some text) all) →
