@@ -19,7 +19,7 @@ ghost use Rattle.fan_calls.specs.Statuses.{FAN_DEEP, FAN_FAULT, FAN_MEMORY, FAN_
 ghost use Rattle.fan_types.specs.Checks.{AcceptsOnlyDer, IsDerOf};
 ghost use Rattle.fan_types.specs.Conversions.{IsDerMade, IsJsonMade};
 
-use asn1_schema::AsnType;
+use asn1_schema::{AsnType, Decode};
 use @crate@::@type@;
 use std::alloc::Global;
 
@@ -56,7 +56,8 @@ pub extern \"C\" fn @crate@_@function@_der(
     ensures statuses { (result ≡ FAN_OK) ⊎ ((result ≡ FAN_FAULT) ⊎
         ((result ≡ FAN_ROOM) ⊎ ((result ≡ FAN_MEMORY) ⊎ (result ≡ FAN_DEEP)))) }
     ensures written { result ≡ FAN_OK → Puts (IsDerMade ⟦<@type@ as AsnType>⟧.meaning
-        ⟦<@type@ as PartialEq>⟧.eq octets.now) out.old out.new size.new }
+        ⟦<@type@ as PartialEq>⟧.eq ⟦<@type@ as Decode>⟧.refusals octets.now)
+        out.old out.new size.new }
     ensures stays { result ≢ FAN_OK → out.new ≡ out.old }
 {
     fan_types::der::<@type@>(alloc, octets, out, size)
@@ -93,7 +94,9 @@ pub extern \"C\" fn @crate@_@function@_json(
 ) -> i32
     ensures statuses { (result ≡ FAN_OK) ⊎ ((result ≡ FAN_FAULT) ⊎
         ((result ≡ FAN_ROOM) ⊎ ((result ≡ FAN_MEMORY) ⊎ (result ≡ FAN_DEEP)))) }
-    ensures written { result ≡ FAN_OK → Puts IsJsonMade out.old out.new size.new }
+    ensures written { result ≡ FAN_OK → Puts (IsJsonMade ⟦<@type@ as AsnType>⟧.meaning
+        ⟦<@type@ as PartialEq>⟧.eq ⟦<@type@ as Decode>⟧.refusals octets.now)
+        out.old out.new size.new }
     ensures stays { result ≢ FAN_OK → out.new ≡ out.old }
 {
     fan_types::json::<@type@>(alloc, octets, out, size)

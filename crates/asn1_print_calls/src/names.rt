@@ -97,7 +97,7 @@ pub(crate) fn push_each(
 }
 
 impl<'a> Words<'a> {
-    /// The name for which a word of a template stands.
+    /// The name that fills a word of a template.
     fn name_of(self, word: &str) -> &'a str {
         match word {
             "crate" => self.crate_name,

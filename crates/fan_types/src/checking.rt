@@ -4,6 +4,7 @@ ghost use Rattle.fan_calls.specs.Results.{LacksRoom, Puts};
 ghost use Rattle.fan_calls.specs.Statuses.{FAN_DEEP, FAN_FAULT, FAN_MEMORY, FAN_OK, FAN_ROOM};
 ghost use Rattle.fan_calls.specs.declared.status.Status.TheVariants as status;
 ghost use Rattle.fan_types.specs.Checks.{AcceptsOnlyDer, AreRefusedAs, IsDerOf};
+ghost use Rattle.fan_types.specs.Refusals.{status_of_canonical};
 
 use crate::refusal::status_of_canonical;
 use asn1_certificate_rules::{Part, RuleSet, find_broken_rule};
@@ -18,6 +19,7 @@ use std::alloc::Global;
 /// `FAN_OK` if the octets are the DER of a value of the type: it is read, and writing it makes these octets. `FAN_FAULT` if they are
 /// not, with the words for the reason, and the position of the octet, from 0, if it is known. `FAN_DEEP` if the scopes of the value are
 /// nested more than 64 deep.
+#[tactic(auto, using(crate::proofs::Answers::is_der, crate::proofs::Answers::accepted, crate::proofs::Answers::are_refused))]
 pub fn check<T: Encode + Decode + Drop>(
     alloc: Global,
     octets: &[u8],
@@ -40,17 +42,40 @@ pub fn check<T: Encode + Decode + Drop>(
     let Ok(own) = Vec::from_slice(alloc, octets) else {
         return Status::Memory.number();
     };
-    let read: Result<T, CanonicalError> = read_canonical(&DerRules::new(alloc), &own, DEPTH);
-    let Err(error) = read else {
-        return Status::Ok.number();
-    };
-    match status_of_canonical(error) {
-        Status::Fault => put_fault::<T>(alloc, &own, error, position, text, size).number(),
-        status => status.number(),
+    match read_canonical::<T, _>(&DerRules::new(alloc), &own, DEPTH) {
+        Ok(_value) => Status::Ok.number(),
+        Err(error) => put_refusal::<T>(alloc, &own, error, position, text, size).number(),
     }
 }
 
-/// Writes the reason for which octets were refused.
+/// The status of octets that were refused for this error, with the reason if they are at fault.
+fn put_refusal<T: Encode + Decode>(
+    alloc: Global,
+    octets: &Vec<u8>,
+    error: CanonicalError,
+    position: &mut usize,
+    text: &mut [u8],
+    size: &mut usize,
+) -> Status
+    ensures statuses { (result ≡ status.Fault) ⊎ ((result ≡ status.Room) ⊎
+        ((result ≡ status.Memory) ⊎ (result ≡ status.Deep))) }
+    ensures fault { result ≡ status.Fault → status_of_canonical error ≡ status.Fault }
+    ensures room { result ≡ status.Room → status_of_canonical error ≡ status.Fault }
+    ensures deep { result ≡ status.Deep → status_of_canonical error ≡ status.Deep }
+    ensures others { status_of_canonical error ≢ status.Fault →
+        result ≡ status_of_canonical error }
+    ensures message { result ≡ status.Fault → Puts (λ _. ⊤) text.old text.new size.new }
+    ensures no_room { result ≡ status.Room → LacksRoom (λ _. ⊤) text.old text.new size.new }
+    ensures stays { result ≢ status.Fault → text.new ≡ text.old }
+{
+    match status_of_canonical(error) {
+        Status::Deep => Status::Deep,
+        Status::Fault => put_fault::<T>(alloc, octets, error, position, text, size),
+        _ => Status::Memory,
+    }
+}
+
+/// Writes the reason for which octets are at fault.
 fn put_fault<T: Encode + Decode>(
     alloc: Global,
     octets: &Vec<u8>,

@@ -5,7 +5,7 @@ ghost use Rattle.asn1_convert.specs.declared.form.OutputForm.TheVariants.{Codec,
 ghost use Rattle.fan_calls.specs.Results.{LacksRoom, Puts};
 ghost use Rattle.fan_calls.specs.Statuses.{FAN_DEEP, FAN_FAULT, FAN_MEMORY, FAN_OK, FAN_ROOM};
 ghost use Rattle.fan_calls.specs.declared.status.Status.TheVariants as status;
-ghost use Rattle.fan_types.specs.Conversions.{IsConversion, IsDerMade, IsJsonMade, IsNotConverted};
+ghost use Rattle.fan_types.specs.Conversions.{IsConversion, IsDerMade, IsJsonMade, IsNotConverted, IsTextMade};
 
 use crate::refusal::status_of_recoding;
 use asn1_convert::{CodecForm, OutputForm, convert_value};
@@ -25,9 +25,9 @@ pub fn der<T: Encode + Decode>(
     ensures statuses { (result ≡ FAN_OK) ⊎ ((result ≡ FAN_FAULT) ⊎
         ((result ≡ FAN_ROOM) ⊎ ((result ≡ FAN_MEMORY) ⊎ (result ≡ FAN_DEEP)))) }
     ensures written { result ≡ FAN_OK →
-        Puts (IsDerMade T.meaning T.eq octets.now) out.old out.new size.new }
+        Puts (IsDerMade T.meaning T.eq T.refusals octets.now) out.old out.new size.new }
     ensures no_room { result ≡ FAN_ROOM →
-        LacksRoom (IsDerMade T.meaning T.eq octets.now) out.old out.new size.new }
+        LacksRoom (IsDerMade T.meaning T.eq T.refusals octets.now) out.old out.new size.new }
     ensures refused { result ≡ FAN_FAULT →
         IsNotConverted T.meaning T.eq T.refusals octets.now (Codec Der) status.Fault }
     ensures deep { result ≡ FAN_DEEP →
@@ -47,14 +47,14 @@ pub fn text<T: Encode + Decode>(
 ) -> i32
     ensures statuses { (result ≡ FAN_OK) ⊎ ((result ≡ FAN_FAULT) ⊎
         ((result ≡ FAN_ROOM) ⊎ ((result ≡ FAN_MEMORY) ⊎ (result ≡ FAN_DEEP)))) }
-    ensures written { result ≡ FAN_OK → Puts
-        (IsConversion T.meaning T.eq T.refusals octets.now Notation) out.old out.new size.new }
+    ensures written { result ≡ FAN_OK →
+        Puts (IsTextMade T.meaning T.eq T.refusals octets.now) out.old out.new size.new }
+    ensures no_room { result ≡ FAN_ROOM →
+        LacksRoom (IsTextMade T.meaning T.eq T.refusals octets.now) out.old out.new size.new }
     ensures refused { result ≡ FAN_FAULT →
         IsNotConverted T.meaning T.eq T.refusals octets.now Notation status.Fault }
     ensures deep { result ≡ FAN_DEEP →
         IsNotConverted T.meaning T.eq T.refusals octets.now Notation status.Deep }
-    ensures no_room { result ≡ FAN_ROOM → LacksRoom
-        (IsConversion T.meaning T.eq T.refusals octets.now Notation) out.old out.new size.new }
     ensures stays { result ≢ FAN_OK → out.new ≡ out.old }
 {
     convert::<T>(alloc, octets, OutputForm::Notation, out, size).number()
@@ -70,8 +70,10 @@ pub fn json<T: Encode + Decode>(
 ) -> i32
     ensures statuses { (result ≡ FAN_OK) ⊎ ((result ≡ FAN_FAULT) ⊎
         ((result ≡ FAN_ROOM) ⊎ ((result ≡ FAN_MEMORY) ⊎ (result ≡ FAN_DEEP)))) }
-    ensures written { result ≡ FAN_OK → Puts IsJsonMade out.old out.new size.new }
-    ensures no_room { result ≡ FAN_ROOM → LacksRoom IsJsonMade out.old out.new size.new }
+    ensures written { result ≡ FAN_OK →
+        Puts (IsJsonMade T.meaning T.eq T.refusals octets.now) out.old out.new size.new }
+    ensures no_room { result ≡ FAN_ROOM →
+        LacksRoom (IsJsonMade T.meaning T.eq T.refusals octets.now) out.old out.new size.new }
     ensures refused { result ≡ FAN_FAULT →
         IsNotConverted T.meaning T.eq T.refusals octets.now Json status.Fault }
     ensures deep { result ≡ FAN_DEEP →
@@ -82,6 +84,7 @@ pub fn json<T: Encode + Decode>(
 }
 
 /// Writes the value of the type whose BER the octets are in a form.
+#[tactic(auto, using(crate::proofs::Conversions::one_of_all))]
 fn convert<T: Encode + Decode>(
     alloc: Global,
     octets: &[u8],
@@ -89,6 +92,8 @@ fn convert<T: Encode + Decode>(
     out: &mut [u8],
     size: &mut usize,
 ) -> Status
+    ensures statuses { (result ≡ status.Ok) ⊎ ((result ≡ status.Fault) ⊎
+        ((result ≡ status.Room) ⊎ ((result ≡ status.Memory) ⊎ (result ≡ status.Deep)))) }
     ensures written { result ≡ status.Ok → Puts
         (IsConversion T.meaning T.eq T.refusals octets.now to) out.old out.new size.new }
     ensures refused { result ≡ status.Fault →

@@ -5,7 +5,7 @@ ghost use Rattle.fan_calls.specs.Statuses.{FAN_DEEP, FAN_FAULT, FAN_MEMORY, FAN_
 ghost use Rattle.fan_types.specs.Checks.{AcceptsOnlyDer, IsDerOf};
 ghost use Rattle.fan_types.specs.Conversions.{IsDerMade, IsJsonMade};
 
-use asn1_schema::AsnType;
+use asn1_schema::{AsnType, Decode};
 use greetings::Greeting;
 use std::alloc::Global;
 
@@ -39,7 +39,8 @@ pub extern "C" fn greetings_greeting_der(
     ensures statuses { (result ≡ FAN_OK) ⊎ ((result ≡ FAN_FAULT) ⊎
         ((result ≡ FAN_ROOM) ⊎ ((result ≡ FAN_MEMORY) ⊎ (result ≡ FAN_DEEP)))) }
     ensures written { result ≡ FAN_OK → Puts (IsDerMade ⟦<Greeting as AsnType>⟧.meaning
-        ⟦<Greeting as PartialEq>⟧.eq octets.now) out.old out.new size.new }
+        ⟦<Greeting as PartialEq>⟧.eq ⟦<Greeting as Decode>⟧.refusals octets.now)
+        out.old out.new size.new }
     ensures stays { result ≢ FAN_OK → out.new ≡ out.old }
 {
     fan_types::der::<Greeting>(alloc, octets, out, size)
@@ -70,7 +71,9 @@ pub extern "C" fn greetings_greeting_json(
 ) -> i32
     ensures statuses { (result ≡ FAN_OK) ⊎ ((result ≡ FAN_FAULT) ⊎
         ((result ≡ FAN_ROOM) ⊎ ((result ≡ FAN_MEMORY) ⊎ (result ≡ FAN_DEEP)))) }
-    ensures written { result ≡ FAN_OK → Puts IsJsonMade out.old out.new size.new }
+    ensures written { result ≡ FAN_OK → Puts (IsJsonMade ⟦<Greeting as AsnType>⟧.meaning
+        ⟦<Greeting as PartialEq>⟧.eq ⟦<Greeting as Decode>⟧.refusals octets.now)
+        out.old out.new size.new }
     ensures stays { result ≢ FAN_OK → out.new ≡ out.old }
 {
     fan_types::json::<Greeting>(alloc, octets, out, size)
