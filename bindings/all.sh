@@ -1,6 +1,6 @@
 #!/bin/bash
-# Builds libfanughespu.a and libgreetings_c.a and the bindings to C, Rust and Python, and runs their tests. Its last line is
-# "N passed, M failed". FANUGHESPU_LIB, if set, is a folder with both libraries; else `rt lib` proves and builds them.
+# Builds libfanughespu.a and the bindings to C, Rust and Python, and runs their tests. Its last line is "N passed, M failed".
+# FANUGHESPU_LIB, if set, is a folder with the library; else `rt lib` proves and builds it.
 set -u
 cd "$(dirname "$0")" || exit 2
 build=${FANUGHESPU_BUILD:-$(mktemp -d)}
@@ -73,11 +73,9 @@ rust_tests() {
 }
 
 if [ -n "${FANUGHESPU_LIB:-}" ]; then
-    step "libraries that were built before" cp "$FANUGHESPU_LIB/libfanughespu.a" "$FANUGHESPU_LIB/libgreetings_c.a" "$build/"
+    step "the library that was built before" cp "$FANUGHESPU_LIB/libfanughespu.a" "$build/"
 else
-    for name in fanughespu greetings_c; do
-        step "rt lib of $name" build_library $name
-    done
+    step "rt lib" build_library fanughespu
     cat "$build/times"
 fi
 step "certificates of the machine" make_certificates
@@ -98,22 +96,6 @@ tests "Rust" rust_tests
 
 step "shared object" build_module
 tests "Python" env PYTHONPATH="$build/python" python3 "$build/python/test.py" "$PWD/rows.txt" "$PWD/../examples" "${certificates[@]}"
-
-greetings=../crates/greetings_c
-build_greetings() {
-    gcc $c_warnings -O1 -g -Ic -I$greetings greetings/rows.c c/heap.c "$build/libgreetings_c.a" -o "$build/greetings.c.out" || return 1
-    echo '#include "greetings.h"' > "$build/greetings.cc"
-    g++ -std=c++17 -Wall -Wextra -Werror -Ic -I$greetings -c "$build/greetings.cc" -o "$build/greetings.o" || return 1
-    rustc --edition 2024 -D warnings -A dead_code -L "$build" greetings/rows.rs -o "$build/greetings.rust.out" || return 1
-    cp $greetings/greetings.py greetings/test.py "$build/"
-    gcc -O2 -shared -fPIC -o "$build/libgreetings_c.so" c/heap.c -Wl,--whole-archive "$build/libgreetings_c.a" \
-        -Wl,--no-whole-archive -Wl,-z,defs -Wl,-z,text -Wl,--version-script=greetings/version.map
-}
-step "greetings" build_greetings
-tests "greetings in C" "$build/greetings.c.out" greetings/rows.txt
-step "greetings under valgrind" valgrind -q --error-exitcode=9 --leak-check=full "$build/greetings.c.out" greetings/rows.txt
-tests "greetings in Rust" "$build/greetings.rust.out"
-tests "greetings in Python" python3 "$build/test.py" greetings/rows.txt
 
 passed=$(grep -c "^ok" "$log")
 failed=$(grep -c "^FAILED" "$log")

@@ -15,8 +15,7 @@ use crate::problems::syntax_problems;
 use asn1_grammar::{Parsed, parse};
 use asn1_module_check::{check_extensible_choices, check_tags};
 use asn1_modules::Source;
-use asn1_print::{Extern, Printed, Request, list_types, print_crate, print_program};
-use asn1_print_calls::print_calls;
+use asn1_print::{Extern, Printed, Request, print_crate, print_program};
 use asn1_resolved::{Problem, Schema};
 use asn1_resolver::{Resolution, resolve};
 use std::alloc::{AllocError, Global};
@@ -246,10 +245,6 @@ fn print_with<'a>(
     let mut printed = print_crate(alloc, request)?;
     if job.has_program {
         printed.files.push(print_program(alloc, request)?)?;
-    }
-    if job.has_exports {
-        let types = list_types(alloc, request)?;
-        printed.files.append(&mut print_calls(alloc, &*job.crate_name, types.as_slice())?)?;
     }
     Ok(printed)
 }

@@ -40,17 +40,16 @@ fn command<'a>(alloc: Global) -> Result<Command<'a>, AllocError> {
         .action(ArgAction::Append)
         .value_name("MODULE=CRATE")
         .help("A module that was compiled to a crate already, as PKIX1Explicit88=certificates");
-    let program = flag(
-        alloc,
-        "program",
-        "Write, beside the crate, the program CRATE_convert, which converts values of its types",
-    );
-    let exports = flag(
-        alloc,
-        "exports",
-        "Write, beside the crate, the crate CRATE_c, which exports calls for its types to C, Rust and Python",
-    );
-    let check = flag(alloc, "check", "Write no file, only errors and warnings");
+    let program = Arg::new(alloc, "program")
+        .long("program")
+        .action(ArgAction::SetTrue)
+        .help(
+            "Write, beside the crate, the program CRATE_convert, which converts values of its types",
+        );
+    let check = Arg::new(alloc, "check")
+        .long("check")
+        .action(ArgAction::SetTrue)
+        .help("Write no file, only errors and warnings");
     Command::new(alloc, "asn1_compile")
         .about(ABOUT)
         .after_help(STATUSES)
@@ -58,18 +57,9 @@ fn command<'a>(alloc: Global) -> Result<Command<'a>, AllocError> {
         .arg(externs)?
         .arg(extern_modules)?
         .arg(program)?
-        .arg(exports)?
         .arg(check)?
         .arg(name)?
         .arg(files)
-}
-
-// An argument that is there or not.
-fn flag<'a>(alloc: Global, name: &'a str, help: &'a str) -> Arg<'a> {
-    Arg::new(alloc, name)
-        .long(name)
-        .action(ArgAction::SetTrue)
-        .help(help)
 }
 
 /// What these words of a command line ask for.
