@@ -33,6 +33,12 @@ pub enum Expected {
     NumberName,
     /// The name of a type or of a value.
     AnyName,
+    /// The name of a field, behind '&'.
+    FieldName,
+    /// The name of a parameter.
+    ParameterName,
+    /// The path to a component, behind '@'.
+    Path,
     /// A definition, or END.
     Definition,
     /// '::='.
@@ -89,6 +95,8 @@ pub enum Expected {
     Of,
     /// STRING.
     String,
+    /// SYNTAX.
+    Syntax,
     /// TAGS.
     Tags,
 }
@@ -110,6 +118,9 @@ impl Expected {
             Expected::ArcName => "the name of an arc",
             Expected::NumberName => "the name of a number",
             Expected::AnyName => "the name of a type or of a value",
+            Expected::FieldName => "the name of a field, behind '&'",
+            Expected::ParameterName => "the name of a parameter",
+            Expected::Path => "the path to a component, behind '@'",
             Expected::Definition => "a definition, or END",
             Expected::Assignment => "'::='",
             Expected::OpenBrace => "'{'",
@@ -138,6 +149,7 @@ impl Expected {
             Expected::Implied => "IMPLIED",
             Expected::Of => "OF",
             Expected::String => "STRING",
+            Expected::Syntax => "SYNTAX",
             Expected::Tags => "TAGS",
         }
     }
@@ -158,6 +170,8 @@ pub enum Owner {
     Name,
     /// Component.
     Component,
+    /// Field.
+    Field,
     /// Item.
     Item,
     /// Number.
@@ -173,6 +187,7 @@ impl Owner {
             Owner::Module => "module",
             Owner::Name => "the name",
             Owner::Component => "component",
+            Owner::Field => "field",
             Owner::Item => "item",
             Owner::Number => "number",
             Owner::Value => "the type of value",
@@ -209,22 +224,10 @@ pub enum Construct {
     InstanceOf,
     /// A type of the standard ISO 8601.
     Time,
-    /// An information object class.
+    /// An information object class where a type is.
     Class,
-    /// A field of an information object class.
-    ClassField,
-    /// A set of values or of information objects.
-    Set,
-    /// A constraint by an information object set.
-    ObjectSetConstraint,
-    /// CONSTRAINED BY.
-    ConstrainedBy,
-    /// A parameterized definition.
-    ParameterizedDefinition,
-    /// A parameterized type.
-    ParameterizedType,
-    /// A macro.
-    Macro,
+    /// A parameterized value.
+    ParameterizedValue,
 }
 
 impl Construct {
@@ -241,14 +244,8 @@ impl Construct {
             Construct::RelativeOidIri => "RELATIVE-OID-IRI",
             Construct::InstanceOf => "INSTANCE OF",
             Construct::Time => "a type of the standard ISO 8601",
-            Construct::Class => "an information object class",
-            Construct::ClassField => "a field of an information object class",
-            Construct::Set => "a set of values or of information objects",
-            Construct::ObjectSetConstraint => "a constraint by an information object set",
-            Construct::ConstrainedBy => "CONSTRAINED BY",
-            Construct::ParameterizedDefinition => "a parameterized definition",
-            Construct::ParameterizedType => "a parameterized type",
-            Construct::Macro => "a macro",
+            Construct::Class => "an information object class as a type",
+            Construct::ParameterizedValue => "a parameterized value",
         }
     }
 }
