@@ -182,7 +182,7 @@ fn sees_type_word(cursor: &Cursor<'_>, count: usize) -> bool {
         || cursor.sees_kind_after(count, TokenKind::ReservedWord)
 }
 
-// Whether '::=' and a brace are so many tokens behind the next.
+// Whether '::=' and a brace follow this many tokens.
 fn sees_braced(cursor: &Cursor<'_>, count: usize) -> bool {
     sees_assigned(cursor, count)
         && cursor.sees_after(count.saturating_add(1), TokenKind::Symbol, b"{")

@@ -1,4 +1,4 @@
-//! What is between braces and is not read.
+//! Parts in braces that are not read.
 use crate::cursor::{Cursor, span_of};
 use crate::error::{Expected, Fault};
 use asn1_notation::Span;

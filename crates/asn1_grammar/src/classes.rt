@@ -11,7 +11,7 @@ use asn1_tokens::TokenKind;
 use std::alloc::{AllocError, Global};
 use std::collections::HashSet;
 
-/// Whether the token so many behind the next is the name of a class: in capitals alone (X.681, 7.1), or a class of the language.
+/// Whether the token behind this many is the name of a class: in capitals alone (X.681, 7.1), or a class of the language.
 pub(crate) fn sees_class_name(cursor: &Cursor<'_>, count: usize) -> bool {
     match cursor.peek_after(count) {
         Some(token) => match token.kind {
@@ -134,10 +134,11 @@ pub(crate) fn parse_class(cursor: &mut Cursor<'_>) -> Result<Class, Fault> {
 
 // Reads WITH SYNTAX and its braces, if it is next.
 fn with_syntax(cursor: &mut Cursor<'_>) -> Result<Option<Span>, Fault> {
-    if !cursor.accept_word(b"WITH") {
+    if !cursor.sees_word(b"WITH") || !cursor.sees_after(1, TokenKind::ReservedWord, b"SYNTAX") {
         return Ok(None);
     }
-    cursor.expect_word(b"SYNTAX", Expected::Syntax)?;
+    cursor.skip();
+    cursor.skip();
     let syntax = braced(cursor)?;
     Ok(Some(syntax))
 }

@@ -35,10 +35,6 @@ pub enum Expected {
     AnyName,
     /// The name of a field, behind '&'.
     FieldName,
-    /// The name of a parameter.
-    ParameterName,
-    /// The path to a component, behind '@'.
-    Path,
     /// A definition, or END.
     Definition,
     /// '::='.
@@ -95,8 +91,6 @@ pub enum Expected {
     Of,
     /// STRING.
     String,
-    /// SYNTAX.
-    Syntax,
     /// TAGS.
     Tags,
 }
@@ -119,8 +113,6 @@ impl Expected {
             Expected::NumberName => "the name of a number",
             Expected::AnyName => "the name of a type or of a value",
             Expected::FieldName => "the name of a field, behind '&'",
-            Expected::ParameterName => "the name of a parameter",
-            Expected::Path => "the path to a component, behind '@'",
             Expected::Definition => "a definition, or END",
             Expected::Assignment => "'::='",
             Expected::OpenBrace => "'{'",
@@ -149,7 +141,6 @@ impl Expected {
             Expected::Implied => "IMPLIED",
             Expected::Of => "OF",
             Expected::String => "STRING",
-            Expected::Syntax => "SYNTAX",
             Expected::Tags => "TAGS",
         }
     }

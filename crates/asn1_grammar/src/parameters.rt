@@ -57,6 +57,6 @@ fn parameter(cursor: &mut Cursor<'_>) -> Result<Parameter, Fault> {
         cursor.expect_symbol(b":", Expected::Colon)?;
         Some(governor)
     };
-    let name = cursor.any_name(Expected::ParameterName)?;
+    let name = cursor.any_name(Expected::AnyName)?;
     Ok(Parameter { governor, name })
 }

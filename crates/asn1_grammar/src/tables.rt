@@ -44,7 +44,7 @@ pub(crate) fn table(cursor: &mut Cursor<'_>) -> Result<ConstraintKind, Fault> {
 
 // Reads the path to a component.
 fn at_path(cursor: &mut Cursor<'_>) -> Result<AtPath, Fault> {
-    cursor.expect_symbol(b"@", Expected::Path)?;
+    cursor.expect_symbol(b"@", Expected::ComponentName)?;
     let dots = dots(cursor);
     let mut names = Vec::new(cursor.alloc());
     for _ in 0..cursor.len() {

@@ -286,7 +286,7 @@ impl Nesting {
     }
 }
 
-// What is in front of the type that is defined, and the rest.
+// The text in front of the defined type, and the rest.
 fn split_definition(definition: &str) -> (&str, &str) {
     match definition.split_once("} ::= ") {
         Some((front, rest)) => match definition.split_at_checked(front.len().saturating_add(6)) {

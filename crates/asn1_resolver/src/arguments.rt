@@ -7,7 +7,7 @@ use asn1_notation::{Argument, Parameter, Reference, TypeKind, ValueKind};
 use asn1_notation_text::type_word;
 use std::alloc::AllocError;
 
-/// What a name with arguments stands for.
+/// The meaning of a name with arguments.
 #[derive(Clone, Copy)]
 pub(crate) enum Meant {
     /// The definition of this index: its parameters are objects and object sets, so no argument changes it.
@@ -28,7 +28,7 @@ struct Use<'a> {
 }
 
 impl<'a> Resolver<'_, 'a> {
-    /// The index in the schema of the type that a name with arguments stands for.
+    /// The index in the schema of a type with arguments.
     #[cycle(instances)]
     pub(crate) fn completed_type(
         &mut self,
@@ -46,7 +46,7 @@ impl<'a> Resolver<'_, 'a> {
         }
     }
 
-    /// What a name with arguments stands for, which is the definition of an index if no earlier one is the same type.
+    /// The meaning of a name with arguments. A definition of an index can be its home, unless an earlier one is the same type.
     #[cycle(instances)]
     pub(crate) fn meant(
         &mut self,
@@ -329,7 +329,7 @@ impl<'a> Resolver<'_, 'a> {
         }
     }
 
-    /// The type for which parameters stand that are arguments of one another.
+    /// The type behind parameters that are arguments of others.
     pub(crate) fn behind_parameters(&self, governed: Governed<'a>) -> Governed<'a> {
         let mut current = governed;
         for _ in 0..MAX_PARAMETERS {
@@ -341,7 +341,7 @@ impl<'a> Resolver<'_, 'a> {
         current
     }
 
-    /// The value for which parameters stand that are arguments of one another.
+    /// The value behind parameters that are arguments of others.
     pub(crate) fn behind_value_parameters(&self, written: Written<'a>) -> Written<'a> {
         let mut current = written;
         for _ in 0..MAX_PARAMETERS {
@@ -357,7 +357,7 @@ impl<'a> Resolver<'_, 'a> {
         current
     }
 
-    /// The type that is the argument for which a type stands, if it is the name of a parameter.
+    /// The argument of a type that is the name of a parameter.
     pub(crate) fn argument_type(&self, governed: Governed<'a>) -> Option<Governed<'a>> {
         let TypeKind::Reference(reference) = &governed.definition.kind else {
             return None;
@@ -372,7 +372,7 @@ impl<'a> Resolver<'_, 'a> {
         }
     }
 
-    /// The value that is the argument for which a name stands, if it is that of a parameter.
+    /// The argument of a name that is that of a parameter, if it is a value.
     pub(crate) fn argument_value(
         &self,
         scope: Scope<'a>,
@@ -397,7 +397,7 @@ impl<'a> Resolver<'_, 'a> {
 /// How often a parameter may be the argument for another.
 const MAX_PARAMETERS: usize = 200;
 
-// What an argument has to be, if it is something else.
+// The kind that an argument should have, if it has another.
 fn wanted_of(scope: Scope<'_>, parameter: &Parameter, argument: &Argument) -> Option<&'static str> {
     let is_value = match scope.octets(parameter.name) {
         [b'a'..=b'z', ..] => true,

@@ -21,6 +21,19 @@ pub(crate) enum Base<'a> {
     Missing,
 }
 
+// A step from a type to the one behind it.
+#[derive(Clone, Copy)]
+enum Step<'a> {
+    // To this type.
+    Next(Governed<'a>),
+    // From the alternative of a name to its CHOICE.
+    Choice(Span, Governed<'a>),
+    // There is none.
+    Last,
+    // To a definition that leads to itself.
+    Circle,
+}
+
 // An alternative whose CHOICE is searched.
 #[derive(Clone, Copy)]
 struct Selected<'a> {
@@ -51,7 +64,7 @@ impl<'a> Resolver<'_, 'a> {
         }
     }
 
-    /// The type for which another stands: the argument of a parameter, or that of the field of a class.
+    /// The argument of a parameter, or the type of the field of a class.
     pub(crate) fn stand_in(
         &mut self,
         governed: Governed<'a>,
@@ -108,49 +121,58 @@ impl<'a> Resolver<'_, 'a> {
         let mut passed = Vec::new(self.alloc);
         let mut selected: Vec<Selected<'a>> = Vec::new(self.alloc);
         for _ in 0..self.most_steps() {
-            let scope = current.scope;
-            current = match &current.definition.kind {
-                TypeKind::Tagged(_, inner) => Governed {
-                    scope,
-                    definition: inner,
-                },
-                TypeKind::Selection(name, inner) => {
+            current = match self.step(current, &mut passed)? {
+                Step::Next(next) => next,
+                Step::Choice(name, choice) => {
                     selected.push(Selected {
-                        scope,
-                        name: *name,
+                        scope: current.scope,
+                        name,
                         depth: passed.len(),
                     })?;
-                    Governed {
-                        scope,
-                        definition: inner,
-                    }
+                    choice
                 }
-                TypeKind::Reference(reference) if !self.is_parameter(current) => {
-                    let index = self.find_type(scope, reference)?;
-                    passed.push(index)?;
-                    match self.bases.get(index) {
-                        Some(Base::Found(base)) => *base,
-                        Some(Base::Missing) => break,
-                        _ => self.type_at(scope, reference, index)?,
+                Step::Circle => break,
+                Step::Last => match selected.pop() {
+                    Some(selection) => {
+                        passed.truncate(selection.depth);
+                        self.selected_type(current, selection.scope, selection.name)?
                     }
-                }
-                _ => match self.inner_type(current)? {
-                    Some(inner) => inner,
-                    None => match selected.pop() {
-                        Some(selection) => {
-                            passed.truncate(selection.depth);
-                            self.selected_type(current, selection.scope, selection.name)?
-                        }
-                        None => {
-                            self.keep_base(&passed, Base::Found(current));
-                            return Ok(current);
-                        }
-                    },
+                    None => {
+                        self.keep_base(&passed, Base::Found(current));
+                        return Ok(current);
+                    }
                 },
             };
         }
         self.keep_base(&passed, Base::Missing);
         Err(self.refuse(governed.place(), &[b"the type is defined by itself"]))
+    }
+
+    // The step from a type to the one behind it. The index of a definition that is passed is added.
+    fn step(&mut self, governed: Governed<'a>, passed: &mut Vec<usize>) -> Result<Step<'a>, Fault> {
+        let scope = governed.scope;
+        match &governed.definition.kind {
+            TypeKind::Tagged(_, definition) => Ok(Step::Next(Governed { scope, definition })),
+            TypeKind::Selection(name, definition) => {
+                Ok(Step::Choice(*name, Governed { scope, definition }))
+            }
+            TypeKind::Reference(reference) if !self.is_parameter(governed) => {
+                let index = self.find_type(scope, reference)?;
+                passed.push(index)?;
+                match self.bases.get(index) {
+                    Some(Base::Found(base)) => Ok(Step::Next(*base)),
+                    Some(Base::Missing) => Ok(Step::Circle),
+                    _ => {
+                        let next = self.type_at(scope, reference, index)?;
+                        Ok(Step::Next(next))
+                    }
+                }
+            }
+            _ => match self.inner_type(governed)? {
+                Some(inner) => Ok(Step::Next(inner)),
+                None => Ok(Step::Last),
+            },
+        }
     }
 
     // Keeps the type behind the references and tags of definitions.
@@ -170,7 +192,7 @@ impl<'a> Resolver<'_, 'a> {
         }
     }
 
-    // Whether a type that stands for no other is the open type of a field.
+    // Whether a type with none behind it is the open type of a field.
     fn is_open(&mut self, governed: Governed<'a>) -> Result<bool, Fault> {
         match &governed.definition.kind {
             TypeKind::Field(class, names) => {

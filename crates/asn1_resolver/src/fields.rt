@@ -19,6 +19,15 @@ pub(crate) enum FieldType<'a> {
     Fixed(Governed<'a>),
 }
 
+// The contents of a field.
+#[derive(Clone, Copy)]
+enum Held<'a> {
+    // A type.
+    Type(FieldType<'a>),
+    // A value of this type, or an object of this class.
+    Fixed(Scope<'a>, &'a Type),
+}
+
 // A class.
 #[derive(Clone, Copy)]
 enum Fields<'a> {
@@ -39,27 +48,9 @@ impl<'a> Resolver<'_, 'a> {
         let mut class_scope = scope;
         let mut class = *class;
         for name in names {
-            let fields = match self.find_class(class_scope, class) {
-                Some(fields) => fields,
-                None => return Err(self.refuse_class(class_scope, &class)),
-            };
-            let (found, definition) = match fields {
-                Fields::Known => return self.known_field(scope, class_scope, &class, *name),
-                Fields::Listed(found, fields) => match find_field(
-                    found,
-                    fields,
-                    scope.octets(*name),
-                ) {
-                    Some(FieldKind::Type) => return Ok(FieldType::Open),
-                    Some(FieldKind::Fixed(definition)) => (found, definition),
-                    Some(FieldKind::Variable(_)) => {
-                        return Err(self.refuse(
-                            scope.place(*name),
-                            &[b"a field whose type another field tells is not supported"],
-                        ));
-                    }
-                    None => return Err(self.refuse_field(scope, class_scope, &class, *name)),
-                },
+            let (found, definition) = match self.field(scope, class_scope, &class, *name)? {
+                Held::Type(held) => return Ok(held),
+                Held::Fixed(found, definition) => (found, definition),
             };
             match self.class_named(found, definition) {
                 Some(reference) => {
@@ -84,6 +75,30 @@ impl<'a> Resolver<'_, 'a> {
         ))
     }
 
+    // The contents of the field of this name.
+    fn field(
+        &mut self,
+        scope: Scope<'a>,
+        class_scope: Scope<'a>,
+        class: &Reference,
+        name: Span,
+    ) -> Result<Held<'a>, Fault> {
+        let (found, fields) = match self.find_class(class_scope, *class) {
+            Some(Fields::Known) => return self.known_field(scope, class_scope, class, name),
+            Some(Fields::Listed(found, fields)) => (found, fields),
+            None => return Err(self.refuse_class(class_scope, class)),
+        };
+        match find_field(found, fields, scope.octets(name)) {
+            Some(FieldKind::Type) => Ok(Held::Type(FieldType::Open)),
+            Some(FieldKind::Fixed(definition)) => Ok(Held::Fixed(found, definition)),
+            Some(FieldKind::Variable(_)) => Err(self.refuse(
+                scope.place(name),
+                &[b"a field whose type another field tells is not supported"],
+            )),
+            None => Err(self.refuse_field(scope, class_scope, class, name)),
+        }
+    }
+
     // The type of a field of a class of the language.
     fn known_field(
         &mut self,
@@ -91,10 +106,10 @@ impl<'a> Resolver<'_, 'a> {
         class_scope: Scope<'a>,
         class: &Reference,
         name: Span,
-    ) -> Result<FieldType<'a>, Fault> {
+    ) -> Result<Held<'a>, Fault> {
         match scope.octets(name) {
-            b"id" => Ok(FieldType::ObjectIdentifier),
-            b"Type" => Ok(FieldType::Open),
+            b"id" => Ok(Held::Type(FieldType::ObjectIdentifier)),
+            b"Type" => Ok(Held::Type(FieldType::Open)),
             _ => Err(self.refuse_field(scope, class_scope, class, name)),
         }
     }
@@ -152,7 +167,7 @@ impl<'a> Resolver<'_, 'a> {
         self.find_class(scope, reference).is_some()
     }
 
-    /// The text and the offset of the name of the class that a name stands for.
+    /// The text and the offset of the definition of a class.
     pub(crate) fn start_of_class(
         &self,
         scope: Scope<'a>,
@@ -214,7 +229,7 @@ fn scope_of(found: FoundClass<'_>) -> Scope<'_> {
     }
 }
 
-// What the field of this name holds.
+// The contents of the field of this name.
 fn find_field<'a>(
     scope: Scope<'a>,
     fields: &'a [ClassField],

@@ -16,7 +16,7 @@ pub(crate) struct Scope<'a> {
     pub(crate) name: &'a [u8],
     /// The module.
     pub(crate) module: &'a Module,
-    /// The index of the instance whose arguments the parameters stand for, in a template.
+    /// The index of the instance that gives the parameters of a template their arguments.
     pub(crate) instance: Option<usize>,
 }
 

@@ -5,7 +5,7 @@ use asn1_notation::{Argument, Parameter, Reference};
 use std::alloc::{AllocError, Global};
 use std::collections::HashMap;
 
-/// How many types that arguments complete may be in one another.
+/// The greatest depth of types with arguments.
 const MAX_DEPTH: usize = 100;
 
 /// How many of them a run may have.
@@ -52,7 +52,7 @@ pub(crate) struct Instances<'a> {
 }
 
 impl<'a> Instances<'a> {
-    /// None yet, in a schema with so many definitions of types.
+    /// None yet, in a schema with this number of definitions of types.
     pub(crate) fn new(alloc: Global, definitions: usize) -> Instances<'a> {
         Instances {
             list: Vec::new(alloc),
@@ -136,7 +136,7 @@ impl<'a> Instances<'a> {
         })
     }
 
-    /// The argument that a name stands for, if it is that of a parameter.
+    /// The argument of a name that is that of a parameter.
     pub(crate) fn argument(&self, scope: Scope<'a>, reference: &Reference) -> Option<Bound<'a>> {
         if reference.module.is_some() {
             return None;

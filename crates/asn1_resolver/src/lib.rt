@@ -8,7 +8,7 @@
 //! [`resolve`] follows references, expands COMPONENTS OF, adds automatic tags, numbers the items of each ENUMERATED, reads values
 //! by their types, completes types with their arguments (X.683), gives fields of classes their types (X.681), and takes the
 //! constraints that a type can carry. Nothing is substituted in a tree: a part of a template is read with the index of the instance
-//! whose arguments its parameters stand for. A [`Problem`](asn1_resolved::Problem) is an error or a
+//! that gives its parameters their arguments. A [`Problem`](asn1_resolved::Problem) is an error or a
 //! warning with its place, at most one error at a place. A schema with an error is incomplete: a type or value that was not
 //! resolved is left out, or is NULL.
 //!

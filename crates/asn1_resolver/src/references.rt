@@ -172,7 +172,7 @@ impl<'a> Resolver<'_, 'a> {
         }
     }
 
-    // What a name is that is neither that of a type nor of a value.
+    // The kind of a name that is neither that of a type nor of a value.
     fn other_kind(&self, scope: Scope<'a>, reference: &Reference) -> Option<&'static str> {
         let used = used_name(scope, reference);
         if self.class_of_name(scope, reference).is_some() {

@@ -9,7 +9,7 @@ use std::alloc::AllocError;
 use std::collections::HashSet;
 
 impl<'a> Resolver<'_, 'a> {
-    /// Warns once of an object set, from brace to brace, whose objects are not in Rust. That of a parameter is none.
+    /// Warns once of an object set, from brace to brace, whose objects are not in Rust. The name of a parameter is no such set.
     pub(crate) fn warn_of_set(&mut self, scope: Scope<'a>, set: Span) -> Result<(), Fault> {
         let (qualifier, name) = name_in(scope.octets(set));
         let is_set = self
@@ -50,7 +50,7 @@ impl<'a> Resolver<'_, 'a> {
         Ok(())
     }
 
-    // Warns of a definition, if it is not read. That a class is not there is told once in a module.
+    // Warns of a definition, if it is not read; of a class that is not there, once in a module.
     fn report_definition(
         &mut self,
         scope: Scope<'a>,

@@ -28,7 +28,12 @@ impl<'a> Resolver<'_, 'a> {
             resolved.constraints.append(&mut constraints)?;
             return Ok(resolved);
         }
-        let kind = self.resolve_kind(governed, depth)?;
+        let kind = match &governed.definition.kind {
+            asn1_notation::TypeKind::Selection(name, inner) => {
+                self.resolve_selection(governed.scope, *name, inner, depth)?
+            }
+            _ => self.resolve_kind(governed, depth)?,
+        };
         Ok(Type {
             place: governed.place(),
             kind,
@@ -45,9 +50,6 @@ impl<'a> Resolver<'_, 'a> {
     ) -> Result<TypeKind<'a>, Fault> {
         let scope = governed.scope;
         match &governed.definition.kind {
-            asn1_notation::TypeKind::Selection(name, inner) => {
-                self.resolve_selection(scope, *name, inner, depth)
-            }
             asn1_notation::TypeKind::Sequence(items) => {
                 let components = self.resolve_components(
                     scope,

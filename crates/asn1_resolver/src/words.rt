@@ -16,7 +16,7 @@ impl<'a> Resolver<'_, 'a> {
         Ok(words)
     }
 
-    // Appends the names of an argument, with at most so many in one another.
+    // Appends the names of an argument, to this depth.
     #[cycle(words)]
     fn push_words(
         &self,
@@ -90,5 +90,5 @@ impl<'a> Resolver<'_, 'a> {
     }
 }
 
-// How many arguments may be in one another in a name.
+// The greatest depth of arguments in a name.
 const MAX_NESTING: usize = 100;
