@@ -286,26 +286,19 @@ impl Nesting {
     }
 }
 
-// The text in front of the defined type, and the rest.
-fn split_definition(definition: &str) -> (&str, &str) {
-    match definition.split_once("} ::= ") {
-        Some((front, rest)) => match definition.split_at_checked(front.len().saturating_add(6)) {
-            Some(parts) => parts,
-            None => ("", rest),
-        },
-        None => ("", definition),
-    }
-}
-
-// Appends the lines of a definition: a new one behind its first brace, behind each comma in its braces, and at its last brace.
+// Appends the lines of a definition: a new one behind the first brace of its type, behind each comma in its braces, and at its last brace.
 fn push_parts(alloc: Global, lines: &mut Vec<String>, definition: &str) -> Result<(), AllocError> {
     let mut line = String::new(alloc);
     let mut nesting = Nesting {
         depth: 0,
         is_quoted: false,
     };
-    let (front, rest) = split_definition(definition);
-    line.push_str(front)?;
+    let mut rest = definition;
+    if let Some((parameters, defined)) = definition.split_once("} ::= ") {
+        line.push_str(parameters)?;
+        line.push_str("} ::= ")?;
+        rest = defined;
+    }
     for character in rest.chars() {
         if character == '}' && nesting.is_outermost() {
             lines.push(take_line(alloc, &mut line)?)?;
