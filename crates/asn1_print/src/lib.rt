@@ -19,6 +19,7 @@
 
 mod bodies;
 mod choices;
+mod circles;
 mod components;
 mod defaults;
 mod enumerations;
