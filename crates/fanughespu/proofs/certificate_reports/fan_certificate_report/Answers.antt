@@ -1,0 +1,29 @@
+use Rattle.std.proofs.Common.{◌≡◌, ℤ, pos, subst, refl, w32, to_z, of_z}
+use Rattle.fan_calls.specs.Statuses.{FAN_FAULT, FAN_ROOM, number_of}
+use Rattle.fan_calls.specs.declared.status.Status.{Status}
+use Rattle.fan_calls.specs.declared.status.Status.TheVariants.{Ok, Fault, Room, Memory, Deep}
+use Rattle.fanughespu.proofs.certificate_reports.fan_certificate_report.Goals as goal
+
+-- the number of a fault is that of no other status
+is_fault : (s : Status) → to_z w32 (of_z w32 (number_of s)) ≡ FAN_FAULT → s ≡ Fault
+is_fault Ok e = absurd cc
+is_fault Fault e = refl
+is_fault Room e = absurd cc
+is_fault Memory e = absurd cc
+is_fault Deep e = absurd cc
+
+-- nor is that of no room
+is_room : (s : Status) → to_z w32 (of_z w32 (number_of s)) ≡ FAN_ROOM → s ≡ Room
+is_room Ok e = absurd cc
+is_room Fault e = absurd cc
+is_room Room e = refl
+is_room Memory e = absurd cc
+is_room Deep e = absurd cc
+
+pub returns-in-Err-clause-refused : goal.returns-in-Err-clause-refused
+returns-in-Err-clause-refused c = λ is.
+    c.put_message.ensures.message c.args.octets.now c.in-Err.ensures.refused (is_fault c.put_message.result (subst (λ (z : ℤ). to_z w32 (of_z w32 z) ≡ FAN_FAULT) c.number-in-Err.ensures is))
+
+pub returns-in-Err-clause-no_room : goal.returns-in-Err-clause-no_room
+returns-in-Err-clause-no_room c = λ is.
+    c.put_message.ensures.no_room c.args.octets.now c.in-Err.ensures.refused (is_room c.put_message.result (subst (λ (z : ℤ). to_z w32 (of_z w32 z) ≡ FAN_ROOM) c.number-in-Err.ensures is))
