@@ -20,7 +20,7 @@ pub(crate) fn cause_text(
     }
 }
 
-/// Why a value was not read, by what a person is told.
+/// The cause for which a value was not read, as a person is shown it.
 #[derive(Clone, Copy)]
 enum Cause {
     OutOfRange,

@@ -55,7 +55,7 @@ pub fn check_der<T: Encode + Decode>(
     }
 }
 
-/// Where octets are not the DER of a type, and why.
+/// The octet at which octets are not the DER of a type, and the reason.
 #[derive(Debug, Drop)]
 pub struct CheckFault {
     /// A rule that they break, or the path to the place and the cause, in words without a line feed.
@@ -64,7 +64,7 @@ pub struct CheckFault {
     pub position: Option<usize>,
 }
 
-/// Where and why octets are not the DER of a type, for this error of [`check_der`]. No contract covers the words and the position.
+/// The octet at which octets are not the DER of a type, and the reason, for this error of [`check_der`]. No contract covers the words and the position.
 pub fn check_fault<T: Encode + Decode>(
     alloc: Global,
     octets: &Vec<u8>,

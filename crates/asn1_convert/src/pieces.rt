@@ -42,7 +42,7 @@ impl Pieces {
         self.octets.extend_from_slice(piece)
     }
 
-    /// The answer for the values that came, for the type of this name; no answer if no list has the name, or there is nothing to convert yet. At
+    /// The answer for the values that came, for the type of this name; no answer if the list lacks the name, or there is nothing to convert yet. At
     /// the end of the input it has a failure if that ends inside a value. It fails only if memory runs out.
     pub fn answer<L: TypeList>(
         &mut self,

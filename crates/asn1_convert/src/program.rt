@@ -15,16 +15,16 @@ const DEPTH: usize = 64;
 /// How many octets are read at once at most.
 const PIECE: usize = 4096;
 
-/// What is told where the input cannot be read.
+/// The message if the input cannot be read.
 const NOT_READ: &str = "standard input was not read";
 
-/// What is told where a list has no type of the name.
+/// The message if a list has no type of the name.
 const NO_TYPE: &str = "the program has no type of this name";
 
-/// What is told where memory runs out.
+/// The message if memory runs out.
 const NO_MEMORY: &str = "no memory";
 
-/// What is told where the output cannot be written.
+/// The message if the output cannot be written.
 const NOT_WRITTEN: &str = "standard output was not written";
 
 /// The status where a value was refused.

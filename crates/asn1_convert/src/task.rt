@@ -33,7 +33,7 @@ pub struct Converted {
 }
 
 impl Converted {
-    /// What was converted, with more behind it.
+    /// The sum of this and of more behind it.
     pub(crate) fn followed_by(self, more: Converted) -> Converted {
         Converted {
             values: self.values.saturating_add(more.values),
@@ -47,7 +47,7 @@ impl Converted {
 pub struct Task<'a> {
     /// The allocator.
     pub alloc: Global,
-    /// What of an input was converted before the octets.
+    /// The part of an input that was converted before the octets.
     pub before: Converted,
     /// The octets.
     pub input: &'a Vec<u8>,
@@ -60,7 +60,7 @@ pub struct Task<'a> {
 /// The outcome of a task.
 #[derive(Debug, Drop)]
 pub struct Answer {
-    /// What of the octets was converted.
+    /// The part of the octets that was converted.
     pub converted: Converted,
     /// The output.
     pub output: Vec<u8>,
