@@ -27,14 +27,12 @@ EXTERNS = [f"--extern={name}=asn1_recursive::{name}"
 SCRIPT = """#!/usr/bin/env escript
 %%! -noshell -pa {folder} -pa {jiffy}
 main([Path]) ->
-    {{ok, Octets}} = file:read_file(Path),
-    messages(Octets).
-messages(<<>>) -> ok;
-messages(Octets) ->
-    {{ok, V, Rest}} = '{module}':decode('LDAPMessage', Octets),
+    {{ok, Given}} = file:read_file(Path),
+    [io:format("~s~n", [json(binary:decode_hex(Line))]) || Line <- binary:split(Given, <<"\\n">>, [global, trim])].
+json(Octets) ->
+    {{ok, V}} = '{module}':decode('LDAPMessage', Octets),
     {{ok, J}} = '{module}':jer_encode('LDAPMessage', V),
-    io:format("~s~n", [J]),
-    messages(Rest).
+    J.
 """
 
 
@@ -90,15 +88,26 @@ def der_of_values(folder, values):
     return bytes.fromhex(texts.run("escript", "values.escript", folder=folder))
 
 
+def messages_in(octets):
+    """The messages one after another, each an element of a definite length below 2^32 under a tag of one octet (X.690, 8.1)."""
+    start = 0
+    while start < len(octets):
+        first = octets[start + 1]
+        header = 2 if first < 0x80 else 2 + first - 0x80
+        length = first if first < 0x80 else int.from_bytes(octets[start + 2:start + header], "big")
+        yield octets[start:start + header + length]
+        start += header + length
+
+
 def by_erlang(folder, octets):
     """The JSON of each message, by Erlang."""
     folder.mkdir()
     (folder / "jsx.erl").write_text(texts.JSX)
     (folder / f"{encoders.LDAP}.asn1").write_text(encoders.MODULES[encoders.LDAP].read_text())
     texts.run("erlc", "jsx.erl", folder=folder)
-    texts.run("erlc", "+undec_rest", "+ber", "+jer", f"{encoders.LDAP}.asn1", folder=folder)
+    texts.run("erlc", "+ber", "+jer", f"{encoders.LDAP}.asn1", folder=folder)
     jiffy = next(pathlib.Path("/usr/lib/erlang/lib").glob("jiffy-*/ebin"))
-    (folder / "given").write_bytes(octets)
+    (folder / "given").write_text("".join(f"{message.hex()}\n" for message in messages_in(octets)))
     (folder / "rows.escript").write_text(SCRIPT.format(folder=folder, jiffy=jiffy, module=encoders.LDAP))
     return texts.run("escript", "rows.escript", "given", folder=folder).splitlines()
 
