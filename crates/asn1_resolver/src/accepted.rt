@@ -1,5 +1,5 @@
 //! Schemas that are accepted.
-ghost use Rattle.std.specs.Prelude.{◌≡◌, IfOk, IsTrue, OnOk, false};
+ghost use Rattle.std.specs.Prelude.{◌≡◌, IfOk, IsTrue, OnOk, false, take};
 ghost use Rattle.asn1_resolver.specs.Accepted.{HasDistinctNames, defined_names, name_of_type, name_of_value};
 ghost use Rattle.asn1_resolver.specs.Indices.{HasKnownReferences};
 ghost use Rattle.asn1_resolver.specs.References.{AreResolved};
@@ -87,12 +87,26 @@ fn refuse(
     Ok(())
 }
 
+// The types that modules define.
+#[tactic(auto, using(std::proofs::lemmas::List::take_all))]
+fn defined_types<'s, 'a>(schema: &'s Schema<'a>) -> &'s [TypeDefinition<'a>]
+    ensures { result.now ≡ take schema.now.defined schema.now.types.items }
+{
+    if schema.defined <= schema.types.len() {
+        let (defined, _) = schema.types.split_at(schema.defined);
+        defined
+    } else {
+        &schema.types
+    }
+}
+
 // The names of the definitions, those of types first.
 fn list_names<'a>(alloc: Global, schema: &Schema<'a>) -> Result<Vec<DefinedName<'a>>, AllocError>
     ensures { IfOk result (λ names. names.items ≡ defined_names schema.now) }
 {
     let mut names = Vec::new(alloc);
-    for definition in &schema.types {
+    let types = defined_types(schema);
+    for definition in types {
         names.push(type_name(definition))?;
     }
     for definition in &schema.values {
