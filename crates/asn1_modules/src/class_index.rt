@@ -139,7 +139,7 @@ impl<'a> ClassIndex<'a> {
         }
     }
 
-    /// The class that a name in a module stands for, behind the name of another module or alone.
+    /// The class that a name in a module refers to, behind the name of another module or alone.
     pub fn find(
         &self,
         module: &[u8],

@@ -5,7 +5,7 @@ use crate::types::collect_type;
 use asn1_notation::{Class, FieldKind, Reference};
 use std::alloc::AllocError;
 
-/// Collects the names in a class. What a DEFAULT has is not read, and so has no names.
+/// Collects the names in a class, without those in a DEFAULT, which is not read.
 pub(crate) fn collect_class(
     collector: &mut Collector<'_>,
     class: &Class,

@@ -24,7 +24,7 @@ pub struct ClassField {
     pub usage: FieldUsage,
 }
 
-/// What a field holds.
+/// The contents of a field.
 #[derive(Drop)]
 pub enum FieldKind {
     /// A type.

@@ -33,7 +33,7 @@ pub enum ConstraintKind {
     Containing(Box<Type>, Option<Value>),
     /// ENCODED BY alone.
     EncodedBy(Value),
-    /// CONSTRAINED BY. What is in its braces is left out.
+    /// CONSTRAINED BY, without the text in its braces.
     ConstrainedBy,
     /// The objects of a set, from brace to brace, with the components that tell which of these.
     Table(Span, Vec<AtPath>),

@@ -10,7 +10,7 @@
 //!
 //! The calls take the names in a tree from its source. They put parentheses round every part of a constraint: the text is meant
 //! to be read as the same tree, with other offsets. Comments, exceptions (`!`) and what CONSTRAINED BY has in its braces are not in
-//! the tree, and so not in the text. Objects, object sets and macros are written as they stand in the source.
+//! the tree, and so not in the text. Objects, object sets and macros are written as in the source.
 //!
 //! The calls return for every tree, and fail only if memory runs out. No contract covers the text; the stored run of
 //! test_notation shows it.
