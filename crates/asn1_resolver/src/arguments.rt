@@ -64,19 +64,33 @@ impl<'a> Resolver<'_, 'a> {
             reference: *reference,
             arguments,
         };
-        let Some((index, template)) = self.find_template(named) else {
-            let index = self.find_type(scope, reference)?;
-            self.require_objects(named, index)?;
-            return Ok(Meant::Definition(index));
-        };
-        self.require_arguments(named, template)?;
-        let mut key = Vec::new(self.alloc);
-        self.push_number(&mut key, index)?;
-        for argument in arguments {
-            self.push_key(&mut key, scope, argument, depth)?;
+        match self.find_template(named) {
+            Some((index, template)) => self.meant_instance(named, index, template, home, depth),
+            None => self.meant_definition(named),
         }
+    }
+
+    // The definition of a name whose arguments are objects and object sets.
+    fn meant_definition(&mut self, named: Use<'a>) -> Result<Meant, Fault> {
+        let index = self.find_type(named.scope, &named.reference)?;
+        self.require_objects(named, index)?;
+        Ok(Meant::Definition(index))
+    }
+
+    // The instance of the template of an index.
+    #[cycle(instances)]
+    fn meant_instance(
+        &mut self,
+        named: Use<'a>,
+        index: usize,
+        template: Defined<'a>,
+        home: Option<usize>,
+        depth: usize,
+    ) -> Result<Meant, Fault> {
+        self.require_arguments(named, template)?;
+        let key = self.key_of(named, index, depth)?;
         match self.instances.find(key.as_slice()) {
-            Some(index) => Ok(Meant::Instance(index)),
+            Some(known) => Ok(Meant::Instance(known)),
             None => self.new_instance(named, key, template, home),
         }
     }
@@ -211,6 +225,17 @@ impl<'a> Resolver<'_, 'a> {
         let text = format!(in self.alloc; "{number} ")?;
         key.extend_from_slice(text.as_bytes())?;
         Ok(())
+    }
+
+    // What tells an instance from others: the index of its template, and its arguments.
+    #[cycle(instances)]
+    fn key_of(&mut self, named: Use<'a>, template: usize, depth: usize) -> Result<Vec<u8>, Fault> {
+        let mut key = Vec::new(self.alloc);
+        self.push_number(&mut key, template)?;
+        for argument in named.arguments {
+            self.push_key(&mut key, named.scope, argument, depth)?;
+        }
+        Ok(key)
     }
 
     // Appends what tells an argument from others. Objects and sets change nothing of a type, and have nothing.

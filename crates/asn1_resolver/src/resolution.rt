@@ -86,8 +86,7 @@ pub fn resolve<'a>(alloc: Global, sources: &[Source<'a>]) -> Result<Resolution<'
     })
 }
 
-// The types and the values.
-#[tactic(auto, using(std::proofs::lemmas::List::take_at))]
+// The types and the values. Those that complete a template are known once all others are resolved.
 fn resolve_schema<'a>(
     resolver: &mut Resolver<'_, 'a>,
     definitions: &Definitions<'a>,
@@ -96,14 +95,22 @@ fn resolve_schema<'a>(
         map (λ type. type.place) (take schema.defined schema.types.items) ≡
         map (λ defined. defined.place) definitions.now.types.items) }
 {
-    let mut types = resolve_types(resolver, definitions)?;
+    let types = resolve_types(resolver, definitions)?;
+    let values = resolve_values(resolver, definitions)?;
+    let completed = resolver.completed_types()?;
+    join_schema(types, completed, values)
+}
+
+// The schema of the types that modules define, those that arguments complete, and the values.
+#[tactic(auto, using(std::proofs::lemmas::List::take_at))]
+fn join_schema<'a>(
+    mut types: Vec<TypeDefinition<'a>>,
+    mut completed: Vec<TypeDefinition<'a>>,
+    values: Vec<ValueDefinition<'a>>,
+) -> Result<Schema<'a>, AllocError>
+    ensures { IfOk result (λ schema. take schema.defined schema.types.items ≡ types.entry.items) }
+{
     let defined = types.len();
-    let mut values = Vec::new(resolver.alloc);
-    for (named, value) in definitions.values.iter().zip(&definitions.contents) {
-        let definition = resolver.value_definition(*named, value)?;
-        values.push(definition)?;
-    }
-    let mut completed = resolver.completed_types()?;
     types.append(&mut completed)?;
     Ok(Schema {
         types,
@@ -126,6 +133,19 @@ fn resolve_types<'a>(
         types.push(definition)?;
     }
     Ok(types)
+}
+
+// The values.
+fn resolve_values<'a>(
+    resolver: &mut Resolver<'_, 'a>,
+    definitions: &Definitions<'a>,
+) -> Result<Vec<ValueDefinition<'a>>, AllocError> {
+    let mut values = Vec::new(resolver.alloc);
+    for (named, value) in definitions.values.iter().zip(&definitions.contents) {
+        let definition = resolver.value_definition(*named, value)?;
+        values.push(definition)?;
+    }
+    Ok(values)
 }
 
 impl<'a> Resolver<'_, 'a> {

@@ -10,13 +10,26 @@ impl<'a> Resolver<'_, 'a> {
     /// The names of the types and values that complete a template, each with those of its own arguments.
     pub(crate) fn words_of(&self, instance: Instance<'a>) -> Result<Vec<Vec<u8>>, AllocError> {
         let mut words = Vec::new(self.alloc);
-        for argument in instance.arguments {
-            self.push_words(&mut words, instance.scope, argument, MAX_NESTING)?;
-        }
+        self.push_argument_words(&mut words, instance.scope, instance.arguments, MAX_NESTING)?;
         Ok(words)
     }
 
-    // Appends the names of an argument, to this depth.
+    // Appends the names of arguments, to this depth.
+    #[cycle(words)]
+    fn push_argument_words(
+        &self,
+        words: &mut Vec<Vec<u8>>,
+        scope: Scope<'a>,
+        arguments: &'a [Argument],
+        depth: usize,
+    ) -> Result<(), AllocError> {
+        for argument in arguments {
+            self.push_words(words, scope, argument, depth)?;
+        }
+        Ok(())
+    }
+
+    // Appends the names of an argument.
     #[cycle(words)]
     fn push_words(
         &self,
@@ -51,10 +64,7 @@ impl<'a> Resolver<'_, 'a> {
             TypeKind::Reference(reference) => self.push_word(words, scope.octets(reference.name)),
             TypeKind::Instance(reference, arguments) => {
                 self.push_word(words, scope.octets(reference.name))?;
-                for argument in arguments {
-                    self.push_words(words, scope, argument, depth)?;
-                }
-                Ok(())
+                self.push_argument_words(words, scope, arguments.as_slice(), depth)
             }
             kind => self.push_word(words, type_word(kind)),
         }
