@@ -1,6 +1,7 @@
 //! The names of the definitions of a schema, and the files as far as they were made.
 use crate::request::{Extern, PrintedFile, Request};
 use crate::strings::is_restricted_string;
+use crate::templates::Templates;
 use asn1_names::Place;
 use asn1_resolved::{Problem, Severity, Type, TypeDefinition, TypeKind};
 use asn1_rust_code::{Import, TagNumber, TypeName, class_word, order_of};
@@ -131,10 +132,9 @@ pub(crate) struct Plan<'r, 'a> {
     pub(crate) types: Vec<PlannedType>,
     // Whether each type is behind an explicit tag, when that is known.
     explicit_tags: Vec<Option<bool>>,
-    // By the texts and the offsets at which they begin, and the type with arguments in which they are.
-    unnamed_types: HashMap<(usize, usize, Option<usize>), UnnamedType>,
-    // The index of the type that is printed, if it is one of a template with arguments.
-    completed: Option<usize>,
+    // By the texts and the offsets at which they begin.
+    unnamed_types: HashMap<(usize, usize), UnnamedType>,
+    templates: Templates,
     taken_names: TakenNames,
     taken_modules: TakenNames,
     pub(crate) files: Vec<PrintedFile>,
@@ -217,7 +217,8 @@ pub(crate) fn plan_of<'r, 'a>(
     alloc: Global,
     request: Request<'r, 'a>,
 ) -> Result<Plan<'r, 'a>, AllocError> {
-    let mut plan = empty_plan(alloc, request);
+    let templates = Templates::of(alloc, request.sources)?;
+    let mut plan = empty_plan(alloc, request, templates);
     plan.reserve_names()?;
     plan.name_types()?;
     plan.find_explicit_tags()?;
@@ -225,14 +226,18 @@ pub(crate) fn plan_of<'r, 'a>(
 }
 
 // A plan without a name.
-fn empty_plan<'r, 'a>(alloc: Global, request: Request<'r, 'a>) -> Plan<'r, 'a> {
+fn empty_plan<'r, 'a>(
+    alloc: Global,
+    request: Request<'r, 'a>,
+    templates: Templates,
+) -> Plan<'r, 'a> {
     Plan {
         alloc,
         request,
         types: Vec::new(alloc),
         explicit_tags: Vec::new(alloc),
         unnamed_types: HashMap::new(alloc),
-        completed: None,
+        templates,
         taken_names: TakenNames::new(alloc),
         taken_modules: TakenNames::new(alloc),
         files: Vec::new(alloc),
@@ -320,25 +325,15 @@ impl Plan<'_, '_> {
         self.taken_modules.take(module.as_str())
     }
 
-    /// Goes on with the type of this index.
-    pub(crate) fn enter(&mut self, index: usize, definition: &TypeDefinition<'_>) {
-        self.completed = if definition.is_completed {
-            Some(index)
-        } else {
-            None
-        };
-    }
-
-    /// The type without a name at a place, if its file was made: COMPONENTS OF takes a component over with its type. The same place
-    /// in a template is another type with other arguments.
+    /// The type without a name at a place, if its file was made: COMPONENTS OF takes a component over with its type. A place in a
+    /// template has none, since other arguments make another type of it.
     pub(crate) fn unnamed_type(&self, place: Place) -> Result<Option<TypeName>, AllocError> {
-        let begin = (place.text, place.span.start, self.completed);
-        match self.unnamed_types.get(&begin) {
-            Some(known) => {
+        match self.unnamed_types.get(&(place.text, place.span.start)) {
+            Some(known) if !self.templates.has(place) => {
                 let name = self.local_type(known.module.as_str(), known.name.as_str())?;
                 Ok(Some(name))
             }
-            None => Ok(None),
+            _ => Ok(None),
         }
     }
 
@@ -350,7 +345,7 @@ impl Plan<'_, '_> {
         module: String,
     ) -> Result<TypeName, AllocError> {
         let answer = self.local_type(module.as_str(), name.as_str())?;
-        let begin = (place.text, place.span.start, self.completed);
+        let begin = (place.text, place.span.start);
         self.unnamed_types
             .insert(begin, UnnamedType { name, module })?;
         Ok(answer)

@@ -51,7 +51,6 @@ fn add_definition(
         Some(planned) if planned.external.is_none() => {
             let name = plan.text(planned.name.as_str())?;
             let module = plan.text(planned.module.as_str())?;
-            plan.enter(index, definition);
             add_named(plan, definition, name, module.as_str())
         }
         _ => Ok(()),
