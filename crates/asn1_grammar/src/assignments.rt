@@ -60,10 +60,15 @@ fn class_or_type(cursor: &mut Cursor<'_>, has_objects_alone: bool) -> Result<Def
     })
 }
 
-// Whether the type of a set of values is next, or the class of an object set.
+// Whether the type of a set of values is next, or the class of an object set: a word, two of the language, a name with its module, or
+// a list.
 fn begins_set(cursor: &Cursor<'_>) -> bool {
+    let has_two_words = cursor.sees_kind_after(1, TokenKind::ReservedWord)
+        && sees_assigned(cursor, 2);
+    let has_module = cursor.sees_after(1, TokenKind::Symbol, b".") && sees_assigned(cursor, 3);
+    let is_list = cursor.sees_after(1, TokenKind::ReservedWord, b"OF") && sees_assigned(cursor, 3);
     sees_type_word(cursor, 0)
-        && (sees_assigned(cursor, 1) || sees_assigned(cursor, 2) || sees_assigned(cursor, 3))
+        && (sees_assigned(cursor, 1) || has_two_words || has_module || is_list)
 }
 
 // Reads a set of values, as the type that it is, or an object set.
