@@ -61,6 +61,7 @@ TABLE = {
     "status": ("status", [*(f"--extern={name}=asn1_x509::{name}" for name in ASKED),
                           "--extern=GeneralName=asn1_x509_extensions::GeneralName"], ["asn1_x509", "asn1_x509_extensions"]),
     "tickets": ("tickets", [], []),
+    "workshop": ("workshop", [], []),
     "x509": ("asn1_x509", [], []),
     "x509_extensions": ("asn1_x509_extensions", [f"--extern={name}=asn1_x509::{name}" for name in NAMED], ["asn1_x509"]),
 }
@@ -419,6 +420,12 @@ def try_arguments():
     unnamed = "M DEFINITIONS ::= BEGIN\nA ::= SEQUENCE OF SEQUENCE { a NULL }\nB ::= [1] CHOICE { a NULL }\nEND\n"
     expect("types without a name", sorted(files_of(run(["x"], unnamed)[0])),
            ["src/a_element.rt", "src/aliases.rt", "src/b_content.rt", "src/lib.rt", "src/tags.rt"])
+    completed = ("M DEFINITIONS ::= BEGIN\nT {A} ::= SEQUENCE { inner SEQUENCE { a A } }\n"
+                 "X ::= SEQUENCE { COMPONENTS OF T {INTEGER} }\nY ::= SEQUENCE { COMPONENTS OF T {NULL} }\nEND\n")
+    files = files_of(run(["x"], completed)[0])
+    expect("types without a name in a template", [text in files.get(f"src/{name}.rt", "") for name, text in
+                                                  (("x", "inner: XInner,"), ("x_inner", "a: Integer,"), ("y", "inner: YInner,"), ("y_inner", "a: (),"))],
+           [True] * 4)
     expect("--check", run(["x", "--check"], RIGHT), ("", "", 0))
     written, told, status = run(["x", "--help"])
     expect("--help", ("--extern" in written, told, status), (True, "", 0))

@@ -31,6 +31,7 @@ mod recursion;
 mod request;
 mod strings;
 mod tags;
+mod templates;
 mod types;
 mod values;
 

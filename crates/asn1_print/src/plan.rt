@@ -1,6 +1,7 @@
 //! The names of the definitions of a schema, and the files as far as they were made.
 use crate::request::{Extern, PrintedFile, Request};
 use crate::strings::is_restricted_string;
+use crate::templates::Templates;
 use asn1_names::Place;
 use asn1_resolved::{Problem, Severity, Type, TypeDefinition, TypeKind};
 use asn1_rust_code::{Import, TagNumber, TypeName, class_word, order_of};
@@ -133,6 +134,7 @@ pub(crate) struct Plan<'r, 'a> {
     explicit_tags: Vec<Option<bool>>,
     // By the texts and the offsets at which they begin.
     unnamed_types: HashMap<(usize, usize), UnnamedType>,
+    templates: Templates,
     taken_names: TakenNames,
     taken_modules: TakenNames,
     pub(crate) files: Vec<PrintedFile>,
@@ -215,7 +217,8 @@ pub(crate) fn plan_of<'r, 'a>(
     alloc: Global,
     request: Request<'r, 'a>,
 ) -> Result<Plan<'r, 'a>, AllocError> {
-    let mut plan = empty_plan(alloc, request);
+    let templates = Templates::of(alloc, request.sources)?;
+    let mut plan = empty_plan(alloc, request, templates);
     plan.reserve_names()?;
     plan.name_types()?;
     plan.find_explicit_tags()?;
@@ -223,13 +226,18 @@ pub(crate) fn plan_of<'r, 'a>(
 }
 
 // A plan without a name.
-fn empty_plan<'r, 'a>(alloc: Global, request: Request<'r, 'a>) -> Plan<'r, 'a> {
+fn empty_plan<'r, 'a>(
+    alloc: Global,
+    request: Request<'r, 'a>,
+    templates: Templates,
+) -> Plan<'r, 'a> {
     Plan {
         alloc,
         request,
         types: Vec::new(alloc),
         explicit_tags: Vec::new(alloc),
         unnamed_types: HashMap::new(alloc),
+        templates,
         taken_names: TakenNames::new(alloc),
         taken_modules: TakenNames::new(alloc),
         files: Vec::new(alloc),
@@ -257,28 +265,36 @@ impl Plan<'_, '_> {
     // Names the types of the schema.
     fn name_types(&mut self) -> Result<(), AllocError> {
         let schema = self.request.schema;
-        for definition in &schema.types {
-            let planned = self.planned(definition)?;
+        for (index, definition) in schema.types.iter().enumerate() {
+            let planned = self.planned(definition, index < schema.defined)?;
             self.types.push(planned)?;
         }
         Ok(())
     }
 
-    // The names of a definition.
-    fn planned(&mut self, definition: &TypeDefinition<'_>) -> Result<PlannedType, AllocError> {
+    // The names of a type, which may be a definition.
+    fn planned(
+        &mut self,
+        definition: &TypeDefinition<'_>,
+        is_defined: bool,
+    ) -> Result<PlannedType, AllocError> {
         match extern_for(self.request.externs, definition) {
-            Some((index, found)) => Ok(PlannedType {
+            Some((index, found)) if is_defined => Ok(PlannedType {
                 name: self.text(found.rust_name)?,
                 module: self.text(found.path)?,
                 external: Some(index),
             }),
-            None => self.planned_here(definition),
+            _ => self.planned_here(definition),
         }
     }
 
     // The names of a definition whose type does not exist already.
     fn planned_here(&mut self, definition: &TypeDefinition<'_>) -> Result<PlannedType, AllocError> {
-        let camel = camel_case(self.alloc, definition.name)?;
+        let mut camel = camel_case(self.alloc, definition.name)?;
+        for argument in &definition.arguments {
+            let word = camel_case(self.alloc, argument)?;
+            camel.push_str(word.as_str())?;
+        }
         let name = self.new_name(camel.as_str())?;
         let module = if has_file(&definition.definition) {
             self.new_module(name.as_str())?
@@ -309,14 +325,15 @@ impl Plan<'_, '_> {
         self.taken_modules.take(module.as_str())
     }
 
-    /// The type without a name at a place, if its file was made: COMPONENTS OF takes a component over with its type.
+    /// The type without a name at a place, if its file was made: COMPONENTS OF takes a component over with its type. A place in a
+    /// template has none, since other arguments make another type of it.
     pub(crate) fn unnamed_type(&self, place: Place) -> Result<Option<TypeName>, AllocError> {
         match self.unnamed_types.get(&(place.text, place.span.start)) {
-            Some(known) => {
+            Some(known) if !self.templates.has(place) => {
                 let name = self.local_type(known.module.as_str(), known.name.as_str())?;
                 Ok(Some(name))
             }
-            None => Ok(None),
+            _ => Ok(None),
         }
     }
 
