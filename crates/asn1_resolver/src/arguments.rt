@@ -227,7 +227,7 @@ impl<'a> Resolver<'_, 'a> {
         Ok(())
     }
 
-    // What tells an instance from others: the index of its template, and its arguments.
+    // The key of an instance: the index of its template, and its arguments.
     #[cycle(instances)]
     fn key_of(&mut self, named: Use<'a>, template: usize, depth: usize) -> Result<Vec<u8>, Fault> {
         let mut key = Vec::new(self.alloc);
@@ -238,7 +238,7 @@ impl<'a> Resolver<'_, 'a> {
         Ok(key)
     }
 
-    // Appends what tells an argument from others. Objects and sets change nothing of a type, and have nothing.
+    // Appends the key of an argument. It is empty for objects and sets, which change nothing of a type.
     #[cycle(instances)]
     fn push_key(
         &mut self,
@@ -259,7 +259,7 @@ impl<'a> Resolver<'_, 'a> {
         }
     }
 
-    // Appends what tells a type from others: its definition, its word, or its place.
+    // Appends the key of a type: its definition, its word, or its place.
     #[cycle(instances)]
     fn push_type_key(
         &mut self,
@@ -293,7 +293,7 @@ impl<'a> Resolver<'_, 'a> {
         }
     }
 
-    // Appends what tells a definition of a type or a class from others.
+    // Appends the key of a definition of a type or a class.
     fn push_reference(
         &mut self,
         key: &mut Vec<u8>,
@@ -328,7 +328,7 @@ impl<'a> Resolver<'_, 'a> {
         }
     }
 
-    // Appends what tells a value from others.
+    // Appends the key of a value.
     fn push_value_key(
         &mut self,
         key: &mut Vec<u8>,

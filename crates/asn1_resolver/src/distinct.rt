@@ -1,4 +1,4 @@
-//! Names and numbers that may stand once.
+//! Names and numbers that are to be distinct.
 use asn1_resolved::NamedNumber;
 
 /// The first whose name an earlier one has.

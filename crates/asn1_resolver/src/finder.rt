@@ -1,4 +1,4 @@
-//! The definitions that names may stand for.
+//! The definitions to which names may refer.
 use crate::definitions::Defined;
 use asn1_names::{DefinedName, ImportedName, NameIndex, Place, UsedName};
 use std::alloc::{AllocError, Global};

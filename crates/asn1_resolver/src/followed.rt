@@ -46,7 +46,7 @@ impl<'a> Resolver<'_, 'a> {
         Err(self.refuse_depth(written))
     }
 
-    /// The whole number that is written, or that a name stands for.
+    /// The whole number that is written, or the value of a name.
     pub(crate) fn number_name(
         &mut self,
         scope: Scope<'a>,

@@ -60,7 +60,7 @@ pub(crate) struct Governed<'a> {
 }
 
 impl<'a> Governed<'a> {
-    /// Where the type begins.
+    /// The place at which the type begins.
     pub(crate) fn place(self) -> Place {
         self.scope.place_at(self.definition.start)
     }
@@ -76,7 +76,7 @@ pub(crate) struct Written<'a> {
 }
 
 impl Written<'_> {
-    /// Where the value begins.
+    /// The place at which the value begins.
     pub(crate) fn place(self) -> Place {
         self.scope.place_at(self.value.start)
     }

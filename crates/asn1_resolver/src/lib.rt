@@ -18,7 +18,7 @@
 //! - Every reference of accepted modules is to a definition of its own module, of one from which its module imports the name, or
 //!   of the one that it names (`resolved`; `AreResolved`). The names are all that the modules define and import (`defined`,
 //!   `imported`); which references are listed, `collect_names` of `asn1_modules` says.
-//! - The definition that a reference stands for in the schema is such a one (`find` in `references`; `IsMeant`).
+//! - The schema refers to such a definition for each reference (`find` in `references`; `IsMeant`).
 //! - Every reference of an accepted schema, at any depth, is to a definition of it (`known` of [`resolve`]; `HasKnownReferences`).
 //! - The schema has a definition for each type that a module defines, in the order of the texts (`types`; `type_places`). A type
 //!   whose parameters are objects and object sets is one; those that other arguments complete follow.

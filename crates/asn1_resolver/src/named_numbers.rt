@@ -54,7 +54,7 @@ impl<'a> Resolver<'_, 'a> {
         Ok(named)
     }
 
-    /// Refuses a name that stands twice.
+    /// Refuses a name that is used twice.
     pub(crate) fn require_names(&mut self, named: &[NamedNumber<'a>]) -> Result<(), Fault> {
         match find_same_name(named) {
             Some(again) => Err(self.refuse(
@@ -65,7 +65,7 @@ impl<'a> Resolver<'_, 'a> {
         }
     }
 
-    /// Refuses a name or a number that stands twice.
+    /// Refuses a name or a number that is used twice.
     pub(crate) fn require_distinct(&mut self, named: &[NamedNumber<'a>]) -> Result<(), Fault> {
         self.require_names(named)?;
         if let Some((first, again)) = find_same_number(named) {

@@ -130,7 +130,7 @@ impl<'a> Resolver<'_, 'a> {
         }
     }
 
-    /// The value of this name, which may stand for an item of a type.
+    /// The value of this name, which may be an item of a type.
     pub(crate) fn find_value_of(
         &mut self,
         base: Governed<'a>,

@@ -22,7 +22,7 @@ use asn1_resolved::{
 use std::alloc::{AllocError, Global};
 use std::collections::HashSet;
 
-/// What the modules of a run mean.
+/// The meaning of the modules of a run.
 #[derive(Drop)]
 pub struct Resolution<'a> {
     /// The definitions. It is incomplete if there is an error.
@@ -149,7 +149,7 @@ fn resolve_values<'a>(
 }
 
 impl<'a> Resolver<'_, 'a> {
-    // Reports what is wrong with names. A warning of a module is told once.
+    // Reports what is wrong with names, and each missing module once.
     fn report_names(&mut self) -> Result<(), AllocError> {
         let found = check_names(self.alloc, self.names)?;
         let mut missing_modules = HashSet::new(self.alloc);
@@ -214,7 +214,7 @@ impl<'a> Resolver<'_, 'a> {
         })
     }
 
-    // A type that does not stand for itself alone.
+    // A type whose definition does not lead to itself.
     fn checked_type(&mut self, governed: Governed<'a>) -> Result<Type<'a>, Fault> {
         self.base(governed)?;
         self.resolve_type(governed, MAX_DEPTH)
@@ -293,7 +293,7 @@ impl<'a> Resolver<'_, 'a> {
         Ok(())
     }
 
-    // The type that stands for one that is in error.
+    // The type in place of one that is in error.
     fn no_type(&self, place: Place) -> Type<'a> {
         Type {
             place,

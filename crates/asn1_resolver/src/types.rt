@@ -12,7 +12,7 @@ use asn1_resolved::{
 use std::alloc::{AllocError, Global};
 
 impl<'a> Resolver<'_, 'a> {
-    /// The type, with at most so many types inside one another.
+    /// The type, with others inside it to this depth at most.
     #[cycle(types)]
     pub(crate) fn resolve_type(
         &mut self,

@@ -41,7 +41,7 @@ impl<'a> Resolver<'_, 'a> {
         }
     }
 
-    // A value, with at most so many values inside one another.
+    // A value, with others inside it to this depth at most.
     #[cycle(values)]
     fn inner_value(
         &mut self,
