@@ -4,7 +4,7 @@
     bench/compile.py [--try] [--prove NAME] [--round-trip NAME] [--layout NUMBER] [--refuse] [--time]
 
 The program is the one that is built (`rt run` in crates/asn1_compile builds it), or with `--try` it is run before its proof, by
-`rt try`. Each module has to compile. Where a crate of the table is in crates/, its src/ and proofs/ have to be the files that are
+`rt try`. Each module has to compile. Where a crate of the table is in crates/, its src/, specs/ and proofs/ have to be the files that are
 printed, and those that the table has as written by hand; its lib.rt then has each line of code that is printed, and more. Then the
 program is run on wrong arguments, on modules with an error, and with `--out` and `--check`.
 
@@ -53,8 +53,10 @@ ASKED = [*NAMED, "AlgorithmIdentifier", "Certificate", "Extensions"]
 # A file of examples/modules: the crate, what the program is told of types that exist already, and the crates of these.
 TABLE = {
     "certificates": ("certificates", [], []),
+    "circles": ("circles", [], []),
     "cms": ("cms", [*(f"--extern={name}=asn1_x509::{name.split('.')[-1]}" for name in SIGNED),
                     "--extern=GeneralNames=asn1_x509_extensions::GeneralNames"], ["asn1_x509", "asn1_x509_extensions"]),
+    "expressions": ("expressions", [], []),
     "greetings": ("greetings", [], []),
     "ldap": ("asn1_ldap", [f"--extern={name}=asn1_recursive::{name}" for name in FILTERS], ["asn1_recursive"]),
     "snmp": ("snmp", [], []),
@@ -72,7 +74,7 @@ BY_HAND = {
 }
 
 # As many scopes as a value may nest.
-DEPTH = 64
+DEPTH = 512
 
 faults = 0
 
@@ -133,7 +135,7 @@ def compare(crate, files):
     folder = CRATES / crate
     by_hand = BY_HAND.get(crate, ())
     found = {str(path.relative_to(folder)): path.read_text()
-             for part in ("src", "proofs") for path in sorted((folder / part).rglob("*")) if path.is_file()}
+             for part in ("src", "specs", "proofs") for path in sorted((folder / part).rglob("*")) if path.is_file()}
     printed_paths = [path for path in found if path in files or not path.startswith(by_hand)]
     expect(f"the files of {crate}", sorted(printed_paths), sorted(files))
     for path in sorted(found.keys() & files.keys()):
@@ -169,7 +171,8 @@ def clone_with(name, files):
         shutil.rmtree(clone / "crates" / crate, ignore_errors=True)
         lay(clone / "crates" / crate, files)
         lines = [line for line in (clone / "crates.txt").read_text().splitlines() if not line.startswith(f"{crate}:")]
-        lines.append(" ".join([f"{crate}: asn1_schema asn1_tags", *libraries]))
+        circles = ["asn1_circles"] if any(path.startswith("specs/") for path in files) else []
+        lines.append(" ".join([f"{crate}: asn1_schema asn1_tags", *circles, *libraries]))
         (clone / "crates.txt").write_text("\n".join(lines) + "\n")
         yield clone
 

@@ -1,6 +1,7 @@
 //! The list of the crates of a repository.
 use crate::arguments::{crate_name_of, extern_modules_of, externs_of};
 use crate::failure::Failure;
+use asn1_print::PrintedFile;
 use clap::ArgMatches;
 use std::alloc::AllocError;
 use std::fmt::Write;
@@ -11,6 +12,7 @@ pub(crate) fn list_crates<'a>(
     rt: &HostRuntime,
     folder: &str,
     matches: &ArgMatches<'a>,
+    files: &[PrintedFile],
 ) -> Result<(), Failure<'a>> {
     let crate_name = crate_name_of(matches)?;
     let Some(list) = list_beside(rt, folder, crate_name)? else {
@@ -19,7 +21,7 @@ pub(crate) fn list_crates<'a>(
     let Ok(text) = fs::read_to_string(rt, list.as_str()) else {
         return Ok(());
     };
-    let lines = missing_lines(rt, matches, text.as_str())?;
+    let lines = missing_lines(rt, matches, text.as_str(), has_definitions(files))?;
     if lines.is_empty() {
         return Ok(());
     }
@@ -52,16 +54,27 @@ fn list_beside(
     }
 }
 
+// Whether a crate has definitions of its own: those of types that hold themselves.
+fn has_definitions(files: &[PrintedFile]) -> bool {
+    files
+        .iter()
+        .any(|file| file.path.as_str().starts_with("specs/"))
+}
+
 // The lines that a list of crates does not have.
 fn missing_lines<'a>(
     rt: &HostRuntime,
     matches: &ArgMatches<'a>,
     list: &str,
+    has_circles: bool,
 ) -> Result<String, Failure<'a>> {
     let crate_name = crate_name_of(matches)?;
     let mut lines = String::new(rt.alloc());
     if !is_listed(list, crate_name) {
         write!(&mut lines, "{crate_name}: asn1_schema asn1_tags")?;
+        if has_circles {
+            lines.push_str(" asn1_circles")?;
+        }
         push_externs(rt, &mut lines, matches)?;
         lines.push('\n')?;
     }

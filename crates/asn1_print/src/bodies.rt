@@ -1,9 +1,11 @@
 //! The files of types.
+use crate::circles::{has_parameter, push_generic};
 use crate::lowering::FileNames;
 use crate::notation::definition_lines;
 use crate::plan::Plan;
 use crate::request::PrintedFile;
 use crate::types::Owner;
+use asn1_names::Place;
 use asn1_rust_components::{TypeBody, TypeFile};
 use asn1_rust_types::{ProofFile, proof_files, type_file};
 use std::alloc::AllocError;
@@ -14,16 +16,23 @@ pub(crate) fn push_file(
     body: TypeBody,
     names: FileNames<'_>,
     owner: Owner<'_>,
+    place: Place,
 ) -> Result<(), AllocError> {
     let file = type_file_of(plan, body, names, owner)?;
-    let text = type_file(plan.alloc, &file)?;
-    plan.add_source(names.module, text)?;
+    if file.lists.is_none() {
+        let text = type_file(plan.alloc, &file)?;
+        plan.add_source(names.module, text)?;
+    }
     for proof in proof_files(plan.alloc, &file)? {
         let ProofFile { path, text } = proof;
         plan.files.push(PrintedFile { path, text })?;
     }
-    let exported = exported_names(plan, &file.body, names)?;
-    plan.add_module(names.module, false, exported)
+    let exported = exported_names(plan, &file, names)?;
+    plan.add_module(names.module, false, exported)?;
+    if file.lists.is_some() {
+        push_generic(plan, file, place)?;
+    }
+    Ok(())
 }
 
 // A file that was not printed.
@@ -33,27 +42,47 @@ fn type_file_of(
     names: FileNames<'_>,
     owner: Owner<'_>,
 ) -> Result<TypeFile, AllocError> {
+    let lists = lists_of(plan, &body)?;
+    let name = match plan.generic_in(names.module) {
+        Some(name) if lists.is_some() => format!(in plan.alloc; "{name}<T>")?,
+        _ => plan.text(names.name)?,
+    };
     Ok(TypeFile {
         crate_name: plan.text(plan.request.crate_name)?,
         page: definition_lines(plan.alloc, owner.summary, owner.notation)?,
         module: plan.text(names.module)?,
-        name: plan.text(names.name)?,
+        name,
         asn1_name: plan.text(owner.asn1_name)?,
         summary: plan.text(owner.summary)?,
         body,
+        lists,
     })
+}
+
+// The module with the lists of a type, if it has the parameter of a circle.
+fn lists_of(plan: &Plan<'_, '_>, body: &TypeBody) -> Result<Option<String>, AllocError> {
+    match plan.current_circle {
+        Some(circle) if has_parameter(body) => match plan.circles.get(circle) {
+            Some(known) => {
+                let name = known.name.as_str();
+                Ok(Some(format!(in plan.alloc; "{name}Lists")?))
+            }
+            None => Ok(None),
+        },
+        _ => Ok(None),
+    }
 }
 
 // The names that the crate passes on of a file.
 fn exported_names(
     plan: &Plan<'_, '_>,
-    body: &TypeBody,
+    file: &TypeFile,
     names: FileNames<'_>,
 ) -> Result<Vec<String>, AllocError> {
     let mut exported = Vec::new(plan.alloc);
-    let name = plan.text(names.name)?;
+    let name = plan.text(file.plain_name())?;
     exported.push(name)?;
-    if !is_group(body) {
+    if !is_group(&file.body) && file.lists.is_none() {
         let module = names.module;
         let tagging = format!(in plan.alloc; "{module}_is_well_tagged")?;
         exported.push(tagging)?;

@@ -18,6 +18,7 @@
 
 mod bodies;
 mod choices;
+mod circles;
 mod components;
 mod defaults;
 mod enumerations;

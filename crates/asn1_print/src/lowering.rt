@@ -1,6 +1,7 @@
 //! Types and their parts as Rust has them. A type without a name gets a file where it is used.
 use crate::bodies::push_file;
 use crate::choices::{alternative_with, choice_with};
+use crate::circles::unnamed_generic;
 use crate::components::{
     component_with, constructed_with, group_component, group_text, group_with, require_few, tree_of,
 };
@@ -91,7 +92,13 @@ fn new_type(
         module: module.as_str(),
         tag: None,
     };
+    if plan.current_circle.is_some() {
+        plan.name_generic(module.as_str(), name.as_str())?;
+    }
     add_file(plan, definition, names, owner)?;
+    if let Some(generic) = unnamed_generic(plan, module.as_str(), name.as_str(), owner)? {
+        return Ok(generic);
+    }
     plan.keep_unnamed_type(definition.place, name, module)
 }
 
@@ -106,19 +113,31 @@ pub(crate) fn add_file(
     match &definition.kind {
         TypeKind::Sequence(components) => {
             let body = constructed_of(plan, components, names, false)?;
-            push_file(plan, TypeBody::Sequence(body), names, owner)
+            push_file(
+                plan,
+                TypeBody::Sequence(body),
+                names,
+                owner,
+                definition.place,
+            )
         }
         TypeKind::Set(components) => {
             let body = constructed_of(plan, components, names, true)?;
-            push_file(plan, TypeBody::Set(body), names, owner)
+            push_file(plan, TypeBody::Set(body), names, owner, definition.place)
         }
         TypeKind::Choice(alternatives) => {
             let body = choice_of(plan, alternatives, names, definition.place)?;
-            push_file(plan, TypeBody::Choice(body), names, owner)
+            push_file(plan, TypeBody::Choice(body), names, owner, definition.place)
         }
         TypeKind::Enumerated(enumeration) => {
             let body = enumeration_of(plan, enumeration, definition.place)?;
-            push_file(plan, TypeBody::Enumerated(body), names, owner)
+            push_file(
+                plan,
+                TypeBody::Enumerated(body),
+                names,
+                owner,
+                definition.place,
+            )
         }
         _ => Ok(()),
     }
@@ -253,7 +272,11 @@ fn group_of(
         notation: notation.as_str(),
     };
     let body = TypeBody::Group(group_with(alloc, components, trees));
-    push_file(plan, body, names, owner)?;
+    let place = match group.first() {
+        Some(first) => first.place,
+        None => return group_component(plan, module.as_str(), name.as_str(), summary, fields),
+    };
+    push_file(plan, body, names, owner, place)?;
     group_component(plan, module.as_str(), name.as_str(), summary, fields)
 }
 

@@ -1,33 +1,74 @@
 //! Types that hold themselves.
-use crate::notation::text_of;
 use crate::plan::Plan;
 use asn1_resolved::{Addition, Alternative, Component, Type, TypeKind};
 use std::alloc::{AllocError, Global};
 
-/// Reports each type that holds itself, by a reference to a type that does not exist already.
-pub(crate) fn report_cycles(plan: &mut Plan<'_, '_>) -> Result<(), AllocError> {
+/// The circles of a schema, by references to types that do not exist already: the types of each hold one another.
+pub(crate) fn circle_groups(plan: &Plan<'_, '_>) -> Result<Vec<Vec<usize>>, AllocError> {
+    let alloc = plan.alloc;
     let references = list_references(plan)?;
-    let groups = groups_of(plan.alloc, references.as_slice())?;
+    let groups = groups_of(alloc, references.as_slice())?;
+    let mut circles: Vec<(usize, Vec<usize>)> = Vec::new(alloc);
     for (index, referred) in references.iter().enumerate() {
         if is_in_cycle(groups.as_slice(), index, referred.as_slice()) {
-            report_cycle(plan, index)?;
+            if let Some(group) = groups.get(index) {
+                push_member(alloc, &mut circles, *group, index)?;
+            }
         }
     }
+    let mut members = Vec::new(alloc);
+    for (_, circle) in circles {
+        members.push(circle)?;
+    }
+    Ok(members)
+}
+
+// Adds a type to the circle of its group.
+fn push_member(
+    alloc: Global,
+    circles: &mut Vec<(usize, Vec<usize>)>,
+    group: usize,
+    index: usize,
+) -> Result<(), AllocError> {
+    for (known, members) in circles.as_mut_slice() {
+        if *known == group {
+            members.push(index)?;
+            return Ok(());
+        }
+    }
+    let mut members = Vec::new(alloc);
+    members.push(index)?;
+    circles.push((group, members))?;
     Ok(())
 }
 
-// Reports that the type with an index holds itself.
-fn report_cycle(plan: &mut Plan<'_, '_>, index: usize) -> Result<(), AllocError> {
-    let schema = plan.request.schema;
-    if let Some(definition) = schema.types.get(index) {
-        let name = text_of(plan.alloc, definition.name)?;
-        let name = name.as_str();
-        let text = format!(in plan.alloc;
-            "'{name}' holds itself; name a type that exists by --extern {name}=crate::Type"
-        )?;
-        plan.error(definition.place, text.as_str())?;
+/// Whether the types of a circle but this one hold one another no more.
+pub(crate) fn is_acyclic_without(
+    plan: &Plan<'_, '_>,
+    members: &[usize],
+    cut: usize,
+) -> Result<bool, AllocError> {
+    let alloc = plan.alloc;
+    let all = list_references(plan)?;
+    let mut references = Vec::new(alloc);
+    for (index, referred) in all.iter().enumerate() {
+        let mut kept = Vec::new(alloc);
+        if index != cut && members.iter().any(|member| *member == index) {
+            for reference in referred {
+                if *reference != cut {
+                    kept.push(*reference)?;
+                }
+            }
+        }
+        references.push(kept)?;
     }
-    Ok(())
+    let groups = groups_of(alloc, references.as_slice())?;
+    for (index, referred) in references.iter().enumerate() {
+        if is_in_cycle(groups.as_slice(), index, referred.as_slice()) {
+            return Ok(false);
+        }
+    }
+    Ok(true)
 }
 
 // The references of each type to types that do not exist already.

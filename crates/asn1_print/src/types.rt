@@ -1,4 +1,5 @@
 //! Types as code names them.
+use crate::circles::name_in_circle;
 use crate::integers::{built_in, has_limits, range_of};
 use crate::plan::Plan;
 use asn1_names::Place;
@@ -77,7 +78,10 @@ pub(crate) fn plain_name(
         TypeKind::ObjectIdentifier => plan.library_type("ObjectIdentifier"),
         TypeKind::String(kind) => string_type(plan, *kind, definition.place),
         TypeKind::Any => plan.library_type("Any"),
-        TypeKind::Reference(index) => plan.referred_type(*index),
+        TypeKind::Reference(index) => match name_in_circle(plan, *index)? {
+            Some(name) => Ok(name),
+            None => plan.referred_type(*index),
+        },
         _ => plan.plain_type("()"),
     }
 }

@@ -1,0 +1,28 @@
+//! The types of these modules of ASN.1, in files made by `asn1_compile`:
+//!
+//! - `Expressions`
+#![tactic(auto, using(asn1_schema::proofs::Trees::tree_shapes))]
+
+mod aliases;
+mod call;
+mod category;
+mod category_of;
+mod category_parts;
+mod category_reader;
+mod chain;
+mod chain_of;
+mod chain_parts;
+mod chain_reader;
+mod expr;
+mod expr_of;
+mod expr_parts;
+mod expr_reader;
+
+pub use aliases::{Call, Terms};
+pub use call::CallOf;
+pub use category::{Category, category_is_well_tagged};
+pub use category_of::CategoryOf;
+pub use chain::{Chain, chain_is_well_tagged};
+pub use chain_of::ChainOf;
+pub use expr::{Expr, expr_is_well_tagged};
+pub use expr_of::ExprOf;
