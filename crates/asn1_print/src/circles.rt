@@ -273,58 +273,77 @@ pub(crate) fn name_in_circle(
     plan: &Plan<'_, '_>,
     index: usize,
 ) -> Result<Option<TypeName>, AllocError> {
-    let Some(current) = plan.current_circle else {
+    let Some(circle) = plan.current_circle else {
         return Ok(None);
     };
-    let mut index = index;
     let mut lists = Vec::new(plan.alloc);
-    let mut definition = None;
-    for _ in 0..plan.request.schema.types.len().saturating_add(64) {
-        if definition.is_none() {
-            if plan.circle_of(index) != Some(current) {
-                return Ok(None);
-            }
-            if plan.knot_of(current) == Some(index) {
-                return listed(plan, parameter(plan)?, lists.as_slice());
-            }
-            let Some(found) = plan.request.schema.types.get(index) else {
-                return Ok(None);
-            };
-            if crate::plan::has_file(&found.definition) {
-                return match plan.generic_of(index) {
-                    Some(generic) => {
-                        let name = generic_name(
-                            plan,
-                            generic.module.as_str(),
-                            generic.name.as_str(),
-                        )?;
-                        listed(plan, name, lists.as_slice())
-                    }
-                    None => Ok(None),
-                };
-            }
-            definition = Some(&found.definition);
+    let mut index = index;
+    for _ in 0..plan.request.schema.types.len() {
+        if plan.circle_of(index) != Some(circle) {
+            return Ok(None);
         }
-        match definition {
-            Some(found) => match &found.kind {
-                TypeKind::Reference(next) => {
-                    index = *next;
-                    definition = None;
-                }
-                TypeKind::SequenceOf(element) => {
-                    lists.push(ListKind::SequenceOf)?;
-                    definition = Some(element);
-                }
-                TypeKind::SetOf(element) => {
-                    lists.push(ListKind::SetOf)?;
-                    definition = Some(element);
-                }
-                _ => return Ok(None),
-            },
+        if let Some(name) = own_name(plan, circle, index)? {
+            return listed(plan, name, lists.as_slice());
+        }
+        match reference_of(plan, index, &mut lists)? {
+            Some(next) => index = next,
             None => return Ok(None),
         }
     }
     Ok(None)
+}
+
+// The parameter, if a definition is the knot, or its type with the parameter, if it has a file.
+fn own_name(
+    plan: &Plan<'_, '_>,
+    circle: usize,
+    index: usize,
+) -> Result<Option<TypeName>, AllocError> {
+    if plan.knot_of(circle) == Some(index) {
+        return Ok(Some(parameter(plan)?));
+    }
+    let Some(definition) = plan.request.schema.types.get(index) else {
+        return Ok(None);
+    };
+    match plan.generic_of(index) {
+        Some(generic) if crate::plan::has_file(&definition.definition) => {
+            let name = generic_name(plan, generic.module.as_str(), generic.name.as_str())?;
+            Ok(Some(name))
+        }
+        _ => Ok(None),
+    }
+}
+
+// The type that a definition refers to, below lists, which are added.
+fn reference_of(
+    plan: &Plan<'_, '_>,
+    index: usize,
+    lists: &mut Vec<ListKind>,
+) -> Result<Option<usize>, AllocError> {
+    match plan.request.schema.types.get(index) {
+        Some(definition) => reference_below(&definition.definition, lists),
+        None => Ok(None),
+    }
+}
+
+// The type that a type refers to, below lists, which are added.
+#[cycle(below)]
+fn reference_below(
+    definition: &Type<'_>,
+    lists: &mut Vec<ListKind>,
+) -> Result<Option<usize>, AllocError> {
+    match &definition.kind {
+        TypeKind::Reference(index) => Ok(Some(*index)),
+        TypeKind::SequenceOf(element) => {
+            lists.push(ListKind::SequenceOf)?;
+            reference_below(element, lists)
+        }
+        TypeKind::SetOf(element) => {
+            lists.push(ListKind::SetOf)?;
+            reference_below(element, lists)
+        }
+        _ => Ok(None),
+    }
 }
 
 // The parameter.
@@ -395,7 +414,7 @@ pub(crate) fn held_by(alloc: Global, name: &TypeName) -> Result<Option<Held>, Al
     Ok(None)
 }
 
-// What is between this opening and the last bracket.
+// The text between this opening and the last bracket.
 fn inside<'t>(text: &'t str, opening: &str) -> Option<&'t str> {
     text.strip_prefix(opening)?.strip_suffix(">")
 }

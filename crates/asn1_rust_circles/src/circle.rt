@@ -13,7 +13,7 @@ pub struct Circle<'a> {
     pub module: &'a str,
     /// The name of the knot in ASN.1.
     pub asn1_name: &'a str,
-    /// What the knot is.
+    /// A sentence on the knot, for its page.
     pub summary: &'a str,
     /// The types with a parameter, each behind those that it holds: the last is what a value of the knot is made of.
     pub members: &'a [TypeFile],

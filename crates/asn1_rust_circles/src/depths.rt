@@ -1,4 +1,4 @@
-//! What holds of the values inside at every depth, and so of all.
+//! Lemmas that a property of the values inside holds down to each depth if and only if it holds of all.
 use crate::circle::{Circle, elements_of, meaning_term};
 use crate::lists::variant_name;
 use crate::terms::field_term;
@@ -10,7 +10,7 @@ use std::alloc::{AllocError, Global};
 pub(crate) struct Property {
     /// The lemma of a type, behind its module.
     pub(crate) lemma: &'static str,
-    /// What the lemma takes in front of a value.
+    /// The arguments of the lemma in front of a value.
     pub(crate) argument: &'static str,
     /// The same in its statement.
     pub(crate) binder: &'static str,

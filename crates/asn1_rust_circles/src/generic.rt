@@ -18,7 +18,7 @@ const CIRCLES: &str = "asn1_circles";
 /// The bound of the parameter where values are read.
 const READ: &str = "AsnType + Eq + Drop";
 
-/// The file of a type of a circle. Of a type that is what a value of the knot is made of, the reader is the knot's.
+/// The file of a type of a circle. The body, of which values of the knot are made, has no reader of its own: the knot's reads it.
 pub fn generic_file(alloc: Global, file: &TypeFile, is_body: bool) -> Result<String, AllocError> {
     let mut draft = Draft::new(alloc);
     match &file.body {

@@ -67,14 +67,14 @@ fn append_calls(draft: &mut Draft, circle: Circle<'_>, file: &TypeFile) -> Resul
         Ok({name}(Box::new(alloc, value)?))
     }}
 
-    /// What the value is made of.
+    /// The value in the box.
     pub fn get(&self) -> &{body}<{name}>
         ensures {{ result.now ≡ in_knot self.now }}
     {{
         &self.0
     }}
 
-    /// What the value is made of, for itself.
+    /// Takes the value out of the box.
     pub fn into_inner(self) -> {body}<{name}>
         ensures {{ result ≡ in_knot self }}
     {{

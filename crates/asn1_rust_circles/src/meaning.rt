@@ -69,8 +69,29 @@ fn knot_uses(alloc: Global, circle: Circle<'_>) -> Result<String, AllocError> {
     )
 }
 
-// Appends the parts of a knot, and what holds inside it.
+// Appends the lists of a knot, and the definitions of its meaning.
 fn push_knot(
+    alloc: Global,
+    text: &mut String,
+    circle: Circle<'_>,
+    body: &TypeFile,
+) -> Result<(), AllocError> {
+    push_own_lists(alloc, text, circle, body)?;
+    push_inside(alloc, text, circle, body)?;
+    text.push_str(
+        "-- the meaning of a value inside another down to a depth
+abbrev type_level : ℕ → Meaning Knot
+type_level n = level knot (of_type_to knot n) (well_formed_alone knot)
+
+abbrev valid_level : ℕ → Meaning Knot
+valid_level n = level knot (λ _. ⊤) (valid_to knot n)
+
+",
+    )
+}
+
+// Appends the lists of a knot, as the words of its kind take them.
+fn push_own_lists(
     alloc: Global,
     text: &mut String,
     circle: Circle<'_>,
@@ -78,9 +99,8 @@ fn push_knot(
 ) -> Result<(), AllocError> {
     let type_name = body.plain_name();
     let module = body.module.as_str();
-    let asn1_name = circle.asn1_name;
-    if circle.is_choice() {
-        text.push_str(format!(in alloc;
+    let lists = if circle.is_choice() {
+        format!(in alloc;
             "abbrev pub alternatives : (V : Type 0) → Meaning V → Alternatives
 alternatives V m = {module}_alternatives m
 
@@ -89,21 +109,30 @@ pick V m v = {module}_pick m v
 
 "
         )?
-        .as_str())?;
     } else {
-        text.push_str(format!(in alloc;
+        format!(in alloc;
             "abbrev pub components : (V : Type 0) → Meaning V → Components ({type_name} V)
 components V m = {module}_components m
 
 "
         )?
-        .as_str())?;
-    }
+    };
+    text.push_str(lists.as_str())
+}
+
+// Appends the records inside a value, and its meaning there.
+fn push_inside(
+    alloc: Global,
+    text: &mut String,
+    circle: Circle<'_>,
+    body: &TypeFile,
+) -> Result<(), AllocError> {
+    let type_name = body.plain_name();
+    let asn1_name = circle.asn1_name;
     let word = knot_word(circle);
-    let lists = list_arguments(alloc, circle)?;
-    let lists = lists.as_str();
-    text.push_str(format!(in alloc;
-        "-- what a value is made of
+    let lists = list_arguments(circle);
+    let definitions = format!(in alloc;
+        "-- the value in the box
 abbrev pub in_knot : Knot → {type_name} Knot
 in_knot v = (out-Knot v).0.value
 
@@ -128,16 +157,9 @@ already = written ({word}_itself (codes \"{asn1_name}\") {lists})
 abbrev mapped : Knot-F Knot → {type_name} Knot → {type_name} (List Record)
 mapped f v = (map-Knot Knot (List Record) inside (record f {{ 0 = record f.0 {{ value = v }} }})).0.value
 
--- what a value inside another means down to a depth
-abbrev type_level : ℕ → Meaning Knot
-type_level n = level knot (of_type_to knot n) (well_formed_alone knot)
-
-abbrev valid_level : ℕ → Meaning Knot
-valid_level n = level knot (λ _. ⊤) (valid_to knot n)
-
 "
-    )?
-    .as_str())
+    )?;
+    text.push_str(definitions.as_str())
 }
 
 // The word for the kind of a knot.
@@ -149,16 +171,13 @@ fn knot_word(circle: Circle<'_>) -> &'static str {
     }
 }
 
-// The lists of a knot, as the words of its kind take them.
-fn list_arguments(alloc: Global, circle: Circle<'_>) -> Result<String, AllocError> {
-    String::from_str(
-        alloc,
-        if circle.is_choice() {
-            "alternatives pick"
-        } else {
-            "is_sequence components"
-        },
-    )
+// The lists of a knot, as arguments of the words of its kind.
+fn list_arguments(circle: Circle<'_>) -> &'static str {
+    if circle.is_choice() {
+        "alternatives pick"
+    } else {
+        "is_sequence components"
+    }
 }
 
 // Appends the laws of a knot, its meaning, and that this is the meaning of what a value is made of.
@@ -171,8 +190,7 @@ fn push_meaning(
     let module = body.module.as_str();
     let type_name = body.plain_name();
     let asn1_name = circle.asn1_name;
-    let lists = list_arguments(alloc, circle)?;
-    let lists = lists.as_str();
+    let lists = list_arguments(circle);
     let (meaning, made, same) = if circle.is_choice() {
         ("knot_meaning", "knot_is_made", "refl")
     } else {

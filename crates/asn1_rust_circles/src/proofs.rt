@@ -2,7 +2,7 @@
 use crate::circle::Circle;
 use crate::lists::{type_uses, variant_name};
 use crate::terms::definitions_file;
-use asn1_rust_components::{TypeBody, TypeFile};
+use asn1_rust_components::{ChoiceType, TypeBody, TypeFile};
 use asn1_rust_types::ProofFile;
 use std::alloc::{AllocError, Global};
 
@@ -24,72 +24,99 @@ pub(crate) fn push_proofs(
 
 // The file that proves that a knot is well tagged, and so is what it is made of.
 fn tags_file(alloc: Global, circle: Circle<'_>, body: &TypeFile) -> Result<ProofFile, AllocError> {
-    let crate_name = circle.crate_name;
     let name = circle.name;
-    let module = circle.module;
-    let type_name = body.plain_name();
-    let body_module = body.module.as_str();
-    let mut text = String::new(alloc);
-    let mut uses = String::new(alloc);
-    if let TypeBody::Choice(choice) = &body.body {
-        let asn1_name = circle.asn1_name;
-        let trees = format!(in alloc;
-            "Has (tree_tags (choice (knot_trees (codes \"{asn1_name}\") alternatives pick)))"
-        )?;
-        let trees = trees.as_str();
-        text.push_str(format!(in alloc;
-            "begins : (v : {type_name} Knot) → {trees} (first_tag (chosen_meaning (all_of ({body_module}_alternatives within)) ({body_module}_pick within v)).records)\n"
-        )?.as_str())?;
-        for (index, alternative) in choice.alternatives.iter().enumerate() {
-            let own = variant_name(alloc, body, alternative.variant.as_str())?;
-            let own = own.as_str();
-            text.push_str(format!(in alloc;
-                "begins ({own} v) = ({index}, omega arith, refl)\n"
-            )?.as_str())?;
-        }
-        text.push_str(format!(in alloc;
-            "
-each_begins : (v : Knot) → {trees} (first_tag (inside v))
-each_begins v = subst (λ rs. {trees} (first_tag rs)) (sym (laws.records v)) (begins (out-Knot v).0.value)
-
-pub knot_can : IsWellTagged meaning
-knot_can = search (rules, each_begins)
-
-pub body_can : IsWellTagged ({body_module}_meaning meaning)
-body_can = search (rules, knot_can)
-"
-        )?
-        .as_str())?;
-        uses.push_str(format!(in alloc;
-            "use Rattle.{crate_name}.specs.{name}Lists.{{{body_module}_alternatives, {body_module}_meaning, {body_module}_pick}}
-use Rattle.{crate_name}.specs.{name}Meaning.{{alternatives, inside, laws, meaning, pick, within}}
-use Rattle.{crate_name}.specs.declared.{module}.{name}.{{{name} as Knot, out-{name} as out-Knot}}
-"
-        )?
-        .as_str())?;
-        uses.push_str(type_uses(alloc, circle, body)?.as_str())?;
-    } else {
-        text.push_str(format!(in alloc;
-            "pub knot_can : IsWellTagged meaning
-knot_can = search rules
-
-pub body_can : IsWellTagged ({body_module}_meaning meaning)
-body_can = search (rules, knot_can)
-"
-        )?
-        .as_str())?;
-        uses.push_str(format!(in alloc;
-            "use Rattle.{crate_name}.specs.{name}Lists.{{{body_module}_meaning}}
-use Rattle.{crate_name}.specs.{name}Meaning.{{meaning}}
-"
-        )?
-        .as_str())?;
-    }
+    let (uses, text) = match &body.body {
+        TypeBody::Choice(choice) => (
+            choice_uses(alloc, circle, body)?,
+            choice_tags(alloc, circle, body, choice)?,
+        ),
+        _ => (
+            sequence_uses(alloc, circle, body)?,
+            well_tagged(alloc, body, "rules")?,
+        ),
+    };
     let comment = format!(in alloc; "`{name}` and what it is made of are well tagged.")?;
     Ok(ProofFile {
         path: format!(in alloc; "proofs/{name}Tags.antt")?,
         text: definitions_file(alloc, comment.as_str(), uses.as_str(), text.as_str())?,
     })
+}
+
+// The proofs that a knot is well tagged, by this list, and what it is made of.
+fn well_tagged(alloc: Global, body: &TypeFile, list: &str) -> Result<String, AllocError> {
+    let module = body.module.as_str();
+    format!(in alloc;
+        "pub knot_can : IsWellTagged meaning
+knot_can = search {list}
+
+pub body_can : IsWellTagged ({module}_meaning meaning)
+body_can = search (rules, knot_can)
+"
+    )
+}
+
+// The proofs for a CHOICE: the records of each value begin with a tag of its trees.
+fn choice_tags(
+    alloc: Global,
+    circle: Circle<'_>,
+    body: &TypeFile,
+    choice: &ChoiceType,
+) -> Result<String, AllocError> {
+    let asn1_name = circle.asn1_name;
+    let type_name = body.plain_name();
+    let module = body.module.as_str();
+    let trees = format!(in alloc;
+        "Has (tree_tags (choice (knot_trees (codes \"{asn1_name}\") alternatives pick)))"
+    )?;
+    let trees = trees.as_str();
+    let mut text = format!(in alloc;
+        "begins : (v : {type_name} Knot) → {trees} (first_tag (chosen_meaning (all_of ({module}_alternatives within)) ({module}_pick within v)).records)\n"
+    )?;
+    for (index, alternative) in choice.alternatives.iter().enumerate() {
+        let own = variant_name(alloc, body, alternative.variant.as_str())?;
+        let own = own.as_str();
+        let equation = format!(in alloc; "begins ({own} v) = ({index}, omega arith, refl)\n")?;
+        text.push_str(equation.as_str())?;
+    }
+    let each = format!(in alloc;
+        "
+each_begins : (v : Knot) → {trees} (first_tag (inside v))
+each_begins v = subst (λ rs. {trees} (first_tag rs)) (sym (laws.records v)) (begins (out-Knot v).0.value)
+
+"
+    )?;
+    text.push_str(each.as_str())?;
+    let tagged = well_tagged(alloc, body, "(rules, each_begins)")?;
+    text.push_str(tagged.as_str())?;
+    Ok(text)
+}
+
+// The lines that bring in the names in the proofs for a CHOICE.
+fn choice_uses(alloc: Global, circle: Circle<'_>, body: &TypeFile) -> Result<String, AllocError> {
+    let crate_name = circle.crate_name;
+    let name = circle.name;
+    let module = circle.module;
+    let body_module = body.module.as_str();
+    let types = type_uses(alloc, circle, body)?;
+    let types = types.as_str();
+    format!(in alloc;
+        "use Rattle.{crate_name}.specs.{name}Lists.{{{body_module}_alternatives, {body_module}_meaning, {body_module}_pick}}
+use Rattle.{crate_name}.specs.{name}Meaning.{{alternatives, inside, laws, meaning, pick, within}}
+use Rattle.{crate_name}.specs.declared.{module}.{name}.{{{name} as Knot, out-{name} as out-Knot}}
+{types}"
+    )
+}
+
+// The lines that bring in the names in the proofs for a SEQUENCE.
+fn sequence_uses(alloc: Global, circle: Circle<'_>, body: &TypeFile) -> Result<String, AllocError> {
+    let crate_name = circle.crate_name;
+    let name = circle.name;
+    let body_module = body.module.as_str();
+    format!(in alloc;
+        "use Rattle.{crate_name}.specs.{name}Lists.{{{body_module}_meaning}}
+use Rattle.{crate_name}.specs.{name}Meaning.{{meaning}}
+"
+    )
 }
 
 // The answer for the writer of a knot.

@@ -19,10 +19,10 @@ struct Place {
     // The variables on the way, as a lemma binds them, and their names.
     binders: String,
     arguments: String,
-    // What is in front of the value in a value of the knot, and behind it.
+    // The terms in front of the value in a value of the knot, and behind it.
     front: String,
     back: String,
-    // What is in front of a function of the value that was written, so that it is one of the knot that was, and behind it.
+    // The terms in front of a function of the value that was written, and behind it: a function of the knot that was written.
     found_front: String,
     found_back: String,
     // The number of variables on the way.
@@ -36,7 +36,7 @@ struct Task<'a> {
     subject: Subject<'a>,
 }
 
-// What a lemma is about.
+// The subject of a lemma.
 #[derive(Drop)]
 enum Subject<'a> {
     // A component that may be absent, of this value.
@@ -242,7 +242,7 @@ fn named(alloc: Global, place: Place, part: &str) -> Result<Place, AllocError> {
     Ok(place)
 }
 
-// What is found at a place in a value of the knot that was written.
+// The term that finds a place again in a value of the knot that was written.
 fn found_at(
     alloc: Global,
     place: &Place,
@@ -559,23 +559,12 @@ fn push_elements<'a>(
     let list = list.as_str();
     let elements = elements_of(alloc, kind, list)?;
     let elements = elements.as_str();
-    let each = match kind {
-        ListKind::SequenceOf => format!(in alloc;
-            "(λ l. flat_map (own_records {written}) l.items)"
-        )?,
-        ListKind::SetOf => format!(in alloc; "(flat_map (own_records {written}))")?,
-    };
+    let each = each_records(alloc, kind, written)?;
     let found = found_at(alloc, &place, each.as_str(), list)?;
     let found = found.as_str();
     let bound = circle.value_term(alloc, held, index, "Knot")?;
     let bound = bound.as_str();
-    let front = format!(in alloc; "(with_one {list} ")?;
-    let texts = match kind {
-        ListKind::SequenceOf => [front.as_str(), ")", "(λ l. of_first (", ") l.items)"],
-        ListKind::SetOf => ["(", " ∷ [])", "(of_first (", "))"],
-    };
-    let inner = around(alloc, &place, Some(bound), texts)?;
-    let inner = named(alloc, inner, "each")?;
+    let inner = element_place(alloc, &place, kind, list, bound)?;
     let element = place.depth.saturating_add(1);
     let name = place.name.as_str();
     let binders = place.binders.as_str();
@@ -595,6 +584,33 @@ fn push_elements<'a>(
         subject,
     })?;
     Ok(())
+}
+
+// The records of each element of a list.
+fn each_records(alloc: Global, kind: ListKind, records: &str) -> Result<String, AllocError> {
+    match kind {
+        ListKind::SequenceOf => {
+            format!(in alloc; "(λ l. flat_map (own_records {records}) l.items)")
+        }
+        ListKind::SetOf => format!(in alloc; "(flat_map (own_records {records}))"),
+    }
+}
+
+// The place of an element of a list with this name and type.
+fn element_place(
+    alloc: Global,
+    place: &Place,
+    kind: ListKind,
+    list: &str,
+    bound: &str,
+) -> Result<Place, AllocError> {
+    let front = format!(in alloc; "(with_one {list} ")?;
+    let texts = match kind {
+        ListKind::SequenceOf => [front.as_str(), ")", "(λ l. of_first (", ") l.items)"],
+        ListKind::SetOf => ["(", " ∷ [])", "(of_first (", "))"],
+    };
+    let inner = around(alloc, place, Some(bound), texts)?;
+    named(alloc, inner, "each")
 }
 
 // Adds the lemma of an element.

@@ -9,7 +9,7 @@ use Rattle.expressions.specs.declared.category_of.CategoryOf.{CategoryOf}
 abbrev pub components : (V : Type 0) → Meaning V → Components (CategoryOf V)
 components V m = category_of_components m
 
--- what a value is made of
+-- the value in the box
 abbrev pub in_knot : Knot → CategoryOf Knot
 in_knot v = (out-Knot v).0.value
 
@@ -34,7 +34,7 @@ already = written (sequence_itself (codes "Category") is_sequence components)
 abbrev mapped : Knot-F Knot → CategoryOf Knot → CategoryOf (List Record)
 mapped f v = (map-Knot Knot (List Record) inside (record f { 0 = record f.0 { value = v } })).0.value
 
--- what a value inside another means down to a depth
+-- the meaning of a value inside another down to a depth
 abbrev type_level : ℕ → Meaning Knot
 type_level n = level knot (of_type_to knot n) (well_formed_alone knot)
 

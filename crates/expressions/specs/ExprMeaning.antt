@@ -15,7 +15,7 @@ alternatives V m = expr_of_alternatives m
 abbrev pub pick : (V : Type 0) (m : Meaning V) → ExprOf V → OneOf (all_of (alternatives V m))
 pick V m v = expr_of_pick m v
 
--- what a value is made of
+-- the value in the box
 abbrev pub in_knot : Knot → ExprOf Knot
 in_knot v = (out-Knot v).0.value
 
@@ -40,7 +40,7 @@ already = written (choice_itself (codes "Expr") alternatives pick)
 abbrev mapped : Knot-F Knot → ExprOf Knot → ExprOf (List Record)
 mapped f v = (map-Knot Knot (List Record) inside (record f { 0 = record f.0 { value = v } })).0.value
 
--- what a value inside another means down to a depth
+-- the meaning of a value inside another down to a depth
 abbrev type_level : ℕ → Meaning Knot
 type_level n = level knot (of_type_to knot n) (well_formed_alone knot)
 

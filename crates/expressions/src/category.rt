@@ -26,14 +26,14 @@ impl Category {
         Ok(Category(Box::new(alloc, value)?))
     }
 
-    /// What the value is made of.
+    /// The value in the box.
     pub fn get(&self) -> &CategoryOf<Category>
         ensures { result.now ≡ in_knot self.now }
     {
         &self.0
     }
 
-    /// What the value is made of, for itself.
+    /// Takes the value out of the box.
     pub fn into_inner(self) -> CategoryOf<Category>
         ensures { result ≡ in_knot self }
     {

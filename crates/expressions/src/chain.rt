@@ -27,14 +27,14 @@ impl Chain {
         Ok(Chain(Box::new(alloc, value)?))
     }
 
-    /// What the value is made of.
+    /// The value in the box.
     pub fn get(&self) -> &ChainOf<Chain>
         ensures { result.now ≡ in_knot self.now }
     {
         &self.0
     }
 
-    /// What the value is made of, for itself.
+    /// Takes the value out of the box.
     pub fn into_inner(self) -> ChainOf<Chain>
         ensures { result ≡ in_knot self }
     {

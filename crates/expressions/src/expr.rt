@@ -28,14 +28,14 @@ impl Expr {
         Ok(Expr(Box::new(alloc, value)?))
     }
 
-    /// What the value is made of.
+    /// The value in the box.
     pub fn get(&self) -> &ExprOf<Expr>
         ensures { result.now ≡ in_knot self.now }
     {
         &self.0
     }
 
-    /// What the value is made of, for itself.
+    /// Takes the value out of the box.
     pub fn into_inner(self) -> ExprOf<Expr>
         ensures { result ≡ in_knot self }
     {
