@@ -40,6 +40,14 @@ impl Circle<'_> {
             .find(|file| file.module.as_str() == module)
     }
 
+    /// The name of the type with a parameter of this module; no text if there is none.
+    pub(crate) fn member_name(&self, module: &str) -> &str {
+        match self.member(module) {
+            Some(file) => file.plain_name(),
+            None => "",
+        }
+    }
+
     /// The values of a type that holds the parameter, in a clause, from one of its lists on: this is the parameter.
     pub(crate) fn value_term(
         &self,
@@ -50,10 +58,7 @@ impl Circle<'_> {
     ) -> Result<String, AllocError> {
         let mut term = match &held.member {
             Some(module) => {
-                let name = match self.member(module.as_str()) {
-                    Some(file) => file.plain_name(),
-                    None => "",
-                };
+                let name = self.member_name(module.as_str());
                 format!(in alloc; "({name} {parameter})")?
             }
             None => String::from_str(alloc, parameter)?,

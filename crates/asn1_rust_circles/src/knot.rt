@@ -174,10 +174,7 @@ fn type_at_knot(
     let knot = circle.name;
     let mut text = match &held.member {
         Some(module) => {
-            let member = match circle.member(module.as_str()) {
-                Some(file) => file.plain_name(),
-                None => "",
-            };
+            let member = circle.member_name(module.as_str());
             format!(in alloc; "{member}<{knot}>")?
         }
         None => String::from_str(alloc, knot)?,

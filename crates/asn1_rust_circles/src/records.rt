@@ -60,15 +60,15 @@ struct Lemmas<'a> {
 }
 
 /// Appends the lemmas on the records in each type of a circle, and that of the knot.
-pub(crate) fn push_lemmas(
+pub(crate) fn push_lemmas<'a>(
     alloc: Global,
     text: &mut String,
-    circle: Circle<'_>,
+    circle: Circle<'a>,
 ) -> Result<(), AllocError> {
     let Some(body) = circle.members.last() else {
         return Ok(());
     };
-    let mut lemmas = Lemmas {
+    let mut lemmas: Lemmas<'a> = Lemmas {
         texts: Vec::new(alloc),
         finders: Vec::new(alloc),
         tasks: Vec::new(alloc),
@@ -152,7 +152,7 @@ fn push_cases<'a>(
             let inner = bind(alloc, place, bound.as_str())?;
             let value = format!(in alloc; "v{depth}")?;
             let mut steps = Vec::new(alloc);
-            let mut waiting = Vec::new(alloc);
+            let mut waiting: Vec<Part<'a>> = Vec::new(alloc);
             push_components(
                 alloc,
                 lemmas,
@@ -273,23 +273,11 @@ fn alternative_steps<'a>(
     let own = variant_name(alloc, file, variant)?;
     let own = own.as_str();
     if held.member.is_some() || held.lists.len() > 1 {
-        let value = circle.value_term(alloc, held, 0, "(List Record)")?;
-        let value = value.as_str();
-        let type_name = file.plain_name();
-        let finder = format!(in alloc;
-            "abbrev of-{own} : ({value} → List Record) → {type_name} (List Record) → List Record
-of-{own} g ({own} v) = g v
-of-{own} g _ = []
-
-"
-        )?;
+        let finder = finder_of(alloc, circle, file, held, own)?;
         add_once(&mut lemmas.finders, finder)?;
     }
     let bound = circle.value_term(alloc, held, 0, "Knot")?;
-    let front = format!(in alloc; "({own} ")?;
-    let found_front = format!(in alloc; "(of-{own} ")?;
-    let texts = [front.as_str(), ")", found_front.as_str(), ")"];
-    let inner = around(alloc, place, Some(bound.as_str()), texts)?;
+    let inner = alternative_place(alloc, place, own, bound.as_str())?;
     let inner = named(alloc, inner, variant)?;
     let depth = place.depth;
     let value = format!(in alloc; "v{depth}")?;
@@ -301,6 +289,39 @@ of-{own} g _ = []
     })?;
     push_steps(alloc, lemmas, circle, &mut steps, waiting)?;
     Ok(steps)
+}
+
+// The function that finds the value of an alternative with this name of its variant.
+fn finder_of(
+    alloc: Global,
+    circle: Circle<'_>,
+    file: &TypeFile,
+    held: &Held,
+    own: &str,
+) -> Result<String, AllocError> {
+    let value = circle.value_term(alloc, held, 0, "(List Record)")?;
+    let value = value.as_str();
+    let type_name = file.plain_name();
+    format!(in alloc;
+        "abbrev of-{own} : ({value} → List Record) → {type_name} (List Record) → List Record
+of-{own} g ({own} v) = g v
+of-{own} g _ = []
+
+"
+    )
+}
+
+// The place of the value of an alternative with this name of its variant, and this type.
+fn alternative_place(
+    alloc: Global,
+    place: &Place,
+    own: &str,
+    bound: &str,
+) -> Result<Place, AllocError> {
+    let front = format!(in alloc; "({own} ")?;
+    let found_front = format!(in alloc; "(of-{own} ")?;
+    let texts = [front.as_str(), ")", found_front.as_str(), ")"];
+    around(alloc, place, Some(bound), texts)
 }
 
 // Adds a text, if it is not there.
