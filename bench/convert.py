@@ -6,7 +6,8 @@
 In a clone in a temporary folder `asn1_compile --program` prints the crate of examples/modules/ldap.asn1, which has to be the one that is
 here, and its program, both by `rt try`. The program reads the messages of all conversations of examples/ldap, one after another, and
 writes them as JSON. Erlang's compiler makes JSON of each message too, and the two have to have the same members, as in bench/texts.py.
-Then the program writes the messages as DER, and of that BER to the packed codec and back, which have to be the same octets.
+Then the program writes the messages as DER, and of that BER to the packed codec and back, which have to be the same octets. At last it
+writes them in X.680's notation, and Erlang's compiler has to make a value of each text whose DER is that of the message.
 
 It needs erlc, escript and the library jiffy of Erlang. The status is 0 if all is as it has to be.
 """
@@ -37,6 +38,16 @@ messages(Octets) ->
 """
 
 
+VALUES = """#!/usr/bin/env escript
+%%! -noshell -pa {folder}
+main(_) -> [io:format("~s~n", [try der(N) catch _:_ -> "" end]) || N <- lists:seq(0, {last})].
+der(N) ->
+    M = list_to_atom("Value" ++ integer_to_list(N)),
+    {{ok, Octets}} = '{module}':encode('LDAPMessage', M:v()),
+    binary:encode_hex(Octets).
+"""
+
+
 def tried(folder, words, octets=b""):
     """What a program writes, by `rt try` in its folder."""
     ran = subprocess.run(["rt", "try", "--seconds", "100", "--", *words], cwd=folder, input=octets, capture_output=True)
@@ -53,6 +64,30 @@ def printed(clone):
     if wrong:
         raise SystemExit("asn1_ldap is not as it is printed:\n" + "\n".join(wrong))
     return clone / "crates" / "asn1_ldap_convert"
+
+
+def values_of(written):
+    """The texts of values of a SEQUENCE in X.680's notation, one after another."""
+    lines = []
+    for line in written.decode().splitlines():
+        lines.append(line)
+        if line == "}":
+            yield "\n".join(lines)
+            lines = []
+
+
+def der_of_values(folder, values):
+    """The DER of the values that Erlang's compiler makes of texts, one after another; of a text that it does not take, nothing."""
+    folder.mkdir()
+    (folder / f"{encoders.LDAP}.asn1").write_text(encoders.MODULES[encoders.LDAP].read_text())
+    texts.run("erlc", "+der", f"{encoders.LDAP}.asn1", folder=folder)
+    for number, text in enumerate(values):
+        module = folder / f"Value{number}.asn1"
+        module.write_text(f"Value{number} DEFINITIONS IMPLICIT TAGS ::= BEGIN\n"
+                          f"IMPORTS LDAPMessage FROM {encoders.LDAP};\nv LDAPMessage ::= {text}\nEND\n")
+        subprocess.run(["erlc", "+der", module.name], cwd=folder, capture_output=True)
+    (folder / "values.escript").write_text(VALUES.format(folder=folder, module=encoders.LDAP, last=len(values) - 1))
+    return bytes.fromhex(texts.run("escript", "values.escript", folder=folder))
 
 
 def by_erlang(folder, octets):
@@ -82,11 +117,14 @@ def main():
         packed = tried(program, ["LDAPMessage", "ber", "packed"], octets)
         again = tried(program, ["LDAPMessage", "packed", "der"], packed)
         theirs = by_erlang(pathlib.Path(folder) / "erlang", octets)
+        values = list(values_of(tried(program, ["LDAPMessage", "ber", "text"], octets)))
+        der_again = der_of_values(pathlib.Path(folder) / "values", values)
     faults = [(one, other) for one, other in zip(ours, theirs, strict=False) if not texts.same_members(texts.parsed(one), texts.parsed(other))]
     for one, other in faults:
         print(f"ours: {one}\ntheirs: {other}")
-    same = len(ours) == len(theirs) and der == again and len(der) > 0
-    print(f"messages: {len(ours)} and {len(theirs)}, faults: {len(faults)}; the DER is {'the same' if same else 'another'} behind the packed codec")
+    same = len(ours) == len(theirs) == len(values) and der == again == der_again and len(der) > 0
+    print(f"messages: {len(ours)} and {len(theirs)}, texts: {len(values)}, faults: {len(faults)}; the DER is "
+          f"{'the same' if der == again else 'another'} behind the packed codec, and {'the same' if der == der_again else 'another'} by the texts")
     return bool(faults) or not same
 
 

@@ -37,7 +37,7 @@ NAMES = {
 NUMBERS = {"Integer", "1..10", "Box<u8>", "Cow<u8>", "u8", "u16", "u32", "u64", "i8", "i16", "i32", "i64", "i128", "isize"}
 SAME = {
     "Type2", "Type3", "Type4", "Type5", "Person", "Color", "Profile", "Visit", "Corner", "Shape", "Badge", "Ticket", "Gauge",
-    "Notice", "Labelled", "Settings", "Node", "Price", "PersonnelRecord", "Filter",
+    "Notice", "Labelled", "Settings", "Node", "Price", "PersonnelRecord", "Filter", "Mask",
 }
 NAMES |= {name: "Number" for name in NUMBERS} | {name: name for name in SAME}
 

@@ -4,7 +4,8 @@
     bench/texts.py
 
 The JSON of each value has to be what Erlang's JSON encoding rules make of its DER, member by member. The text in X.680's notation,
-as the value of a definition `v TYPE ::= TEXT`, has to be a value whose DER, as Erlang's compiler makes it, is the octets.
+as the value of a definition `v TYPE ::= TEXT`, has to be a value whose DER, as Erlang's compiler makes it, is the octets. asn1_compile,
+run by `rt try`, has to take the definition too, but for numbers beyond 128 bits and strings that are lists of their parts.
 
 Types are those of bench/samples.asn1. It needs erlc, escript and the library jiffy of Erlang. The status is 0 if all is as it has to be.
 """
@@ -19,6 +20,7 @@ import encoders
 
 ROOT = pathlib.Path(__file__).resolve().parent.parent
 STORED = ROOT / "crates" / "test_texts" / "stdout"
+COMPILER = ROOT / "crates" / "asn1_compile"
 MODULE = encoders.SAMPLES
 
 # A module that JSON of Erlang's compiler asks for.
@@ -93,6 +95,25 @@ def answers(folder, tuples):
     return run("escript", script, folder=folder).splitlines()
 
 
+def refused_values(folder, stored):
+    """The numbers of the values that asn1_compile refuses, of a module with a value in each line."""
+    module = folder / "values.asn1"
+    samples = encoders.MODULES[MODULE].read_text()
+    head = samples[:samples.rindex("END")]
+    values = [f"v{number} {name} ::= {' '.join(text.split())}\n" for number, (name, _, text, _) in enumerate(stored)]
+    module.write_text(head + "".join(values) + "END\n")
+    ran = subprocess.run(["rt", "try", "--", "values", "--check", str(module)], cwd=COMPILER, capture_output=True, text=True)
+    lines = re.findall(rf"^{re.escape(str(module))}:(\d+):\d+: (?!warning)", ran.stdout + ran.stderr, re.MULTILINE)
+    if "checked: ended" not in ran.stdout + ran.stderr:
+        raise SystemExit(ran.stdout + ran.stderr)
+    return {int(line) - 1 - head.count("\n") for line in lines}
+
+
+def may_be_refused(text):
+    """Whether a text is a number beyond 128 bits, or a string that is a list of its parts."""
+    return bool(re.fullmatch(r"-?\d{39,}", text)) or text.startswith(('{"', "{{"))
+
+
 def parsed(text):
     """The JSON of a text; nothing if it is none."""
     try:
@@ -122,8 +143,11 @@ def main():
         asked = [f"{{json, '{name}', <<{','.join(map(str, octets))}>>}}" for name, octets, _, _ in stored]
         asked += [f"{{der, '{name}', 'Value{number}'}}" for number, (name, _, _, _) in enumerate(stored)]
         told = answers(folder, asked)
+        refused = refused_values(folder, stored)
+    if len(told) != 2 * len(stored):
+        raise SystemExit(f"Erlang answers {len(told)} rows of {2 * len(stored)}")
     faults = unmade = 0
-    for (name, octets, text, line), written, made in zip(stored, told, told[len(stored):], strict=False):
+    for (name, octets, text, line), written, made in zip(stored, told[:len(stored)], told[len(stored):], strict=True):
         if name not in WITHOUT_JSON and not same_members(parsed(line), parsed(written)):
             faults += 1
             print(f"{name} {octets.hex(' ')}: JSON {line} and {written}")
@@ -132,7 +156,12 @@ def main():
         elif made.lower() != octets.hex():
             faults += 1
             print(f"{name} {octets.hex(' ')}: {text!r} is {made}")
-    print(f"values: {len(stored)}, of which Erlang makes none from the notation: {unmade}, faults: {faults}")
+    for number in sorted(refused):
+        name, octets, text, _ = stored[number]
+        if not may_be_refused(text):
+            faults += 1
+            print(f"{name} {octets.hex(' ')}: asn1_compile refuses {text!r}")
+    print(f"values: {len(stored)}, of which Erlang makes none from the notation: {unmade}, asn1_compile: {len(refused)}, faults: {faults}")
     return faults > 0
 
 

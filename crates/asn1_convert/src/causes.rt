@@ -53,11 +53,11 @@ fn cause_of_number(number: u8) -> Cause {
     }
 }
 
-/// The words for a value that is none of its type, with the limits that this has.
+/// The words for a value that is none of its type, or outside the limits that this has.
 fn type_text(alloc: Global, limits: Option<Limits>) -> Result<String, AllocError> {
     let mut text = String::from_str(alloc, "no value of its type")?;
     if let Some(limits) = known(limits) {
-        text.push_str(", ")?;
+        text.push_str(", or outside ")?;
         push_limits(&mut text, limits)?;
     }
     Ok(text)

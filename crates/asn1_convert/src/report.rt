@@ -24,7 +24,7 @@ pub(crate) fn stop_line<T: Decode>(
         .saturating_add(stop.before)
         .saturating_add(1);
     let start = task.before.octets.saturating_add(stop.start);
-    let length = known_length(task.input, stop);
+    let length = known_length(task.input, from, stop);
     let octets = octets_of(task.input, stop.start, length);
     let mut text = format!(in alloc; "value {number}, ")?;
     push_octets(&mut text, start, length)?;
@@ -49,9 +49,11 @@ pub(crate) fn stop_line<T: Decode>(
 }
 
 /// How many octets a value has that was not converted, if that is known: of an element whose inside is malformed by its own length.
-fn known_length(input: &[u8], stop: Stop) -> Option<usize> {
-    match stop.cause {
-        Cause::NoFront(ItemError::Malformed) => {
+/// Packed octets are no elements.
+fn known_length(input: &[u8], from: CodecForm, stop: Stop) -> Option<usize> {
+    match (stop.cause, from) {
+        (Cause::NoFront(ItemError::Malformed), CodecForm::Packed) => None,
+        (Cause::NoFront(ItemError::Malformed), _) => {
             let octets = octets_of(input, stop.start, None);
             let element = find_element(octets).ok()?;
             octets.len().checked_sub(element.rest.len())

@@ -164,8 +164,7 @@ impl<D: Decoder> Decoder for PathDecoder<D> {
         let next = self.inner.next_component::<C>();
         match next {
             Ok(Some(tag)) => self.path.begin_component(component_index::<C>(tag)),
-            Ok(None) => {}
-            Err(_) => self.path.begin_component(None),
+            Ok(None) | Err(_) => self.path.begin_component(None),
         }
         next
     }

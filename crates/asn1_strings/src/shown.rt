@@ -60,11 +60,20 @@ pub fn write_bits<W: fmt::Write>(bits: &[bool], f: &mut fmt::Formatter<W>) -> fm
     f.write_str("'B")
 }
 
-/// Writes a character of a text in quotes: one that a line cannot show, or a number that is no character, as `\u{a}`.
-pub(crate) fn write_character<W: fmt::Write>(
-    number: u32,
+/// Writes characters, given by their numbers, as a text in quotes.
+pub(crate) fn write_characters<W: fmt::Write, U: Copy + Into<u32>>(
+    numbers: &[U],
     f: &mut fmt::Formatter<W>,
 ) -> fmt::Result {
+    f.write_str("\"")?;
+    for number in numbers {
+        write_character((*number).into(), f)?;
+    }
+    f.write_str("\"")
+}
+
+/// Writes a character of a text in quotes: one that a line cannot show, or a number that is no character, as `\u{a}`.
+fn write_character<W: fmt::Write>(number: u32, f: &mut fmt::Formatter<W>) -> fmt::Result {
     match char::from_u32(number) {
         Some('"') => f.write_str("\\\""),
         Some('\\') => f.write_str("\\\\"),

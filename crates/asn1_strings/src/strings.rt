@@ -3,6 +3,6 @@ pub(crate) mod alphabet_string;
 pub(crate) mod ascii_text;
 pub(crate) mod binary;
 pub(crate) mod character;
-mod debug;
 pub(crate) mod string_unit;
+mod texts;
 pub(crate) mod unit_string;

@@ -72,6 +72,13 @@ impl fmt::Debug for Any {
     }
 }
 
+/// As `Debug` shows them.
+impl fmt::Display for Any {
+    fn fmt<W: fmt::Write>(&self, f: &mut fmt::Formatter<W>) -> fmt::Result {
+        write_hexadecimal(self.as_bytes(), f)
+    }
+}
+
 impl From<Vec<u8>> for Any {
     ghost from_gives = { λ contents any. any ≡ contents.items };
 

@@ -5,11 +5,12 @@ ghost use Rattle.asn1_types.specs.Kinds.{implicit_type};
 
 use asn1_model::{AsnType, TypeTable};
 use asn1_tags::Identifier;
+use std::fmt;
 use std::marker::PhantomData;
 
 /// A value of type `V` under the tag of `T`, which replaces the tag of `V`.
 #[derive(Drop)]
-#[derive_where(Clone, Copy, Debug, PartialEq, Eq, PartialOrd, Ord, Hash; V)]
+#[derive_where(Clone, Copy, PartialEq, Eq, PartialOrd, Ord, Hash; V)]
 pub struct Implicit<T, V> {
     /// The value.
     pub value: V,
@@ -44,6 +45,26 @@ impl<T, V> Implicit<T, V> {
         ensures value { result.now ≡ self.old.value }
     {
         &mut self.value
+    }
+}
+
+/// As the value shows itself: the tag is that of the type.
+impl<T, V: fmt::Debug> fmt::Debug for Implicit<T, V> {
+    ghost debug_output = { λ implicit. V.debug_output implicit.value };
+
+    fn fmt<W: fmt::Write>(&self, f: &mut fmt::Formatter<W>) -> fmt::Result {
+        fmt::Debug::fmt(&self.value, f)
+    }
+}
+
+/// As the value is written: the tag is that of the type.
+impl<T, V: fmt::Display> fmt::Display for Implicit<T, V> {
+    ghost output = { λ implicit. V.output implicit.value };
+
+    ghost styled_output = { λ implicit. V.styled_output implicit.value };
+
+    fn fmt<W: fmt::Write>(&self, f: &mut fmt::Formatter<W>) -> fmt::Result {
+        fmt::Display::fmt(&self.value, f)
     }
 }
 

@@ -1,6 +1,7 @@
 //! Laws of what no other contract names: derives, conversions, loops, and the fields of INSTANCE OF.
 ghost use Rattle.std.specs.Prelude.{◌≡◌, ◌↔◌, ◌++◌, ℕ, Bool, IsOk, List, IsTrue, MatchResult, false, length, vec_len};
 ghost use Rattle.std.specs.Cmp.Lexicographic.{pointwise, slice_cmp, slice_partial_cmp};
+ghost use Rattle.std.specs.Fmt.{debug_list};
 ghost use Rattle.std.specs.Hash as fed;
 ghost use Rattle.std.specs.Ordering.{nat_cmp, ordering_then};
 ghost use Rattle.std.specs.Slice.Iter.{iter_rest};
@@ -34,6 +35,7 @@ pub use premises::{
 pub use records::{
     sets_feed_their_length, types_begin_with_their_tags, types_have_the_records_of_their_contents,
 };
+use std::fmt::{Debug, Display};
 use std::hash::Hash;
 pub use strings::{
     kinds_of_string_are_compared_as_they_are, kinds_of_string_say_what_their_types_say,
@@ -75,6 +77,21 @@ pub fn values_are_compared_by_what_they_hold<T, V: Ord + Hash + Clone>()
     ensures instance_hash { (v : InstanceOf V) →
         ⟦<InstanceOf<V> as Hash>⟧.hash_input v ≡
         fed.slice fed.u32 v.type_id ++ V.hash_input v.value }
+{}
+
+/// A law of `Debug` and `Display`: values under another tag are written as the values that they hold, and a set as a vector of its
+/// elements.
+pub fn values_are_written_as_what_they_hold<T, V: Debug + Display>()
+    ensures implicit_shown { (v : Implicit T V) → ⟦<Implicit<T, V> as Debug>⟧.debug_output v ≡
+        V.debug_output v.value }
+    ensures implicit_written { (v : Implicit T V) → ⟦<Implicit<T, V> as Display>⟧.output v ≡
+        V.output v.value }
+    ensures explicit_shown { (v : Explicit T V) → ⟦<Explicit<T, V> as Debug>⟧.debug_output v ≡
+        V.debug_output v.value }
+    ensures explicit_written { (v : Explicit T V) → ⟦<Explicit<T, V> as Display>⟧.output v ≡
+        V.output v.value }
+    ensures set_shown { (elements : List V) → ⟦<SetOf<V> as Debug>⟧.debug_output elements ≡
+        debug_list V.debug_output elements }
 {}
 
 /// Laws of an array in a struct of its own. It means what the array means, it is made of the array, and two are equal if

@@ -24,7 +24,8 @@
 //! - An `Array` means what its array means (`laws::arrays_are_their_elements`).
 //! - `CodecString::from_any` makes a string of the units of one of its kind (`found`), and of no other (`only`).
 //! - `Any`, `Implicit`, `Explicit` and `InstanceOf` are compared, ordered, hashed and cloned by what they hold
-//!   (`laws::values_are_compared_by_what_they_hold`).
+//!   (`laws::values_are_compared_by_what_they_hold`). `Implicit` and `Explicit` are written by what they hold, and a set as a
+//!   vector of its elements (`laws::values_are_written_as_what_they_hold`).
 //!
 //! Each type means a word of `specs/Kinds.antt`, as `set_of_type`. `specs/Words.antt` has the words for a type of your own,
 //! from all crates below; `specs/AnyStrings.antt` the content of a string of whatever kind; `specs/formers` how a set holds

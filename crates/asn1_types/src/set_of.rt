@@ -12,6 +12,7 @@ mod equality;
 pub use equality::equal_sets_have_the_same_elements;
 use equality::{first_equal, have_same_elements};
 use std::alloc::{AllocError, Global};
+use std::fmt;
 use std::marker::Model;
 use std::slice::Iter;
 
@@ -24,7 +25,6 @@ use std::slice::Iter;
 ///
 /// A type may hold itself in a `SetOf`, and derive `PartialEq`, `Eq` and `Debug`.
 #[derive(Drop)]
-#[derive_where(Debug; T)]
 pub struct SetOf<T> {
     elements: Vec<T>,
 }
@@ -203,6 +203,17 @@ impl<'a, T> IntoIterator for &'a SetOf<T> {
 
     fn into_iter(self) -> Iter<'a, T> {
         self.iter()
+    }
+}
+
+/// The elements as a vector shows them, in the order of `iter`.
+impl<T: fmt::Debug> fmt::Debug for SetOf<T> {
+    ghost use Rattle.std.specs.Fmt.{debug_list};
+
+    ghost debug_output = { debug_list T.debug_output };
+
+    fn fmt<W: fmt::Write>(&self, f: &mut fmt::Formatter<W>) -> fmt::Result {
+        fmt::Debug::fmt(&self.elements, f)
     }
 }
 

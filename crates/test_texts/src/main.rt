@@ -8,6 +8,7 @@
 //! notation with the DER of the value that it makes of it.
 #![tactic(auto)]
 
+mod mask;
 mod others;
 mod request;
 mod texts;

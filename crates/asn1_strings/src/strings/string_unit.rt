@@ -1,7 +1,7 @@
 //! The units of strings.
 ghost use Rattle.std.specs.Prelude.{◌<◌, ◌^◌, ⊤, All};
 
-use crate::shown::{write_bits, write_character, write_octets};
+use crate::shown::{write_bits, write_characters};
 use std::fmt;
 
 /// A unit of a string: a bit, an octet, or a number of 16 or 32 bits.
@@ -16,7 +16,7 @@ pub trait StringUnit: Sized {
     fn units_are_in_range(units: &[Self])
         ensures { All IsInRange units.now };
 
-    /// Writes units as a person reads them: bits as `'101'B`, others as a text in quotes, and octets that are no text as `'0A'H`.
+    /// Writes units as a person reads them: bits as `'101'B`, others as the characters of which they are the numbers, in quotes.
     fn write_shown<W: fmt::Write>(units: &[Self], f: &mut fmt::Formatter<W>) -> fmt::Result;
 }
 
@@ -36,7 +36,7 @@ impl StringUnit for u8 {
     fn units_are_in_range(_units: &[u8]) {}
 
     fn write_shown<W: fmt::Write>(units: &[u8], f: &mut fmt::Formatter<W>) -> fmt::Result {
-        write_octets(units, f)
+        write_characters(units, f)
     }
 }
 
@@ -46,11 +46,7 @@ impl StringUnit for u16 {
     fn units_are_in_range(_units: &[u16]) {}
 
     fn write_shown<W: fmt::Write>(units: &[u16], f: &mut fmt::Formatter<W>) -> fmt::Result {
-        f.write_str("\"")?;
-        for unit in units {
-            write_character(u32::from(*unit), f)?;
-        }
-        f.write_str("\"")
+        write_characters(units, f)
     }
 }
 
@@ -60,10 +56,6 @@ impl StringUnit for u32 {
     fn units_are_in_range(_units: &[u32]) {}
 
     fn write_shown<W: fmt::Write>(units: &[u32], f: &mut fmt::Formatter<W>) -> fmt::Result {
-        f.write_str("\"")?;
-        for unit in units {
-            write_character(*unit, f)?;
-        }
-        f.write_str("\"")
+        write_characters(units, f)
     }
 }

@@ -1,16 +1,23 @@
-//! How strings are shown by `{:?}`.
+//! How strings are written by `{}` and `{:?}`.
 use crate::assertions::assert_that;
 use asn1_values::{
-    BitString, BmpString, Ia5String, Integer, ObjectIdentifier, OctetString, TeletexString,
+    BitString, BmpString, GeneralString, GraphicString, Ia5String, Integer, ObjectIdentifier,
+    OctetString, TeletexString,
 };
 use std::alloc::Global;
-use std::fmt::Debug;
+use std::fmt::{Debug, Display};
 use std::process::Abort;
 
 /// Asserts the text of `{:?}`.
 fn assert_shown<T: Debug>(rt: &impl Abort, alloc: Global, value: &T, text: &str) {
     let shown = format!(in alloc; "{value:?}").expect(rt, "memory");
     assert_that(rt, shown.as_str() == text, text);
+}
+
+/// Asserts the text of `{}`.
+fn assert_written<T: Display>(rt: &impl Abort, alloc: Global, value: &T, text: &str) {
+    let written = format!(in alloc; "{value}").expect(rt, "memory");
+    assert_that(rt, written.as_str() == text, text);
 }
 
 /// A list of these units.
@@ -56,9 +63,22 @@ fn characters_are_shown(rt: HostRuntime) {
 #[test]
 fn texts_arcs_and_numbers_are_shown(rt: HostRuntime) {
     let alloc = rt.alloc();
-    let mail = Ia5String::try_from_str(alloc, "a@b").expect(&rt, "IA5");
-    assert_shown(&rt, alloc, &mail, "\"a@b\"");
+    let mail = Ia5String::try_from_str(alloc, "a@b\n").expect(&rt, "IA5");
+    assert_shown(&rt, alloc, &mail, "\"a@b\\u{a}\"");
     let object = ObjectIdentifier::try_from_str(alloc, "1.2.840").expect(&rt, "arcs");
     assert_shown(&rt, alloc, &object, "1.2.840");
     assert_shown(&rt, alloc, &Integer::from_i128(-300), "-300");
+}
+
+#[test]
+fn characters_are_written_without_quotes(rt: HostRuntime) {
+    let alloc = rt.alloc();
+    let units = list(&rt, alloc, &[0x41, 0x20ac, 0xd83d]);
+    assert_written(&rt, alloc, &BmpString::new(units), "A\u{20ac}\u{fffd}");
+    let units = list(&rt, alloc, &[0x41, 0x5c]);
+    assert_written(&rt, alloc, &TeletexString::new(units), "A\\");
+    let octets = list(&rt, alloc, b"cn");
+    assert_written(&rt, alloc, &GeneralString::new(octets), "cn");
+    let octets = list(&rt, alloc, &[10]);
+    assert_written(&rt, alloc, &GraphicString::new(octets), "'0A'H");
 }
