@@ -88,6 +88,7 @@ pub(crate) fn extern_errors(
         let count = schema
             .types
             .iter()
+            .take(schema.defined)
             .filter(|defined| known.is_for(defined.module, defined.name))
             .count();
         match count {

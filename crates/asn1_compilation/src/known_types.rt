@@ -79,7 +79,7 @@ fn push_types(
     schema: &Schema<'_>,
 ) -> Result<(), AllocError> {
     let mut names = TakenNames::new(alloc);
-    for defined in &schema.types {
+    for defined in schema.types.iter().take(schema.defined) {
         let (module, name) = (defined.module, defined.name);
         if module == known.name && !externs.iter().any(|named| named.is_for(module, name)) {
             let wanted = rust_name(alloc, name)?;

@@ -1,10 +1,16 @@
 //! Definitions.
+use crate::braced::braced;
+use crate::classes::{
+    class_name_length, parse_class, sees_class_name, sees_known_class, type_reference,
+};
 use crate::cursor::Cursor;
 use crate::error::{Construct, Expected, Fault, Owner};
-use crate::grammar::parse_type;
+use crate::grammar::{parse_set, parse_type};
+use crate::macros::{begins_macro_use, macro_use, skipped_macro};
+use crate::parameters::{Parameters, parse_parameters};
 use crate::parsed::MAX_DEPTH;
 use crate::values::parse_value;
-use asn1_notation::{Assignment, Definition, Span};
+use asn1_notation::{Assignment, Class, Definition, Span, Type};
 use asn1_tokens::TokenKind;
 
 /// Reads a definition.
@@ -16,63 +22,131 @@ pub(crate) fn parse_assignment(cursor: &mut Cursor<'_>) -> Result<Assignment, Fa
     }
 }
 
-// Reads the definition of a type.
+// Reads the definition of a type, a class or a set.
 fn type_assignment(cursor: &mut Cursor<'_>) -> Result<Assignment, Fault> {
     let name = cursor.type_name(Expected::TypeName)?;
-    not_parameterized(cursor)?;
-    if cursor.sees_after(0, TokenKind::TypeReference, b"MACRO") {
-        return Err(cursor.not_taken(Construct::Macro));
-    }
-    if !cursor.accept_symbol(b"::=") {
-        return Err(after_name(cursor, name));
-    }
-    if cursor.sees_word(b"CLASS") {
-        return Err(cursor.not_taken(Construct::Class));
-    }
-    let definition = parse_type(cursor, MAX_DEPTH)?;
+    let Parameters { list, are_objects } = parse_parameters(cursor)?;
+    let definition = if cursor.sees_after(0, TokenKind::TypeReference, b"MACRO") {
+        skipped_macro(cursor)?
+    } else if cursor.accept_symbol(b"::=") {
+        class_or_type(cursor, are_objects)?
+    } else if begins_set(cursor) {
+        set(cursor)?
+    } else {
+        return Err(cursor.expected_after(Expected::Assignment, Owner::Name, name));
+    };
     Ok(Assignment {
         name,
-        definition: Definition::Type(definition),
+        parameters: list,
+        definition,
     })
 }
 
-// The fault that a name is not followed by an assignment.
-fn after_name(cursor: &Cursor<'_>, name: Span) -> Fault {
-    if sees_type_word(cursor, 0) && sees_assigned(cursor, 1) {
-        cursor.not_taken(Construct::Set)
-    } else {
-        cursor.expected_after(Expected::Assignment, Owner::Name, name)
+// Reads the class or the type that is defined.
+fn class_or_type(cursor: &mut Cursor<'_>, has_objects_alone: bool) -> Result<Definition, Fault> {
+    if cursor.accept_word(b"CLASS") {
+        let class = parse_class(cursor)?;
+        return Ok(Definition::Class(class));
     }
+    if sees_known_class(cursor) && !cursor.sees_after(1, TokenKind::Symbol, b".") {
+        let reference = type_reference(cursor)?;
+        return Ok(Definition::Class(Class::Alias(reference)));
+    }
+    let definition = parse_type(cursor, MAX_DEPTH)?;
+    Ok(if has_objects_alone {
+        Definition::Type(definition)
+    } else {
+        Definition::Template(definition)
+    })
 }
 
-// Reads the definition of a value.
+// Whether the type of a set of values is next, or the class of an object set.
+fn begins_set(cursor: &Cursor<'_>) -> bool {
+    sees_type_word(cursor, 0)
+        && (sees_assigned(cursor, 1) || sees_assigned(cursor, 2) || sees_assigned(cursor, 3))
+}
+
+// Reads a set of values, as the type that it is, or an object set.
+fn set(cursor: &mut Cursor<'_>) -> Result<Definition, Fault> {
+    if let Some(length) = class_name_length(cursor) {
+        if sees_assigned(cursor, length) {
+            return object(cursor);
+        }
+    }
+    let Type {
+        start,
+        kind,
+        mut constraints,
+    } = parse_type(cursor, MAX_DEPTH)?;
+    cursor.expect_symbol(b"::=", Expected::Assignment)?;
+    let values = parse_set(cursor)?;
+    constraints.push(values)?;
+    Ok(Definition::Type(Type {
+        start,
+        kind,
+        constraints,
+    }))
+}
+
+// Reads the class of an object or an object set, and its braces.
+fn object(cursor: &mut Cursor<'_>) -> Result<Definition, Fault> {
+    let class = type_reference(cursor)?;
+    cursor.expect_symbol(b"::=", Expected::Assignment)?;
+    let span = braced(cursor)?;
+    Ok(Definition::Object(class, span))
+}
+
+// Reads the definition of a value or an object.
 fn value_assignment(cursor: &mut Cursor<'_>) -> Result<Assignment, Fault> {
     let name = cursor.identifier(Expected::Definition)?;
-    not_parameterized(cursor)?;
+    let Parameters { list, .. } = parse_parameters(cursor)?;
+    let definition = match class_name_length(cursor) {
+        Some(length) if sees_braced(cursor, length) => {
+            object_or_value(cursor, name, list.is_empty())?
+        }
+        Some(1) if begins_macro_use(cursor) => macro_use(cursor)?,
+        _ if list.is_empty() => value(cursor, name)?,
+        _ => return Err(cursor.not_taken(Construct::ParameterizedValue)),
+    };
+    Ok(Assignment {
+        name,
+        parameters: list,
+        definition,
+    })
+}
+
+// Reads a value of the type that is next.
+fn value(cursor: &mut Cursor<'_>, name: Span) -> Result<Definition, Fault> {
     let definition = parse_type(cursor, MAX_DEPTH)?;
     if !cursor.accept_symbol(b"::=") {
         return Err(cursor.expected_after(Expected::Assignment, Owner::Value, name));
     }
     let value = parse_value(cursor, MAX_DEPTH)?;
-    Ok(Assignment {
-        name,
-        definition: Definition::Value(definition, value),
-    })
+    Ok(Definition::Value(definition, value))
 }
 
-// Refuses parameters.
-fn not_parameterized(cursor: &Cursor<'_>) -> Result<(), Fault> {
-    if cursor.sees_symbol(b"{") {
-        Err(cursor.not_taken(Construct::ParameterizedDefinition))
-    } else {
-        Ok(())
+// Reads a value, or else an object: what is in its braces need not be a value.
+fn object_or_value(
+    cursor: &mut Cursor<'_>,
+    name: Span,
+    may_be_value: bool,
+) -> Result<Definition, Fault> {
+    let first = cursor.index();
+    if may_be_value {
+        match value(cursor, name) {
+            Ok(definition) => return Ok(definition),
+            Err(Fault::Memory) => return Err(Fault::Memory),
+            _ => {}
+        }
+        cursor.go_back(first);
     }
+    object(cursor)
 }
 
 // Whether a definition begins with the next token.
 fn begins_assignment(cursor: &Cursor<'_>) -> bool {
     if cursor.sees_kind_after(0, TokenKind::Identifier) {
-        sees_type_word(cursor, 1) && (sees_assigned(cursor, 2) || sees_assigned(cursor, 3))
+        begins_value_assignment(cursor)
     } else if cursor.sees_kind_after(0, TokenKind::TypeReference) {
         begins_type_assignment(cursor)
     } else {
@@ -80,18 +154,38 @@ fn begins_assignment(cursor: &Cursor<'_>) -> bool {
     }
 }
 
+// Whether a definition begins with the next token, which is the name of a value.
+fn begins_value_assignment(cursor: &Cursor<'_>) -> bool {
+    let has_module = cursor.sees_after(2, TokenKind::Symbol, b".") && sees_assigned(cursor, 4);
+    sees_type_word(cursor, 1)
+        && (sees_assigned(cursor, 2) || sees_assigned(cursor, 3) || has_module)
+        || sees_class_name(cursor, 1) && sees_type_word(cursor, 2)
+}
+
 // Whether a definition begins with the next token, which is the name of a type.
 fn begins_type_assignment(cursor: &Cursor<'_>) -> bool {
     sees_assigned(cursor, 1)
         || cursor.sees_after(1, TokenKind::TypeReference, b"MACRO")
         || cursor.sees_kind_after(1, TokenKind::ReservedWord) && sees_assigned(cursor, 2)
+        || begins_object_set(cursor)
         || cursor.sees_after(1, TokenKind::Symbol, b"{") && has_parameters(cursor)
+}
+
+// Whether the definition of an object set begins with the next token.
+fn begins_object_set(cursor: &Cursor<'_>) -> bool {
+    sees_class_name(cursor, 1) && sees_braced(cursor, 2)
 }
 
 // Whether a type may begin with the token so many behind the next.
 fn sees_type_word(cursor: &Cursor<'_>, count: usize) -> bool {
     cursor.sees_kind_after(count, TokenKind::TypeReference)
         || cursor.sees_kind_after(count, TokenKind::ReservedWord)
+}
+
+// Whether '::=' and a brace follow this many tokens.
+fn sees_braced(cursor: &Cursor<'_>, count: usize) -> bool {
+    sees_assigned(cursor, count)
+        && cursor.sees_after(count.saturating_add(1), TokenKind::Symbol, b"{")
 }
 
 // Whether '::=' is so many tokens behind the next.

@@ -3,11 +3,12 @@ ghost use Rattle.asn1_grammar.specs.Nests.{Nests};
 
 use crate::components::skip_exception;
 use crate::cursor::Cursor;
-use crate::error::{Construct, Expected, Fault, Owner};
+use crate::error::{Expected, Fault, Owner};
 use crate::grammar::Grammar;
 use crate::plain_constraints::{
     accept_intersection, accept_union, begins_type, encoded_by, presence, value_or_range,
 };
+use crate::tables::{constrained_by, sees_table, table};
 use crate::values::parse_value;
 use asn1_notation::{Constraint, ConstraintKind, Member, Type};
 
@@ -38,6 +39,16 @@ impl<
         let constraint = self.extensible(cursor)?;
         skip_exception(cursor)?;
         cursor.expect_symbol(b")", Expected::CloseParenthesis)?;
+        Ok(constraint)
+    }
+
+    /// Reads a set of values in braces (X.680, 16.7).
+    pub(crate) fn read_set(&self, cursor: &mut Cursor<'_>) -> Result<Constraint, Fault>
+        requires { Nests self.now.depth (T.pre self.now.types) (C.pre self.now.constraints) }
+    {
+        cursor.expect_symbol(b"{", Expected::OpenBrace)?;
+        let constraint = self.extensible(cursor)?;
+        cursor.expect_symbol(b"}", Expected::CloseBrace)?;
         Ok(constraint)
     }
 
@@ -189,8 +200,11 @@ impl<
     fn plain_element(&self, cursor: &mut Cursor<'_>) -> Result<ConstraintKind, Fault>
         requires { Nests self.now.depth (T.pre self.now.types) (C.pre self.now.constraints) }
     {
-        if cursor.sees_word(b"CONSTRAINED") {
-            return Err(cursor.not_taken(Construct::ConstrainedBy));
+        if cursor.accept_word(b"CONSTRAINED") {
+            return constrained_by(cursor);
+        }
+        if sees_table(cursor) {
+            return table(cursor);
         }
         if cursor.accept_word(b"PATTERN") {
             let pattern = parse_value(cursor, self.depth)?;

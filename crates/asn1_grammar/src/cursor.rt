@@ -86,6 +86,11 @@ impl<'a> Cursor<'a> {
         }
     }
 
+    /// Goes back to where this many tokens were read.
+    pub(crate) fn go_back(&mut self, index: usize) {
+        self.index = index;
+    }
+
     /// The offset of the next token, or of the end of the text.
     pub(crate) fn start(&self) -> usize {
         match self.peek() {
@@ -212,6 +217,15 @@ impl<'a> Cursor<'a> {
     /// Reads a name that begins with an upper-case letter.
     pub(crate) fn type_name(&mut self, expected: Expected) -> Result<Span, Fault> {
         self.name_of_kind(TokenKind::TypeReference, expected)
+    }
+
+    /// Reads a name.
+    pub(crate) fn any_name(&mut self, expected: Expected) -> Result<Span, Fault> {
+        if self.sees_kind_after(0, TokenKind::TypeReference) {
+            self.type_name(expected)
+        } else {
+            self.identifier(expected)
+        }
     }
 
     /// Reads a whole number, with a hyphen in front or without.

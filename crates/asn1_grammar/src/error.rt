@@ -33,6 +33,8 @@ pub enum Expected {
     NumberName,
     /// The name of a type or of a value.
     AnyName,
+    /// The name of a field, behind '&'.
+    FieldName,
     /// A definition, or END.
     Definition,
     /// '::='.
@@ -110,6 +112,7 @@ impl Expected {
             Expected::ArcName => "the name of an arc",
             Expected::NumberName => "the name of a number",
             Expected::AnyName => "the name of a type or of a value",
+            Expected::FieldName => "the name of a field, behind '&'",
             Expected::Definition => "a definition, or END",
             Expected::Assignment => "'::='",
             Expected::OpenBrace => "'{'",
@@ -158,6 +161,8 @@ pub enum Owner {
     Name,
     /// Component.
     Component,
+    /// Field.
+    Field,
     /// Item.
     Item,
     /// Number.
@@ -173,6 +178,7 @@ impl Owner {
             Owner::Module => "module",
             Owner::Name => "the name",
             Owner::Component => "component",
+            Owner::Field => "field",
             Owner::Item => "item",
             Owner::Number => "number",
             Owner::Value => "the type of value",
@@ -209,22 +215,10 @@ pub enum Construct {
     InstanceOf,
     /// A type of the standard ISO 8601.
     Time,
-    /// An information object class.
+    /// An information object class where a type is.
     Class,
-    /// A field of an information object class.
-    ClassField,
-    /// A set of values or of information objects.
-    Set,
-    /// A constraint by an information object set.
-    ObjectSetConstraint,
-    /// CONSTRAINED BY.
-    ConstrainedBy,
-    /// A parameterized definition.
-    ParameterizedDefinition,
-    /// A parameterized type.
-    ParameterizedType,
-    /// A macro.
-    Macro,
+    /// A parameterized value.
+    ParameterizedValue,
 }
 
 impl Construct {
@@ -241,14 +235,8 @@ impl Construct {
             Construct::RelativeOidIri => "RELATIVE-OID-IRI",
             Construct::InstanceOf => "INSTANCE OF",
             Construct::Time => "a type of the standard ISO 8601",
-            Construct::Class => "an information object class",
-            Construct::ClassField => "a field of an information object class",
-            Construct::Set => "a set of values or of information objects",
-            Construct::ObjectSetConstraint => "a constraint by an information object set",
-            Construct::ConstrainedBy => "CONSTRAINED BY",
-            Construct::ParameterizedDefinition => "a parameterized definition",
-            Construct::ParameterizedType => "a parameterized type",
-            Construct::Macro => "a macro",
+            Construct::Class => "an information object class as a type",
+            Construct::ParameterizedValue => "a parameterized value",
         }
     }
 }

@@ -1,6 +1,7 @@
 //! The rules that hold types or constraints take the parsers of both as parameters, so each rule is proved by itself.
 use crate::cursor::Cursor;
 use crate::error::{Cause, Fault};
+use crate::parsed::MAX_DEPTH;
 use asn1_notation::{Constraint, Type};
 
 /// The rules at a depth.
@@ -40,4 +41,14 @@ fn parse_constraint(cursor: &mut Cursor<'_>, depth: usize) -> Result<Constraint,
         constraints: parse_constraint,
     }
     .read_constraint(cursor)
+}
+
+/// Reads a set of values in braces.
+pub(crate) fn parse_set(cursor: &mut Cursor<'_>) -> Result<Constraint, Fault> {
+    Grammar {
+        depth: MAX_DEPTH,
+        types: parse_type,
+        constraints: parse_constraint,
+    }
+    .read_set(cursor)
 }

@@ -10,8 +10,10 @@
 //! | [`Construct`] | a construct of X.680 to X.683 that the reader refuses by name |
 //! | [`append_cause`] | appends the message of an error |
 //!
-//! The notation is that of X.680 without REAL, EXTERNAL, EMBEDDED PDV, CHARACTER STRING, RELATIVE-OID and the types of time of
-//! ISO 8601, with ANY and ANY DEFINED BY of 1988. Constructs of X.681 to X.683 are refused by name.
+//! The notation is that of X.680 without REAL, EXTERNAL, EMBEDDED PDV, CHARACTER STRING, RELATIVE-OID, INSTANCE OF and the types of
+//! time of ISO 8601, with ANY and ANY DEFINED BY of 1988; with classes and their fields (X.681), table constraints and CONSTRAINED BY
+//! (X.682), and parameters of types (X.683). Objects and object sets are read to the brace that closes them, and macros of X.208 to
+//! their END. A definition of a value whose governor is in capitals is an object where what is in its braces is no value.
 //!
 //! An error has what was expected and the item that is there. After an error in a definition the reader goes on with the next
 //! one, and leaves the one in error out of the tree; the error has the name of that definition.
@@ -22,17 +24,23 @@
 #![tactic(auto)]
 
 mod assignments;
+mod braced;
+mod classes;
 mod components;
 mod constraints;
 mod cursor;
 mod error;
 mod grammar;
+mod macros;
 mod messages;
 mod modules;
+mod named_types;
+mod parameters;
 mod parsed;
 mod plain_constraints;
 mod plain_types;
 mod slips;
+mod tables;
 mod types;
 mod values;
 mod words;

@@ -123,11 +123,7 @@ fn names(cursor: &mut Cursor<'_>) -> Result<Vec<Span>, Fault> {
 
 // Reads the name of a type or of a value.
 fn any_name(cursor: &mut Cursor<'_>) -> Result<Span, Fault> {
-    let name = if cursor.sees_kind_after(0, TokenKind::TypeReference) {
-        cursor.type_name(Expected::AnyName)?
-    } else {
-        cursor.identifier(Expected::AnyName)?
-    };
+    let name = cursor.any_name(Expected::AnyName)?;
     if cursor.accept_symbol(b"{") {
         cursor.expect_symbol(b"}", Expected::CloseBrace)?;
     }

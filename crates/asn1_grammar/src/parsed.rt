@@ -1,4 +1,5 @@
 //! All modules of a text.
+use crate::classes::find_aliases;
 use crate::cursor::Cursor;
 use crate::error::{Cause, Fault, Slip, SyntaxError};
 use crate::modules::parse_module;
@@ -49,7 +50,8 @@ fn parse_text(
         if cursor.is_at_end() {
             return Ok(());
         }
-        let module = parse_module(&mut cursor, errors)?;
+        let mut module = parse_module(&mut cursor, errors)?;
+        find_aliases(alloc, text, &mut module.assignments)?;
         modules.push(module)?;
     }
     Ok(())

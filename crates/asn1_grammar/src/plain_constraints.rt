@@ -1,6 +1,6 @@
 //! Constraints that hold no other and no type.
 use crate::cursor::Cursor;
-use crate::error::{Construct, Expected, Fault};
+use crate::error::{Expected, Fault};
 use crate::values::parse_value;
 use asn1_notation::{ConstraintKind, EndPoint, EndValue, Presence, Value};
 use asn1_tokens::TokenKind;
@@ -48,9 +48,6 @@ pub(crate) fn value_or_range(
     cursor: &mut Cursor<'_>,
     depth: usize,
 ) -> Result<ConstraintKind, Fault> {
-    if cursor.sees_symbol(b"{") && cursor.sees_kind_after(1, TokenKind::TypeReference) {
-        return Err(cursor.not_taken(Construct::ObjectSetConstraint));
-    }
     let value = end_value(cursor, depth)?;
     let is_open = cursor.accept_symbol(b"<");
     let is_range = cursor.accept_symbol(b"..");

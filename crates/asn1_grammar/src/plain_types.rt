@@ -1,16 +1,15 @@
 //! Types that hold no other.
 use crate::components::skip_exception;
 use crate::cursor::Cursor;
-use crate::error::{Construct, Expected, Fault, Owner};
+use crate::error::{Expected, Fault, Owner};
+use crate::named_types::sees_selection;
 use crate::words::{not_taken, string_kind};
-use asn1_notation::{
-    EnumerationItem, NamedNumber, Reference, Span, Tag, TagClass, TagMode, TypeKind,
-};
+use asn1_notation::{EnumerationItem, NamedNumber, Span, Tag, TagClass, TagMode, TypeKind};
 use asn1_tokens::TokenKind;
 
 /// Reads the name of elements, if there is one.
 pub(crate) fn optional_identifier(cursor: &mut Cursor<'_>) -> Result<Option<Span>, Fault> {
-    if !cursor.sees_kind_after(0, TokenKind::Identifier) {
+    if !cursor.sees_kind_after(0, TokenKind::Identifier) || sees_selection(cursor) {
         return Ok(None);
     }
     let name = cursor.identifier(Expected::ElementName)?;
@@ -54,13 +53,12 @@ fn tag_mode(cursor: &mut Cursor<'_>) -> Option<TagMode> {
     }
 }
 
-/// Reads a type that holds no other.
+/// Reads a type that begins with a word of the language, and holds no other.
 pub(crate) fn plain_type(cursor: &mut Cursor<'_>) -> Result<TypeKind, Fault> {
     let Some(token) = cursor.peek() else {
         return Err(cursor.expected(Expected::Type));
     };
     match token.kind {
-        TokenKind::TypeReference => named_type(cursor),
         TokenKind::ReservedWord => word_type(cursor, token.text),
         _ => Err(cursor.expected(Expected::Type)),
     }
@@ -106,33 +104,8 @@ fn two_word_type(cursor: &mut Cursor<'_>) -> Result<TypeKind, Fault> {
     }
 }
 
-// Reads the name of a type, or ANY of 1988.
-fn named_type(cursor: &mut Cursor<'_>) -> Result<TypeKind, Fault> {
-    if cursor.sees_after(0, TokenKind::TypeReference, b"ANY") {
-        return any(cursor);
-    }
-    let name = cursor.type_name(Expected::Type)?;
-    if !cursor.sees_symbol(b".") {
-        return reference(cursor, None, name);
-    }
-    if cursor.sees_after(1, TokenKind::Symbol, b"&") {
-        return Err(cursor.not_taken(Construct::ClassField));
-    }
-    cursor.skip();
-    let inner = cursor.type_name(Expected::TypeName)?;
-    reference(cursor, Some(name), inner)
-}
-
-// The reference to a type, of which the names were read.
-fn reference(cursor: &Cursor<'_>, module: Option<Span>, name: Span) -> Result<TypeKind, Fault> {
-    if cursor.sees_symbol(b"{") {
-        return Err(cursor.not_taken(Construct::ParameterizedType));
-    }
-    Ok(TypeKind::Reference(Reference { module, name }))
-}
-
-// Reads ANY, or ANY DEFINED BY.
-fn any(cursor: &mut Cursor<'_>) -> Result<TypeKind, Fault> {
+/// Reads ANY, or ANY DEFINED BY.
+pub(crate) fn any(cursor: &mut Cursor<'_>) -> Result<TypeKind, Fault> {
     cursor.skip();
     if !cursor.sees_after(0, TokenKind::TypeReference, b"DEFINED") {
         return Ok(TypeKind::Any(None));

@@ -4,6 +4,7 @@ ghost use Rattle.asn1_grammar.specs.Nests.{Nests};
 use crate::cursor::Cursor;
 use crate::error::{Expected, Fault};
 use crate::grammar::Grammar;
+use crate::named_types::{sees_named_type, sees_selection};
 use crate::plain_types::{optional_identifier, plain_type, tag};
 use asn1_notation::{Constraint, Type, TypeKind};
 use asn1_tokens::TokenKind;
@@ -29,6 +30,10 @@ impl<
         let kind = if cursor.accept_word(b"CHOICE") {
             cursor.expect_symbol(b"{", Expected::OpenBrace)?;
             TypeKind::Choice(self.component_items(cursor, true)?)
+        } else if sees_named_type(cursor) {
+            self.named_type(cursor)?
+        } else if sees_selection(cursor) {
+            self.selection(cursor)?
         } else {
             plain_type(cursor)?
         };

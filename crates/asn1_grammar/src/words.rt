@@ -32,8 +32,6 @@ const NOT_TAKEN: &[(&[u8], Construct)] = &[
     (b"OID-IRI", Construct::OidIri),
     (b"RELATIVE-OID-IRI", Construct::RelativeOidIri),
     (b"INSTANCE", Construct::InstanceOf),
-    (b"TYPE-IDENTIFIER", Construct::Class),
-    (b"ABSTRACT-SYNTAX", Construct::Class),
     (b"TIME", Construct::Time),
     (b"DATE", Construct::Time),
     (b"DATE-TIME", Construct::Time),

@@ -1,6 +1,7 @@
 //! The references of definitions, as far as they were listed.
+use crate::class_index::ClassIndex;
 use asn1_names::{Place, UsedName};
-use asn1_notation::{NumberName, Reference, Span};
+use asn1_notation::{NumberName, Parameter, Reference, Span, Type, TypeKind};
 use std::alloc::{AllocError, Global};
 use std::collections::HashSet;
 
@@ -12,6 +13,8 @@ pub(crate) struct Collector<'a> {
     index: usize,
     // The module that is passed.
     module: &'a [u8],
+    // The parameters of the definition that is passed, which hide definitions of their names.
+    parameters: HashSet<&'a [u8]>,
     used: Vec<UsedName<'a>>,
     // The names of numbers, bits and items.
     items: HashSet<&'a [u8]>,
@@ -26,6 +29,7 @@ impl<'a> Collector<'a> {
             text: &[],
             index: 0,
             module: &[],
+            parameters: HashSet::new(alloc),
             used: Vec::new(alloc),
             items: HashSet::new(alloc),
             values: Vec::new(alloc),
@@ -37,6 +41,26 @@ impl<'a> Collector<'a> {
         self.text = text;
         self.index = index;
         self.module = name.octets(text);
+    }
+
+    /// Goes on with a definition that has these parameters.
+    pub(crate) fn enter_definition(
+        &mut self,
+        alloc: Global,
+        parameters: &[Parameter],
+    ) -> Result<(), AllocError> {
+        if !self.parameters.is_empty() {
+            self.parameters = HashSet::new(alloc);
+        }
+        for parameter in parameters {
+            self.parameters.insert(parameter.name.octets(self.text))?;
+        }
+        Ok(())
+    }
+
+    // Whether a reference is to a parameter of the definition that is passed.
+    fn is_parameter(&self, reference: &Reference) -> bool {
+        reference.module.is_none() && self.parameters.contains(reference.name.octets(self.text))
     }
 
     // The place of octets of the text that is passed.
@@ -62,8 +86,10 @@ impl<'a> Collector<'a> {
 
     /// Adds a reference to a definition.
     pub(crate) fn refer(&mut self, reference: &Reference) -> Result<(), AllocError> {
-        let used = self.used(reference);
-        self.used.push(used)?;
+        if !self.is_parameter(reference) {
+            let used = self.used(reference);
+            self.used.push(used)?;
+        }
         Ok(())
     }
 
@@ -82,8 +108,10 @@ impl<'a> Collector<'a> {
 
     /// Adds a name that is that of a value, or of an item of the value's type.
     pub(crate) fn refer_or_name_item(&mut self, reference: &Reference) -> Result<(), AllocError> {
-        let used = self.used(reference);
-        self.values.push(used)?;
+        if !self.is_parameter(reference) {
+            let used = self.used(reference);
+            self.values.push(used)?;
+        }
         Ok(())
     }
 
@@ -91,6 +119,19 @@ impl<'a> Collector<'a> {
     pub(crate) fn name_item(&mut self, name: Span) -> Result<(), AllocError> {
         self.items.insert(name.octets(self.text))?;
         Ok(())
+    }
+
+    /// Whether a type is the name of a class, so that a value of it is an object.
+    pub(crate) fn is_object(&self, classes: &ClassIndex<'_>, governor: &Type) -> bool {
+        match &governor.kind {
+            TypeKind::Reference(reference) => {
+                let used = self.used(reference);
+                classes
+                    .find(used.module, used.qualifier, used.name)
+                    .is_some()
+            }
+            _ => false,
+        }
     }
 
     /// The octets of a name of the text that is passed.
@@ -104,6 +145,7 @@ impl<'a> Collector<'a> {
             text: _,
             index: _,
             module: _,
+            parameters: _,
             mut used,
             items,
             values,

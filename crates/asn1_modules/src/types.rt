@@ -1,9 +1,10 @@
 //! The names in types and constraints.
+use crate::classes::refer_to_class;
 use crate::collector::Collector;
 use crate::values::{collect_end, collect_value};
 use asn1_notation::{
-    Component, ComponentItem, Constraint, ConstraintKind, EnumerationItem, Member, NamedNumber,
-    Type, TypeKind, Usage, Value,
+    Argument, Component, ComponentItem, Constraint, ConstraintKind, EnumerationItem, Member,
+    NamedNumber, Type, TypeKind, Usage, Value,
 };
 use std::alloc::AllocError;
 
@@ -34,8 +35,30 @@ fn collect_kind(collector: &mut Collector<'_>, kind: &TypeKind) -> Result<(), Al
             collector.refer_to_number(&tag.number)?;
             collect_type(collector, inner)
         }
+        TypeKind::Selection(_, inner) => collect_type(collector, inner),
+        TypeKind::Field(class, _) => refer_to_class(collector, class),
+        TypeKind::Instance(reference, arguments) => {
+            collector.refer(reference)?;
+            collect_arguments(collector, arguments.as_slice())
+        }
         _ => Ok(()),
     }
+}
+
+// Collects the names in arguments. Those inside braces are left out.
+#[cycle(collect_types)]
+fn collect_arguments(
+    collector: &mut Collector<'_>,
+    arguments: &[Argument],
+) -> Result<(), AllocError> {
+    for argument in arguments {
+        match argument {
+            Argument::Type(definition) => collect_type(collector, definition)?,
+            Argument::Value(value) => collect_value(collector, value)?,
+            Argument::Braced(_) => {}
+        }
+    }
+    Ok(())
 }
 
 // Collects named numbers, or named bits.

@@ -33,6 +33,10 @@ pub enum ConstraintKind {
     Containing(Box<Type>, Option<Value>),
     /// ENCODED BY alone.
     EncodedBy(Value),
+    /// CONSTRAINED BY, without the text in its braces.
+    ConstrainedBy,
+    /// The objects of a set, from brace to brace, with the components that tell which of these.
+    Table(Span, Vec<AtPath>),
     /// WITH COMPONENT, a constraint of each element.
     WithComponent(Box<Constraint>),
     /// WITH COMPONENTS. The flag tells that an ellipsis is first, so other components are allowed.
@@ -47,6 +51,15 @@ pub enum ConstraintKind {
     AllExcept(Box<Constraint>),
     /// A constraint with an extension marker, and what is allowed beside its root, if it is written.
     Extensible(Box<Constraint>, Option<Box<Constraint>>),
+}
+
+/// The path to a component that tells an object (X.682, 10.7).
+#[derive(Drop)]
+pub struct AtPath {
+    /// How many dots are behind `@`: how far outside the innermost SEQUENCE or SET the path begins, or 0 for the outermost.
+    pub dots: usize,
+    /// The names of the components.
+    pub names: Vec<Span>,
 }
 
 /// An end of a range.

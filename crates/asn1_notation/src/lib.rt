@@ -8,26 +8,30 @@
 //! |---|---|---|
 //! | [`Module`], [`Exports`], [`Import`] | a module | 13 |
 //! | [`Assignment`], [`Definition`] | a definition of a type or a value | 16 |
+//! | [`Class`], [`ClassField`], [`FieldKind`], [`FieldUsage`] | an information object class | X.681, 9 |
+//! | [`Parameter`], [`Argument`] | a parameter of a definition, and an argument | X.683, 8 and 9 |
 //! | [`Type`], [`TypeKind`], [`StringKind`] | a type | 17 |
 //! | [`ComponentItem`], [`Component`], [`Usage`] | parts of a SEQUENCE, a SET or a CHOICE | 25, 27, 29 |
 //! | [`EnumerationItem`], [`NamedNumber`] | parts of an ENUMERATED, an INTEGER or a BIT STRING | 19, 20, 22 |
 //! | [`Tag`], [`TagClass`], [`TagMode`] | a tag | 31 |
-//! | [`Constraint`], [`ConstraintKind`], [`EndPoint`], [`Member`] | a constraint | 49 to 51 |
+//! | [`Constraint`], [`ConstraintKind`], [`EndPoint`], [`Member`], [`AtPath`] | a constraint | 49 to 51 |
 //! | [`Value`], [`ValueKind`], [`ListItem`] | a value | 17 |
 //! | [`Span`], [`Number`], [`Reference`], [`NumberName`] | names and numbers | 12, 14 |
 #![tactic(auto)]
 
+mod classes;
 mod constraints;
 mod modules;
 mod names;
 mod types;
 mod values;
 
-pub use constraints::{Constraint, ConstraintKind, EndPoint, EndValue, Member, Presence};
-pub use modules::{Assignment, Definition, Exports, Import, Module, TagDefault};
+pub use classes::{Class, ClassField, FieldKind, FieldUsage};
+pub use constraints::{AtPath, Constraint, ConstraintKind, EndPoint, EndValue, Member, Presence};
+pub use modules::{Assignment, Definition, Exports, Import, Module, Parameter, TagDefault};
 pub use names::{Number, NumberName, Reference, Span};
 pub use types::{
-    Component, ComponentItem, EnumerationItem, NamedNumber, StringKind, Tag, TagClass, TagMode,
-    Type, TypeKind, Usage,
+    Argument, Component, ComponentItem, EnumerationItem, NamedNumber, StringKind, Tag, TagClass,
+    TagMode, Type, TypeKind, Usage,
 };
 pub use values::{ListItem, Value, ValueKind};

@@ -51,6 +51,24 @@ pub enum TypeKind {
     Any(Option<Span>),
     /// The name of a type.
     Reference(Reference),
+    /// The type of the alternative of this name in a CHOICE, `name < Type`.
+    Selection(Span, Box<Type>),
+    /// A field of an information object class, `CLASS.&field`, by the names that lead to it.
+    Field(Reference, Vec<Span>),
+    /// The name of a type that has parameters, with its arguments.
+    Instance(Reference, Vec<Argument>),
+}
+
+/// An argument (X.683, 9.5).
+#[cycle(types)]
+#[derive(Drop)]
+pub enum Argument {
+    /// A type, or a class, which is written as a reference to a type.
+    Type(Type),
+    /// A value.
+    Value(Value),
+    /// A set of values, an object or an object set, from brace to brace, which is not read.
+    Braced(Span),
 }
 
 /// The kinds of string, and the useful types (X.680, 41 and 45 to 48).

@@ -1,8 +1,12 @@
 //! Modules.
+use crate::classes::{print_class, print_parameters};
+use crate::numbers::print_reference;
 use crate::printer::Printer;
 use crate::types::print_type;
 use crate::values::print_value;
-use asn1_notation::{Assignment, Definition, Exports, Import, Module, Span, TagDefault, Value};
+use asn1_notation::{
+    Assignment, Definition, Exports, Import, Module, Span, TagDefault, Type, Value,
+};
 use std::alloc::AllocError;
 
 /// Appends the text of a module.
@@ -11,7 +15,7 @@ pub fn print_module(printer: &mut Printer<'_>, module: &Module) -> Result<(), Al
     print_exports(printer, &module.exports)?;
     print_imports(printer, module.imports.as_slice())?;
     for assignment in &module.assignments {
-        print_assignment(printer, assignment)?;
+        print_line(printer, assignment)?;
     }
     printer.push(b"\nEND\n")
 }
@@ -87,21 +91,49 @@ fn print_imports(printer: &mut Printer<'_>, imports: &[Import]) -> Result<(), Al
     printer.push(b";\n")
 }
 
-// Appends a definition.
-fn print_assignment(printer: &mut Printer<'_>, assignment: &Assignment) -> Result<(), AllocError> {
+// Appends a definition in a line of its own.
+fn print_line(printer: &mut Printer<'_>, assignment: &Assignment) -> Result<(), AllocError> {
     printer.push(b"\n")?;
+    print_assignment(printer, assignment)?;
+    printer.push(b"\n")
+}
+
+/// Appends a definition.
+pub fn print_assignment(
+    printer: &mut Printer<'_>,
+    assignment: &Assignment,
+) -> Result<(), AllocError> {
     printer.push_span(assignment.name)?;
+    print_parameters(printer, assignment.parameters.as_slice())?;
     printer.push(b" ")?;
-    match &assignment.definition {
-        Definition::Type(definition) => {
-            printer.push(b"::= ")?;
-            print_type(printer, definition)?;
-        }
+    print_definition(printer, &assignment.definition)
+}
+
+// Appends what is behind the name of a definition.
+fn print_definition(printer: &mut Printer<'_>, definition: &Definition) -> Result<(), AllocError> {
+    match definition {
+        Definition::Type(definition) => print_defined_type(printer, definition),
+        Definition::Template(definition) => print_defined_type(printer, definition),
         Definition::Value(definition, value) => {
             print_type(printer, definition)?;
             printer.push(b" ::= ")?;
-            print_value(printer, value)?;
+            print_value(printer, value)
         }
+        Definition::Class(class) => {
+            printer.push(b"::= ")?;
+            print_class(printer, class)
+        }
+        Definition::Object(class, span) => {
+            print_reference(printer, class)?;
+            printer.push(b" ::= ")?;
+            printer.push_span(*span)
+        }
+        Definition::Macro(span) => printer.push_span(*span),
     }
-    printer.push(b"\n")
+}
+
+// Appends the type that is defined.
+fn print_defined_type(printer: &mut Printer<'_>, definition: &Type) -> Result<(), AllocError> {
+    printer.push(b"::= ")?;
+    print_type(printer, definition)
 }

@@ -1,7 +1,7 @@
 //! Constraints that hold no other and no type.
 use crate::printer::Printer;
 use crate::values::print_value;
-use asn1_notation::{ConstraintKind, EndPoint, EndValue, Value};
+use asn1_notation::{AtPath, ConstraintKind, EndPoint, EndValue, Value};
 use std::alloc::AllocError;
 
 /// Appends a constraint that holds no other and no type.
@@ -24,8 +24,39 @@ pub(crate) fn print_plain_constraint(
             printer.push(b"ENCODED BY ")?;
             print_value(printer, rules)
         }
+        ConstraintKind::ConstrainedBy => printer.push(b"CONSTRAINED BY {}"),
+        ConstraintKind::Table(set, paths) => {
+            printer.push_span(*set)?;
+            print_paths(printer, paths.as_slice())
+        }
         _ => Ok(()),
     }
+}
+
+// Appends the paths to the components that tell an object, if there are any.
+fn print_paths(printer: &mut Printer<'_>, paths: &[AtPath]) -> Result<(), AllocError> {
+    if paths.is_empty() {
+        return Ok(());
+    }
+    printer.push(b"{")?;
+    for (index, path) in paths.iter().enumerate() {
+        printer.push_between(index, b", ")?;
+        print_path(printer, path)?;
+    }
+    printer.push(b"}")
+}
+
+// Appends the path to a component.
+fn print_path(printer: &mut Printer<'_>, path: &AtPath) -> Result<(), AllocError> {
+    printer.push(b"@")?;
+    for _ in 0..path.dots {
+        printer.push(b".")?;
+    }
+    for (index, name) in path.names.iter().enumerate() {
+        printer.push_between(index, b".")?;
+        printer.push_span(*name)?;
+    }
+    Ok(())
 }
 
 // Appends the lower end of a range.

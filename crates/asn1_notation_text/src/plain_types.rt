@@ -1,4 +1,5 @@
 //! Types that hold no other.
+use crate::classes::print_field_names;
 use crate::numbers::{print_named_number, print_reference};
 use crate::printer::Printer;
 use crate::words::type_word;
@@ -23,6 +24,11 @@ pub(crate) fn print_plain_kind(
         }
         TypeKind::Enumerated(items) => print_enumerated(printer, items.as_slice()),
         TypeKind::Any(name) => print_any(printer, name),
+        TypeKind::Field(class, names) => {
+            print_reference(printer, class)?;
+            printer.push(b".")?;
+            print_field_names(printer, names.as_slice())
+        }
         _ => Ok(()),
     }
 }

@@ -1,10 +1,12 @@
 //! Types and constraints.
+use crate::numbers::print_reference;
 use crate::parts::{presence, print_tag, print_usage, print_version};
 use crate::plain_constraints::{print_plain_constraint, print_rules};
 use crate::plain_types::print_plain_kind;
 use crate::printer::Printer;
+use crate::values::print_value;
 use asn1_notation::{
-    Component, ComponentItem, Constraint, ConstraintKind, Member, Span, Type, TypeKind,
+    Argument, Component, ComponentItem, Constraint, ConstraintKind, Member, Span, Type, TypeKind,
 };
 use std::alloc::AllocError;
 
@@ -67,7 +69,38 @@ fn print_kind(printer: &mut Printer<'_>, kind: &TypeKind) -> Result<(), AllocErr
             print_tag(printer, tag)?;
             print_type(printer, inner)
         }
+        TypeKind::Selection(name, inner) => {
+            printer.push_span(*name)?;
+            printer.push(b" < ")?;
+            print_type(printer, inner)
+        }
+        TypeKind::Instance(reference, arguments) => {
+            print_reference(printer, reference)?;
+            printer.push(b" {")?;
+            print_arguments(printer, arguments.as_slice())?;
+            printer.push(b"}")
+        }
         kind => print_plain_kind(printer, kind),
+    }
+}
+
+// Appends arguments between commas.
+#[cycle(print_types)]
+fn print_arguments(printer: &mut Printer<'_>, arguments: &[Argument]) -> Result<(), AllocError> {
+    for (index, argument) in arguments.iter().enumerate() {
+        printer.push_between(index, b", ")?;
+        print_argument(printer, argument)?;
+    }
+    Ok(())
+}
+
+// Appends an argument.
+#[cycle(print_types)]
+fn print_argument(printer: &mut Printer<'_>, argument: &Argument) -> Result<(), AllocError> {
+    match argument {
+        Argument::Type(definition) => print_type(printer, definition),
+        Argument::Value(value) => print_value(printer, value),
+        Argument::Braced(span) => printer.push_span(*span),
     }
 }
 

@@ -20,6 +20,9 @@ pub fn type_word(kind: &TypeKind) -> &'static [u8] {
         TypeKind::Tagged(_, _) => b"the tagged type",
         TypeKind::Any(_) => b"ANY",
         TypeKind::Reference(_) => b"the type",
+        TypeKind::Selection(_, _) => b"the type of an alternative",
+        TypeKind::Field(_, _) => b"the open type",
+        TypeKind::Instance(_, _) => b"the type with arguments",
     }
 }
 

@@ -2,19 +2,25 @@
 use asn1_modules::Source;
 use asn1_names::Place;
 use asn1_notation::{
-    Assignment, Component, ComponentItem, Definition, Module, Type, TypeKind, Usage, Value,
+    Argument, Assignment, Class, Component, ComponentItem, Definition, FieldKind, Module, Type,
+    TypeKind, Usage, Value,
 };
-use asn1_notation_text::{Printer, print_type, print_value};
+use asn1_notation_text::{Printer, print_assignment, print_type, print_value};
 use std::alloc::{AllocError, Global};
 
 /// The greatest number of octets of a definition in one line.
 const WIDTH: usize = 100;
 
-/// Appends octets. One that is not of ASCII becomes a question mark.
+/// Appends octets. White space becomes a space, and one that is not of ASCII a question mark.
 pub(crate) fn push_octets(text: &mut String, octets: &[u8]) -> Result<(), AllocError> {
     for octet in octets {
-        let is_shown = octet.is_ascii_graphic() || *octet == b' ';
-        text.push(if is_shown { char::from(*octet) } else { '?' })?;
+        text.push(if octet.is_ascii_graphic() {
+            char::from(*octet)
+        } else if octet.is_ascii_whitespace() {
+            ' '
+        } else {
+            '?'
+        })?;
     }
     Ok(())
 }
@@ -48,22 +54,10 @@ pub(crate) fn assignment_text(
     source: &[u8],
     assignment: &Assignment,
 ) -> Result<String, AllocError> {
-    let name = text_of(alloc, assignment.name.octets(source))?;
-    let name = name.as_str();
-    match &assignment.definition {
-        Definition::Type(definition) => {
-            let text = type_text(alloc, source, definition)?;
-            let text = text.as_str();
-            format!(in alloc; "{name} ::= {text}")
-        }
-        Definition::Value(definition, value) => {
-            let text = type_text(alloc, source, definition)?;
-            let text = text.as_str();
-            let value = value_text(alloc, source, value)?;
-            let value = value.as_str();
-            format!(in alloc; "{name} {text} ::= {value}")
-        }
-    }
+    let mut printer = Printer::new(alloc, source);
+    print_assignment(&mut printer, assignment)?;
+    let octets = printer.into_text();
+    text_of(alloc, octets.as_slice())
 }
 
 // The text of a component.
@@ -134,8 +128,28 @@ fn push_in_assignments(
     };
     match &assignment.definition {
         Definition::Type(definition) => push_found(alloc, text, source, definition, start),
-        Definition::Value(_, _) => Ok(()),
+        Definition::Template(definition) => push_found(alloc, text, source, definition, start),
+        Definition::Class(class) => push_in_class(alloc, text, source, class, start),
+        _ => Ok(()),
     }
+}
+
+// Appends the text of the component in a type of a field whose name is at an offset.
+fn push_in_class(
+    alloc: Global,
+    text: &mut String,
+    source: &[u8],
+    class: &Class,
+    start: usize,
+) -> Result<(), AllocError> {
+    if let Class::Fields(fields, _) = class {
+        for field in fields {
+            if let FieldKind::Fixed(definition) = &field.kind {
+                push_found(alloc, text, source, definition, start)?;
+            }
+        }
+    }
+    Ok(())
 }
 
 // Appends the text of the component in a type whose name is at an offset.
@@ -154,8 +168,28 @@ fn push_found(
         TypeKind::SequenceOf(_, element) => push_found(alloc, text, source, element, start),
         TypeKind::SetOf(_, element) => push_found(alloc, text, source, element, start),
         TypeKind::Tagged(_, inner) => push_found(alloc, text, source, inner, start),
+        TypeKind::Instance(_, arguments) => {
+            push_in_arguments(alloc, text, source, arguments.as_slice(), start)
+        }
         _ => Ok(()),
     }
+}
+
+// Appends the text of the component in arguments whose name is at an offset.
+#[cycle(find)]
+fn push_in_arguments(
+    alloc: Global,
+    text: &mut String,
+    source: &[u8],
+    arguments: &[Argument],
+    start: usize,
+) -> Result<(), AllocError> {
+    for argument in arguments {
+        if let Argument::Type(definition) = argument {
+            push_found(alloc, text, source, definition, start)?;
+        }
+    }
+    Ok(())
 }
 
 // Appends the text of the item whose name is at an offset.
@@ -252,14 +286,20 @@ impl Nesting {
     }
 }
 
-// Appends the lines of a definition: a new one behind its first brace, behind each comma in its braces, and at its last brace.
+// Appends the lines of a definition: a new one behind the first brace of its type, behind each comma in its braces, and at its last brace.
 fn push_parts(alloc: Global, lines: &mut Vec<String>, definition: &str) -> Result<(), AllocError> {
     let mut line = String::new(alloc);
     let mut nesting = Nesting {
         depth: 0,
         is_quoted: false,
     };
-    for character in definition.chars() {
+    let mut rest = definition;
+    if let Some((parameters, defined)) = definition.split_once("} ::= ") {
+        line.push_str(parameters)?;
+        line.push_str("} ::= ")?;
+        rest = defined;
+    }
+    for character in rest.chars() {
         if character == '}' && nesting.is_outermost() {
             lines.push(take_line(alloc, &mut line)?)?;
         }

@@ -146,8 +146,10 @@ pub(crate) struct Plan<'r, 'a> {
     pub(crate) types: Vec<PlannedType>,
     // Whether each type is behind an explicit tag, when that is known.
     explicit_tags: Vec<Option<bool>>,
-    // By the texts and the offsets at which they begin.
-    unnamed_types: HashMap<(usize, usize), UnnamedType>,
+    // By the texts and the offsets at which they begin, and the type with arguments in which they are.
+    unnamed_types: HashMap<(usize, usize, Option<usize>), UnnamedType>,
+    // The index of the type that is printed, if it is one of a template with arguments.
+    completed: Option<usize>,
     taken_names: TakenNames,
     taken_modules: TakenNames,
     pub(crate) files: Vec<PrintedFile>,
@@ -253,6 +255,7 @@ fn empty_plan<'r, 'a>(alloc: Global, request: Request<'r, 'a>) -> Plan<'r, 'a> {
         types: Vec::new(alloc),
         explicit_tags: Vec::new(alloc),
         unnamed_types: HashMap::new(alloc),
+        completed: None,
         taken_names: TakenNames::new(alloc),
         taken_modules: TakenNames::new(alloc),
         files: Vec::new(alloc),
@@ -284,29 +287,37 @@ impl Plan<'_, '_> {
     // Names the types of the schema.
     fn name_types(&mut self) -> Result<(), AllocError> {
         let schema = self.request.schema;
-        for definition in &schema.types {
-            let planned = self.planned(definition)?;
+        for (index, definition) in schema.types.iter().enumerate() {
+            let planned = self.planned(definition, index < schema.defined)?;
             self.types.push(planned)?;
             self.generics.push(None)?;
         }
         Ok(())
     }
 
-    // The names of a definition.
-    fn planned(&mut self, definition: &TypeDefinition<'_>) -> Result<PlannedType, AllocError> {
+    // The names of a type, which may be a definition.
+    fn planned(
+        &mut self,
+        definition: &TypeDefinition<'_>,
+        is_defined: bool,
+    ) -> Result<PlannedType, AllocError> {
         match extern_for(self.request.externs, definition) {
-            Some((index, found)) => Ok(PlannedType {
+            Some((index, found)) if is_defined => Ok(PlannedType {
                 name: self.text(found.rust_name)?,
                 module: self.text(found.path)?,
                 external: Some(index),
             }),
-            None => self.planned_here(definition),
+            _ => self.planned_here(definition),
         }
     }
 
     // The names of a definition whose type does not exist already.
     fn planned_here(&mut self, definition: &TypeDefinition<'_>) -> Result<PlannedType, AllocError> {
-        let camel = camel_case(self.alloc, definition.name)?;
+        let mut camel = camel_case(self.alloc, definition.name)?;
+        for argument in &definition.arguments {
+            let word = camel_case(self.alloc, argument)?;
+            camel.push_str(word.as_str())?;
+        }
         let name = self.new_name(camel.as_str())?;
         let module = if has_file(&definition.definition) {
             self.new_module(name.as_str())?
@@ -405,9 +416,20 @@ impl Plan<'_, '_> {
         self.taken_modules.take(module.as_str())
     }
 
-    /// The type without a name at a place, if its file was made: COMPONENTS OF takes a component over with its type.
+    /// Goes on with the type of this index.
+    pub(crate) fn enter(&mut self, index: usize, definition: &TypeDefinition<'_>) {
+        self.completed = if definition.is_completed {
+            Some(index)
+        } else {
+            None
+        };
+    }
+
+    /// The type without a name at a place, if its file was made: COMPONENTS OF takes a component over with its type. The same place
+    /// in a template is another type with other arguments.
     pub(crate) fn unnamed_type(&self, place: Place) -> Result<Option<TypeName>, AllocError> {
-        match self.unnamed_types.get(&(place.text, place.span.start)) {
+        let begin = (place.text, place.span.start, self.completed);
+        match self.unnamed_types.get(&begin) {
             Some(known) => {
                 let name = self.local_type(known.module.as_str(), known.name.as_str())?;
                 Ok(Some(name))
@@ -424,7 +446,7 @@ impl Plan<'_, '_> {
         module: String,
     ) -> Result<TypeName, AllocError> {
         let answer = self.local_type(module.as_str(), name.as_str())?;
-        let begin = (place.text, place.span.start);
+        let begin = (place.text, place.span.start, self.completed);
         self.unnamed_types
             .insert(begin, UnnamedType { name, module })?;
         Ok(answer)

@@ -51,6 +51,7 @@ fn add_definition(
         Some(planned) if planned.external.is_none() => {
             let name = plan.text(planned.name.as_str())?;
             let module = plan.text(planned.module.as_str())?;
+            plan.enter(index, definition);
             add_named(plan, index, definition, name, module.as_str())
         }
         _ => Ok(()),
@@ -144,9 +145,23 @@ fn definition_summary(
 ) -> Result<String, AllocError> {
     let name = text_of(alloc, definition.name)?;
     let module = text_of(alloc, definition.module)?;
+    let arguments = arguments_text(alloc, definition)?;
     let name = name.as_str();
     let module = module.as_str();
-    format!(in alloc; "`{name}` of the module `{module}`.")
+    let arguments = arguments.as_str();
+    format!(in alloc; "`{name}` of the module `{module}`{arguments}.")
+}
+
+// The names of the arguments of a type, if it has any.
+fn arguments_text(alloc: Global, definition: &TypeDefinition<'_>) -> Result<String, AllocError> {
+    let mut text = String::new(alloc);
+    for (index, argument) in definition.arguments.iter().enumerate() {
+        text.push_str(if index == 0 { ", with " } else { ", " })?;
+        text.push_str("`")?;
+        text.push_str(text_of(alloc, argument)?.as_str())?;
+        text.push_str("`")?;
+    }
+    Ok(text)
 }
 
 // Adds the file of a definition.

@@ -67,6 +67,10 @@ fn listed_types(plan: &Plan<'_, '_>) -> Result<Vec<ListedType>, AllocError> {
         if planned.external.is_none() {
             let mut name = String::new(plan.alloc);
             push_octets(&mut name, definition.name)?;
+            for argument in &definition.arguments {
+                name.push_str("-")?;
+                push_octets(&mut name, argument)?;
+            }
             types.push(ListedType {
                 name: names.take(name.as_str())?,
                 rust_name: plan.text(planned.name.as_str())?,

@@ -6,13 +6,15 @@ use asn1_names::Place;
 /// The definitions of a set of modules, in the order of the texts.
 #[derive(Drop)]
 pub struct Schema<'a> {
-    /// The definitions of types.
+    /// The definitions of types, then the types that arguments complete.
     pub types: Vec<TypeDefinition<'a>>,
+    /// How many of these modules define.
+    pub defined: usize,
     /// The definitions of values.
     pub values: Vec<ValueDefinition<'a>>,
 }
 
-/// A definition of a type.
+/// A definition of a type, or a type that arguments complete (X.683, 9.1). Such a one has the name and the place of its template.
 #[derive(Drop)]
 pub struct TypeDefinition<'a> {
     /// The name of the module.
@@ -25,6 +27,10 @@ pub struct TypeDefinition<'a> {
     pub origin: Origin,
     /// The type.
     pub definition: Type<'a>,
+    /// Whether the type is that of a template with arguments.
+    pub is_completed: bool,
+    /// The names of the arguments, if it is no definition.
+    pub arguments: Vec<Vec<u8>>,
 }
 
 /// A definition of a value.

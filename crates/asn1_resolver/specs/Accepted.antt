@@ -1,5 +1,5 @@
 -- Schemas that are accepted.
-use Rattle.std.specs.Prelude.{◌++◌, Bool, true, false, List, map}
+use Rattle.std.specs.Prelude.{◌++◌, Bool, true, false, List, map, take}
 use Rattle.std.specs.List.{AllPairs, list_all}
 use Rattle.asn1_names.specs.Distinct.{IsDistinct}
 use Rattle.asn1_names.specs.declared.names.DefinedName.{DefinedName}
@@ -26,9 +26,9 @@ name_of_type definition = record { «module» = definition.module; name = defini
 abbrev pub name_of_value : ValueDefinition → DefinedName
 name_of_value definition = record { «module» = definition.module; name = definition.name; place = definition.place }
 
--- the names of the definitions, those of types first
+-- the names of the definitions, those of types first; a type that arguments complete has no name of its own
 abbrev pub defined_names : Schema → List DefinedName
-defined_names schema = map name_of_type schema.types.items ++ map name_of_value schema.values.items
+defined_names schema = map name_of_type (take schema.defined schema.types.items) ++ map name_of_value schema.values.items
 
 -- No module has a name twice (X.680, 13.15).
 abbrev pub HasDistinctNames : Schema → Type 0

@@ -6,13 +6,13 @@ use Rattle.asn1_modules.specs.declared.source.Source.{Source}
 use Rattle.asn1_names.specs.declared.names.Place.{Place}
 use Rattle.asn1_notation.specs.declared.modules.Assignment.{Assignment}
 use Rattle.asn1_notation.specs.declared.modules.Definition.{Definition}
-use Rattle.asn1_notation.specs.declared.modules.Definition.TheVariants.{«Type» as of_type, Value as of_value}
+use Rattle.asn1_notation.specs.declared.modules.Definition.TheVariants.{«Type» as of_type}
 use Rattle.asn1_notation.specs.declared.modules.Module.{Module}
 
--- the place of a definition of a type; that of a value is left out
+-- the place of a definition of a type; that of a value, a type that arguments complete, a class, an object or a macro is left out
 abbrev pub place_if_type : Definition → Place → List Place
 place_if_type (of_type definition) place = place ∷ []
-place_if_type (of_value definition value) place = []
+place_if_type definition place = []
 
 -- the name of a definition, if it is of a type
 abbrev pub type_defined_by : ℕ → Assignment → List Place

@@ -1,5 +1,5 @@
 //! Schemas that are accepted.
-ghost use Rattle.std.specs.Prelude.{◌≡◌, IfOk, IsTrue, OnOk, false};
+ghost use Rattle.std.specs.Prelude.{◌≡◌, IfOk, IsTrue, OnOk, false, map, take};
 ghost use Rattle.asn1_resolver.specs.Accepted.{HasDistinctNames, defined_names, name_of_type, name_of_value};
 ghost use Rattle.asn1_resolver.specs.Indices.{HasKnownReferences};
 ghost use Rattle.asn1_resolver.specs.References.{AreResolved};
@@ -87,16 +87,36 @@ fn refuse(
     Ok(())
 }
 
+// The types that modules define.
+#[tactic(auto, using(std::proofs::lemmas::List::take_min))]
+fn defined_types<'s, 'a>(schema: &'s Schema<'a>) -> &'s [TypeDefinition<'a>]
+    ensures { result.now ≡ take schema.now.defined schema.now.types.items }
+{
+    let types = schema.types.as_slice();
+    &types[..schema.defined.min(types.len())]
+}
+
 // The names of the definitions, those of types first.
 fn list_names<'a>(alloc: Global, schema: &Schema<'a>) -> Result<Vec<DefinedName<'a>>, AllocError>
     ensures { IfOk result (λ names. names.items ≡ defined_names schema.now) }
 {
-    let mut names = Vec::new(alloc);
-    for definition in &schema.types {
-        names.push(type_name(definition))?;
-    }
+    let mut names = type_names(alloc, defined_types(schema))?;
     for definition in &schema.values {
         names.push(value_name(definition))?;
+    }
+    Ok(names)
+}
+
+// The names of the definitions of types.
+fn type_names<'a>(
+    alloc: Global,
+    types: &[TypeDefinition<'a>],
+) -> Result<Vec<DefinedName<'a>>, AllocError>
+    ensures { IfOk result (λ names. names.items ≡ map name_of_type types.now) }
+{
+    let mut names = Vec::new(alloc);
+    for definition in types {
+        names.push(type_name(definition))?;
     }
     Ok(names)
 }

@@ -46,6 +46,9 @@ impl<'a> Resolver<'_, 'a> {
             asn1_notation::ConstraintKind::Extensible(root, _) => {
                 self.add_constraint(constraints, bounded.with_marker(), root)
             }
+            asn1_notation::ConstraintKind::Table(set, _) => {
+                self.warn_of_set(bounded.of.scope, *set)
+            }
             _ => {
                 let resolved = self.constraint(bounded, constraint)?;
                 constraints.push(resolved)?;

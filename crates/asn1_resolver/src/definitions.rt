@@ -5,9 +5,9 @@ ghost use Rattle.asn1_modules.specs.Places.{place_in};
 ghost use Rattle.asn1_resolver.specs.TypePlaces.{type_places, type_defined_by, types_defined_in};
 
 use crate::governed::{Governed, Scope};
-use asn1_modules::Source;
+use asn1_modules::{ClassIndex, Source};
 use asn1_names::Place;
-use asn1_notation::{Assignment, Definition, Type, Value};
+use asn1_notation::{Assignment, Definition, Parameter, Type, TypeKind, Value};
 use asn1_resolved::Origin;
 use std::alloc::{AllocError, Global};
 
@@ -24,6 +24,8 @@ pub(crate) struct Defined<'a> {
     pub(crate) origin: Origin,
     /// The type, or the type of the value.
     pub(crate) definition: &'a Type,
+    /// The parameters.
+    pub(crate) parameters: &'a [Parameter],
 }
 
 impl<'a> Defined<'a> {
@@ -45,6 +47,27 @@ pub(crate) struct Definitions<'a> {
     pub(crate) values: Vec<Defined<'a>>,
     /// The values, in the order of their definitions.
     pub(crate) contents: Vec<&'a Value>,
+    /// The definitions of types that arguments complete.
+    pub(crate) templates: Vec<Defined<'a>>,
+    /// The information object classes, and the names that are not read.
+    pub(crate) classes: ClassIndex<'a>,
+}
+
+impl<'a> Definitions<'a> {
+    // Whether a type is the name of a class, so that a value of it is an object.
+    fn is_class(&self, scope: Scope<'a>, governor: &Type) -> bool {
+        match &governor.kind {
+            TypeKind::Reference(reference) => {
+                let qualifier = match reference.module {
+                    Some(module) => Some(scope.octets(module)),
+                    None => None,
+                };
+                let name = scope.octets(reference.name);
+                self.classes.find(scope.name, qualifier, name).is_some()
+            }
+            _ => false,
+        }
+    }
 }
 
 /// Lists the definitions of the modules of some texts.
@@ -59,6 +82,8 @@ pub(crate) fn list_definitions<'a>(
         types: Vec::new(alloc),
         values: Vec::new(alloc),
         contents: Vec::new(alloc),
+        templates: Vec::new(alloc),
+        classes: ClassIndex::of(alloc, sources)?,
     };
     for (index, source) in sources.iter().enumerate() {
         list_source(&mut definitions, *source, index)?;
@@ -82,6 +107,7 @@ fn list_source<'a>(
             source: index,
             name: module.name.octets(source.text),
             module,
+            instance: None,
         };
         list_module(definitions, scope, module_index)?;
     }
@@ -126,10 +152,17 @@ fn list_assignment<'a>(
             definitions.types.push(defined)?;
         }
         Definition::Value(definition, value) => {
-            let defined = define(scope, assignment, origin, definition);
-            definitions.values.push(defined)?;
-            definitions.contents.push(value)?;
+            if !definitions.is_class(scope, definition) {
+                let defined = define(scope, assignment, origin, definition);
+                definitions.values.push(defined)?;
+                definitions.contents.push(value)?;
+            }
         }
+        Definition::Template(definition) => {
+            let defined = define(scope, assignment, origin, definition);
+            definitions.templates.push(defined)?;
+        }
+        _ => {}
     }
     Ok(())
 }
@@ -137,7 +170,7 @@ fn list_assignment<'a>(
 // A definition with this type.
 fn define<'a>(
     scope: Scope<'a>,
-    assignment: &Assignment,
+    assignment: &'a Assignment,
     origin: Origin,
     definition: &'a Type,
 ) -> Defined<'a>
@@ -149,5 +182,6 @@ fn define<'a>(
         place: scope.place(assignment.name),
         origin,
         definition,
+        parameters: assignment.parameters.as_slice(),
     }
 }

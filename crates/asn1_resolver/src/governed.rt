@@ -16,9 +16,19 @@ pub(crate) struct Scope<'a> {
     pub(crate) name: &'a [u8],
     /// The module.
     pub(crate) module: &'a Module,
+    /// The index of the instance that gives the parameters of a template their arguments.
+    pub(crate) instance: Option<usize>,
 }
 
 impl<'a> Scope<'a> {
+    /// The same module, with the arguments of the instance of this index.
+    pub(crate) fn within(self, instance: usize) -> Scope<'a> {
+        Scope {
+            instance: Some(instance),
+            ..self
+        }
+    }
+
     /// The octets of a name.
     pub(crate) fn octets(self, span: Span) -> &'a [u8] {
         span.octets(self.text)

@@ -1,9 +1,9 @@
 //! Values that hold no others.
 use crate::bits::{binary_bits, characters, hex_bits, octets_of_bits};
 use crate::fault::Fault;
-use crate::governed::{Governed, Written};
+use crate::governed::{Governed, Scope, Written};
 use crate::resolver::Resolver;
-use asn1_notation::{TypeKind, ValueKind};
+use asn1_notation::{ListItem, TypeKind, ValueKind};
 use asn1_resolved::Value;
 
 impl<'a> Resolver<'_, 'a> {
@@ -57,6 +57,55 @@ impl<'a> Resolver<'_, 'a> {
                 _ => Err(self.refuse_kind(base, written)),
             },
             _ => Err(self.refuse_kind(base, written)),
+        }
+    }
+
+    /// The code of a character that is written by numbers: a column and a row of the table of ASCII, or the group, plane, row and
+    /// cell of Unicode (X.680, 41.8).
+    pub(crate) fn code_of(
+        &mut self,
+        scope: Scope<'a>,
+        values: &'a [ListItem],
+    ) -> Result<Option<i128>, Fault> {
+        let (size, most) = match values.len() {
+            2 => (16, 15),
+            4 => (256, 255),
+            _ => return Ok(None),
+        };
+        let mut code = 0i128;
+        for item in values {
+            let number = match item.values.as_slice() {
+                [value] => match &value.kind {
+                    ValueKind::Number(number) => self.number(scope, number)?,
+                    _ => return Ok(None),
+                },
+                _ => return Ok(None),
+            };
+            if number < 0 || most < number {
+                return Ok(Some(-1));
+            }
+            code = code.saturating_mul(size).saturating_add(number);
+        }
+        Ok(Some(code))
+    }
+
+    /// The string of the character with a code.
+    pub(crate) fn character_value(
+        &mut self,
+        written: Written<'a>,
+        code: i128,
+    ) -> Result<Value<'a>, Fault> {
+        let character = match u32::try_from(code) {
+            Ok(code) => char::from_u32(code),
+            Err(_) => None,
+        };
+        match character {
+            Some(character) => {
+                let mut text = String::new(self.alloc);
+                text.push(character)?;
+                Ok(Value::Text(text.into_bytes()))
+            }
+            None => Err(self.refuse(written.place(), &[b"no character has these numbers"])),
         }
     }
 

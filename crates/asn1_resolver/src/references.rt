@@ -21,16 +21,34 @@ impl<'a> Resolver<'_, 'a> {
         scope: Scope<'a>,
         reference: &Reference,
     ) -> Result<usize, Fault> {
-        let used = used_name(scope, reference);
-        match find(
-            &self.type_finder,
-            self.definitions.types.as_slice(),
-            self.names.imported.as_slice(),
-            &used,
-        ) {
+        match self.index_of_type(scope, reference) {
             Some(index) => Ok(index),
             None => Err(self.refuse_undefined(scope, reference)),
         }
+    }
+
+    /// The index of the type of this name, if there is one.
+    pub(crate) fn index_of_type(&self, scope: Scope<'a>, reference: &Reference) -> Option<usize> {
+        find(
+            &self.type_finder,
+            self.definitions.types.as_slice(),
+            self.names.imported.as_slice(),
+            &used_name(scope, reference),
+        )
+    }
+
+    /// The index of the type of this name that arguments complete.
+    pub(crate) fn index_of_template(
+        &self,
+        scope: Scope<'a>,
+        reference: &Reference,
+    ) -> Option<usize> {
+        find(
+            &self.template_finder,
+            self.definitions.templates.as_slice(),
+            self.names.imported.as_slice(),
+            &used_name(scope, reference),
+        )
     }
 
     /// The type of this name.
@@ -62,14 +80,29 @@ impl<'a> Resolver<'_, 'a> {
         scope: Scope<'a>,
         reference: &Reference,
     ) -> Result<(Governed<'a>, Written<'a>), Fault> {
+        if let Some(governor) = self.governor_of(scope, reference) {
+            return match self.argument_value(scope, reference) {
+                Some(written) => Ok((governor, written)),
+                None => Err(self.refuse_undefined(scope, reference)),
+            };
+        }
         match self.index_of_value(scope, reference) {
             Some(index) => self.value_at(scope, reference, index),
             None => Err(self.refuse_undefined(scope, reference)),
         }
     }
 
-    // The index of the value of this name.
-    fn index_of_value(&self, scope: Scope<'a>, reference: &Reference) -> Option<usize> {
+    // The type of a parameter that is a value.
+    fn governor_of(&self, scope: Scope<'a>, reference: &Reference) -> Option<Governed<'a>> {
+        let bound = self.instances.argument(scope, reference)?;
+        match &bound.parameter.governor {
+            Some(definition) => Some(Governed { scope, definition }),
+            None => None,
+        }
+    }
+
+    /// The index of the value of this name.
+    pub(crate) fn index_of_value(&self, scope: Scope<'a>, reference: &Reference) -> Option<usize> {
         find(
             &self.value_finder,
             self.definitions.values.as_slice(),
@@ -104,6 +137,9 @@ impl<'a> Resolver<'_, 'a> {
         scope: Scope<'a>,
         reference: &Reference,
     ) -> Result<(Governed<'a>, Written<'a>), Fault> {
+        if self.governor_of(scope, reference).is_some() {
+            return self.find_value(scope, reference);
+        }
         match (&base.definition.kind, self.index_of_value(scope, reference)) {
             (TypeKind::Enumerated(_), None) => Err(self.refuse(
                 scope.place(reference.name),
@@ -117,16 +153,66 @@ impl<'a> Resolver<'_, 'a> {
         }
     }
 
-    // Refuses a name that is not defined.
-    fn refuse_undefined(&mut self, scope: Scope<'a>, reference: &Reference) -> Fault {
+    /// Refuses a name that is not defined, or is that of a definition of another kind.
+    pub(crate) fn refuse_undefined(&mut self, scope: Scope<'a>, reference: &Reference) -> Fault {
         let place = scope.place(reference.name);
         if self.is_reported(place, Severity::Error) {
             return Fault::Refused;
+        }
+        if let Some(other) = self.other_kind(scope, reference) {
+            return self.refuse_other(scope, reference, other);
+        }
+        if let Some(index) = self.index_of_template(scope, reference) {
+            return self.refuse_bare(scope, reference, index);
         }
         let used = NameProblem::Undefined(used_name(scope, reference));
         match self.name_text(&used) {
             Ok(text) => self.refuse(place, &[text.as_slice()]),
             Err(_) => Fault::Memory,
+        }
+    }
+
+    // The kind of a name that is neither that of a type nor of a value.
+    fn other_kind(&self, scope: Scope<'a>, reference: &Reference) -> Option<&'static str> {
+        let used = used_name(scope, reference);
+        if self.class_of_name(scope, reference).is_some() {
+            Some("is an information object class")
+        } else if self
+            .definitions
+            .classes
+            .is_skipped(used.module, used.qualifier, used.name)
+        {
+            Some("is an object, an object set or a macro, or is defined by one, and not read")
+        } else {
+            None
+        }
+    }
+
+    // Refuses a name that is that of another kind of definition.
+    fn refuse_other(
+        &mut self,
+        scope: Scope<'a>,
+        reference: &Reference,
+        other: &'static str,
+    ) -> Fault {
+        match format!(in self.alloc; "' {other}") {
+            Ok(text) => self.refuse(
+                scope.place(reference.name),
+                &[b"'", scope.octets(reference.name), text.as_bytes()],
+            ),
+            Err(_) => Fault::Memory,
+        }
+    }
+
+    // Refuses the name of a template without arguments.
+    fn refuse_bare(&mut self, scope: Scope<'a>, reference: &Reference, index: usize) -> Fault {
+        let parameters = match self.definitions.templates.get(index) {
+            Some(template) => template.parameters.len(),
+            None => 0,
+        };
+        match self.require_count(scope, reference, parameters, 0) {
+            Ok(()) => Fault::Refused,
+            Err(fault) => fault,
         }
     }
 

@@ -1,5 +1,5 @@
 //! All modules of a run.
-ghost use Rattle.std.specs.Prelude.{◌≡◌, IfOk, IsTrue, map};
+ghost use Rattle.std.specs.Prelude.{◌≡◌, IfOk, IsTrue, map, take};
 ghost use Rattle.asn1_modules.specs.Places.{defined_places, imported_places};
 ghost use Rattle.asn1_resolver.specs.Accepted.{HasDistinctNames};
 ghost use Rattle.asn1_resolver.specs.Accepted as spec;
@@ -10,7 +10,8 @@ ghost use Rattle.asn1_resolver.specs.TypePlaces.{type_places};
 use crate::accepted::{accepts, require_names};
 use crate::definitions::{Defined, Definitions, list_definitions};
 use crate::fault::Fault;
-use crate::governed::Written;
+use crate::governed::{Governed, Written};
+use crate::instances::MAX_INSTANCES;
 use crate::resolver::Resolver;
 use crate::values::MAX_DEPTH;
 use asn1_modules::{Source, collect_names};
@@ -60,18 +61,22 @@ pub fn resolve<'a>(alloc: Global, sources: &[Source<'a>]) -> Result<Resolution<'
         map (λ name. name.place) resolution.names.defined.items ≡ defined_places sources.now) }
     ensures imported { IfOk result (λ resolution.
         map (λ name. name.place) resolution.names.imported.items ≡ imported_places sources.now) }
-    // The schema has each type that a module defines, in the order of the texts.
+    // The schema has each type that a module defines, in the order of the texts. Those that arguments
+    // complete follow.
     ensures types { IfOk result (λ resolution.
-        map (λ type. type.place) resolution.schema.types.items ≡ type_places sources.now) }
+        map (λ type. type.place) (take resolution.schema.defined resolution.schema.types.items)
+        ≡ type_places sources.now) }
 {
     let definitions = list_definitions(alloc, sources)?;
     let names = collect_names(alloc, sources)?;
     let mut resolver = Resolver::new(alloc, &definitions, &names)?;
     resolver.report_modules(sources)?;
+    resolver.find_homes()?;
     let schema = resolve_schema(&mut resolver, &definitions)?;
     resolver.report_ambiguous()?;
     resolver.report_names()?;
     resolver.report_exports(sources)?;
+    resolver.report_skipped(sources)?;
     let mut problems = resolver.into_problems()?;
     require_names(alloc, &mut problems, &schema, &names)?;
     Ok(Resolution {
@@ -81,25 +86,66 @@ pub fn resolve<'a>(alloc: Global, sources: &[Source<'a>]) -> Result<Resolution<'
     })
 }
 
-// The types and the values.
+// The types and the values. Those that complete a template are known once all others are resolved.
 fn resolve_schema<'a>(
     resolver: &mut Resolver<'_, 'a>,
     definitions: &Definitions<'a>,
 ) -> Result<Schema<'a>, AllocError>
-    ensures { IfOk result (λ schema. map (λ type. type.place) schema.types.items ≡
+    ensures { IfOk result (λ schema.
+        map (λ type. type.place) (take schema.defined schema.types.items) ≡
+        map (λ defined. defined.place) definitions.now.types.items) }
+{
+    let types = resolve_types(resolver, definitions)?;
+    let values = resolve_values(resolver, definitions)?;
+    let completed = resolver.completed_types()?;
+    join_schema(types, completed, values)
+}
+
+// The schema of the types that modules define, those that arguments complete, and the values.
+#[tactic(auto, using(std::proofs::lemmas::List::take_at))]
+fn join_schema<'a>(
+    mut types: Vec<TypeDefinition<'a>>,
+    mut completed: Vec<TypeDefinition<'a>>,
+    values: Vec<ValueDefinition<'a>>,
+) -> Result<Schema<'a>, AllocError>
+    ensures { IfOk result (λ schema. take schema.defined schema.types.items ≡ types.entry.items) }
+{
+    let defined = types.len();
+    types.append(&mut completed)?;
+    Ok(Schema {
+        types,
+        defined,
+        values,
+    })
+}
+
+// The types that modules define.
+fn resolve_types<'a>(
+    resolver: &mut Resolver<'_, 'a>,
+    definitions: &Definitions<'a>,
+) -> Result<Vec<TypeDefinition<'a>>, AllocError>
+    ensures { IfOk result (λ types. map (λ type. type.place) types.items ≡
         map (λ defined. defined.place) definitions.now.types.items) }
 {
     let mut types = Vec::new(resolver.alloc);
-    for defined in &definitions.types {
-        let definition = resolver.type_definition(*defined)?;
+    for (index, defined) in definitions.types.iter().enumerate() {
+        let definition = resolver.type_definition(*defined, resolver.body_of(index))?;
         types.push(definition)?;
     }
+    Ok(types)
+}
+
+// The values.
+fn resolve_values<'a>(
+    resolver: &mut Resolver<'_, 'a>,
+    definitions: &Definitions<'a>,
+) -> Result<Vec<ValueDefinition<'a>>, AllocError> {
     let mut values = Vec::new(resolver.alloc);
     for (named, value) in definitions.values.iter().zip(&definitions.contents) {
         let definition = resolver.value_definition(*named, value)?;
         values.push(definition)?;
     }
-    Ok(Schema { types, values })
+    Ok(values)
 }
 
 impl<'a> Resolver<'_, 'a> {
@@ -143,13 +189,18 @@ impl<'a> Resolver<'_, 'a> {
         Ok(())
     }
 
-    // The definition of a type. One that is in error is NULL.
-    fn type_definition(&mut self, defined: Defined<'a>) -> Result<TypeDefinition<'a>, AllocError>
+    // The definition of a type, which may be that of a template with arguments. One that is in error is NULL.
+    fn type_definition(
+        &mut self,
+        defined: Defined<'a>,
+        body: Option<Governed<'a>>,
+    ) -> Result<TypeDefinition<'a>, AllocError>
         ensures { IfOk result (λ type. type.place ≡ defined.entry.place) }
     {
-        let definition = match self.checked_type(defined) {
+        let governed = body.unwrap_or(defined.governed());
+        let definition = match self.checked_type(governed) {
             Ok(definition) => definition,
-            Err(Fault::Refused) => self.no_type(defined.governed().place()),
+            Err(Fault::Refused) => self.no_type(governed.place()),
             Err(Fault::Memory) => return Err(AllocError),
         };
         Ok(TypeDefinition {
@@ -158,13 +209,88 @@ impl<'a> Resolver<'_, 'a> {
             place: defined.place,
             origin: defined.origin,
             definition,
+            is_completed: body.is_some(),
+            arguments: Vec::new(self.alloc),
         })
     }
 
     // A type that does not stand for itself alone.
-    fn checked_type(&mut self, defined: Defined<'a>) -> Result<Type<'a>, Fault> {
-        self.base(defined.governed())?;
-        self.resolve_type(defined.governed(), MAX_DEPTH)
+    fn checked_type(&mut self, governed: Governed<'a>) -> Result<Type<'a>, Fault> {
+        self.base(governed)?;
+        self.resolve_type(governed, MAX_DEPTH)
+    }
+
+    // The type of the template that the definition of this index completes.
+    fn body_of(&self, index: usize) -> Option<Governed<'a>> {
+        let instance = self.instances.of_definition(index)?;
+        self.instances.body(instance)
+    }
+
+    // Finds the definitions that are a name with arguments. The first that is a type gives it its name.
+    fn find_homes(&mut self) -> Result<(), AllocError> {
+        let definitions = self.definitions;
+        for (index, defined) in definitions.types.iter().enumerate() {
+            if let asn1_notation::TypeKind::Instance(reference, arguments) = &defined
+                .definition
+                .kind
+            {
+                let home = if defined.definition.constraints.is_empty() {
+                    Some(index)
+                } else {
+                    None
+                };
+                let arguments = arguments.as_slice();
+                let found = self.meant(defined.scope, reference, arguments, home, MAX_DEPTH);
+                if matches!(found, Err(Fault::Memory)) {
+                    return Err(AllocError);
+                }
+            }
+        }
+        Ok(())
+    }
+
+    // The types that arguments complete and no definition names, and a warning of each template that is not used.
+    fn completed_types(&mut self) -> Result<Vec<TypeDefinition<'a>>, AllocError> {
+        let mut completed = Vec::new(self.alloc);
+        let mut used = HashSet::new(self.alloc);
+        for index in 0..MAX_INSTANCES {
+            let Some(instance) = self.instances.get(index) else {
+                break;
+            };
+            used.insert((
+                instance.template.place.text,
+                instance.template.place.span.start,
+            ))?;
+            if instance.home.is_none() {
+                let body = self.instances.body(index);
+                let mut definition = self.type_definition(instance.template, body)?;
+                definition.arguments = self.words_of(instance)?;
+                completed.push(definition)?;
+            }
+        }
+        if !self.has_errors() {
+            self.report_unused(&used)?;
+        }
+        Ok(completed)
+    }
+
+    // Warns of each template that is at none of these places.
+    fn report_unused(&mut self, used: &HashSet<(usize, usize)>) -> Result<(), AllocError> {
+        let definitions = self.definitions;
+        for template in &definitions.templates {
+            if !used.contains(&(template.place.text, template.place.span.start)) {
+                self.report(
+                    template.place,
+                    Severity::Warning,
+                    &[
+                        b"no definition uses '",
+                        template.name,
+                        b"', so it is not printed",
+                    ],
+                )?;
+            }
+        }
+        Ok(())
     }
 
     // The type that stands for one that is in error.
@@ -188,7 +314,8 @@ impl<'a> Resolver<'_, 'a> {
             place,
             origin,
             definition,
-        } = self.type_definition(defined)?;
+            ..
+        } = self.type_definition(defined, None)?;
         let scope = defined.scope;
         let value = match self.value(defined.governed(), Written { scope, value }) {
             Ok(value) => value,

@@ -3,6 +3,7 @@ use crate::base::Base;
 use crate::definitions::Definitions;
 use crate::fault::Fault;
 use crate::finder::Finder;
+use crate::instances::Instances;
 use asn1_modules::NameMessages;
 use asn1_names::{Names, Place};
 use asn1_resolved::{Problem, Severity};
@@ -22,6 +23,12 @@ pub(crate) struct Resolver<'r, 'a> {
     pub(crate) type_finder: Finder<'a>,
     /// The finder of values.
     pub(crate) value_finder: Finder<'a>,
+    /// The finder of types that arguments complete.
+    pub(crate) template_finder: Finder<'a>,
+    /// The types that arguments complete, as far as they were met.
+    pub(crate) instances: Instances<'a>,
+    /// The object sets of which a warning tells that they are not in Rust, with their modules.
+    pub(crate) known_sets: HashSet<(&'a [u8], &'a [u8])>,
     /// The type behind the references and tags of each definition of a type, as far as they were followed.
     pub(crate) bases: Vec<Base<'a>>,
     /// The messages about names.
@@ -52,6 +59,9 @@ impl<'r, 'a> Resolver<'r, 'a> {
             names,
             type_finder: Finder::of(alloc, &definitions.types, &names.imported)?,
             value_finder: Finder::of(alloc, &definitions.values, &names.imported)?,
+            template_finder: Finder::of(alloc, &definitions.templates, &names.imported)?,
+            instances: Instances::new(alloc, definitions.types.len()),
+            known_sets: HashSet::new(alloc),
             bases,
             messages: NameMessages::new(alloc, names)?,
             values_read: 0,
@@ -68,6 +78,11 @@ impl<'r, 'a> Resolver<'r, 'a> {
             Severity::Error => self.errors.contains(&begin),
             Severity::Warning => self.warnings.contains(&begin),
         }
+    }
+
+    /// Whether there is an error.
+    pub(crate) fn has_errors(&self) -> bool {
+        !self.errors.is_empty()
     }
 
     // Keeps that there is a problem of this severity at the place, and answers whether it is the first.

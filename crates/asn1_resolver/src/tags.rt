@@ -3,7 +3,7 @@ use crate::fault::Fault;
 use crate::governed::Governed;
 use crate::resolver::Resolver;
 use asn1_notation::{TagClass, TagDefault, TagMode};
-use asn1_resolved::Tag;
+use asn1_resolved::{Severity, Tag};
 
 impl<'a> Resolver<'_, 'a> {
     /// A tag that is written before a type (X.680, 31.2.7).
@@ -31,13 +31,32 @@ impl<'a> Resolver<'_, 'a> {
                 }
                 false
             }
-            None => has_no_tag || inner.scope.module.tagging == TagDefault::Explicit,
+            None => {
+                has_no_tag
+                    || inner.scope.module.tagging == TagDefault::Explicit
+                    || self.is_explicit_before(inner)?
+            }
         };
         Ok(Tag {
             class: tag.class,
             number,
             is_explicit,
         })
+    }
+
+    // Whether a tag is EXPLICIT since a parameter is behind it (X.680, 31.2.7 c), whatever its argument is.
+    fn is_explicit_before(&mut self, inner: Governed<'a>) -> Result<bool, Fault> {
+        let is_parameter = self.is_parameter(inner);
+        if is_parameter {
+            self.report(
+                inner.place(),
+                Severity::Warning,
+                &[
+                    b"the tag before a parameter is EXPLICIT (X.680, 31.2.7), also where other compilers put it on as IMPLICIT",
+                ],
+            )?;
+        }
+        Ok(is_parameter)
     }
 
     // The number of a tag.
@@ -54,7 +73,8 @@ impl<'a> Resolver<'_, 'a> {
 
     /// The tag that is put on a component or an alternative (X.680, 25.9 and 29.4).
     pub(crate) fn automatic_tag(&mut self, number: u32, inner: Governed<'a>) -> Result<Tag, Fault> {
-        let is_explicit = self.has_no_tag(inner)?;
+        let has_no_tag = self.has_no_tag(inner)?;
+        let is_explicit = has_no_tag || self.is_explicit_before(inner)?;
         Ok(Tag {
             class: TagClass::Context,
             number,

@@ -1,9 +1,11 @@
 //! Types.
 use crate::component_list::{ComponentList, Construct, Extent, Listed};
 use crate::fault::Fault;
+use crate::fields::FieldType;
 use crate::governed::{Governed, Scope};
 use crate::resolver::Resolver;
-use asn1_notation::ComponentItem;
+use crate::values::MAX_DEPTH;
+use asn1_notation::{ComponentItem, Span};
 use asn1_resolved::{
     Addition, Alternative, Alternatives, Component, Components, Type, TypeKind, Usage,
 };
@@ -20,8 +22,18 @@ impl<'a> Resolver<'_, 'a> {
         let Some(depth) = depth.checked_sub(1) else {
             return Err(self.refuse(governed.place(), &[b"types are nested too deep"]));
         };
-        let kind = self.resolve_kind(governed, depth)?;
-        let constraints = self.constraints(governed)?;
+        let mut constraints = self.constraints(governed)?;
+        if let Some(inner) = self.stand_in(governed)? {
+            let mut resolved = self.resolve_type(inner, depth)?;
+            resolved.constraints.append(&mut constraints)?;
+            return Ok(resolved);
+        }
+        let kind = match &governed.definition.kind {
+            asn1_notation::TypeKind::Selection(name, inner) => {
+                self.resolve_selection(governed.scope, *name, inner, depth)?
+            }
+            _ => self.resolve_kind(governed, depth)?,
+        };
         Ok(Type {
             place: governed.place(),
             kind,
@@ -81,6 +93,21 @@ impl<'a> Resolver<'_, 'a> {
             }
             kind => self.plain_kind(scope, kind),
         }
+    }
+
+    // The type of an alternative, with its automatic tag.
+    #[cycle(types)]
+    fn resolve_selection(
+        &mut self,
+        scope: Scope<'a>,
+        name: Span,
+        definition: &'a asn1_notation::Type,
+        depth: usize,
+    ) -> Result<TypeKind<'a>, Fault> {
+        let choice = self.base(Governed { scope, definition })?;
+        let listed = self.find_alternative(choice, scope, name)?;
+        let resolved = self.resolve_component_type(listed, depth)?;
+        Ok(resolved.kind)
     }
 
     // A type inside another.
@@ -214,6 +241,17 @@ impl<'a> Resolver<'_, 'a> {
                 Ok(TypeKind::Enumerated(enumeration))
             }
             asn1_notation::TypeKind::Any(_) => Ok(TypeKind::Any),
+            asn1_notation::TypeKind::Field(class, names) => {
+                match self.field_type(scope, class, names.as_slice())? {
+                    FieldType::ObjectIdentifier => Ok(TypeKind::ObjectIdentifier),
+                    _ => Ok(TypeKind::Any),
+                }
+            }
+            asn1_notation::TypeKind::Instance(reference, arguments) => {
+                let arguments = arguments.as_slice();
+                let index = self.completed_type(scope, reference, arguments, MAX_DEPTH)?;
+                Ok(TypeKind::Reference(index))
+            }
             asn1_notation::TypeKind::Reference(reference) => {
                 let index = self.find_type(scope, reference)?;
                 Ok(TypeKind::Reference(index))

@@ -110,8 +110,32 @@ impl<'a> Resolver<'_, 'a> {
             TypeKind::BitString(bits) => {
                 self.bits_value(base.scope, bits.as_slice(), written, values)
             }
+            TypeKind::String(_) => self.characters_value(base, written, values, depth),
             _ => Err(self.refuse_kind(base, written)),
         }
+    }
+
+    // A string in braces: a character by its numbers, or strings and characters one after another (X.680, 41.8).
+    #[cycle(values)]
+    fn characters_value(
+        &mut self,
+        base: Governed<'a>,
+        written: Written<'a>,
+        values: &'a [ListItem],
+        depth: usize,
+    ) -> Result<Value<'a>, Fault> {
+        if let Some(code) = self.code_of(written.scope, values)? {
+            return self.character_value(written, code);
+        }
+        let mut text = Vec::new(self.alloc);
+        for item in values {
+            let part = self.single_value(written.scope, item)?;
+            match self.inner_value(base, part, depth)? {
+                Value::Text(characters) => text.extend_from_slice(characters.as_slice())?,
+                _ => return Err(self.refuse_kind(base, part)),
+            }
+        }
+        Ok(Value::Text(text))
     }
 
     // The components of a value.

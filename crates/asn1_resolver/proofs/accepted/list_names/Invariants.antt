@@ -3,7 +3,6 @@ use Rattle.asn1_resolver.specs.Accepted.{name_of_type, name_of_value}
 use Rattle.asn1_resolver.proofs.accepted.list_names.Given as goal
 
 abbrev pub invariant-loop-definition : goal.invariant-loop-definition
-invariant-loop-definition l = l.names.items ≡ map name_of_type (take l.definition-index l.schema.types.items)
-
-abbrev pub invariant-loop-definition-2 : goal.invariant-loop-definition-2
-invariant-loop-definition-2 l = l.names.items ≡ map name_of_type l.schema.types.items ++ map name_of_value (take l.definition-index l.schema.values.items)
+invariant-loop-definition l =
+    l.names.items
+    ≡ map name_of_type (take l.schema.defined l.schema.types.items) ++ map name_of_value (take l.definition-index l.schema.values.items)

@@ -21,3 +21,6 @@ decreases-resolve_alternatives l = 16 * l.depth + 3
 
 abbrev pub decreases-resolve_kind : goal.decreases-resolve_kind
 decreases-resolve_kind l = 16 * l.depth + 4
+
+abbrev pub decreases-resolve_selection : goal.decreases-resolve_selection
+decreases-resolve_selection l = 16 * l.depth + 3

@@ -24,3 +24,6 @@ decreases-list_value l = 16 * l.depth + 5
 
 abbrev pub decreases-literal : goal.decreases-literal
 decreases-literal l = 16 * l.depth + 6
+
+abbrev pub decreases-characters_value : goal.decreases-characters_value
+decreases-characters_value l = 16 * l.depth + 3
