@@ -4,8 +4,8 @@
     bench/convert.py
 
 In a clone in a temporary folder `asn1_compile --program` prints the crate of examples/modules/ldap.asn1, which has to be the one that is
-here, and its program, both by `rt try`. The program reads the messages of all conversations of examples/ldap, one after another, and
-writes them as JSON. Erlang's compiler makes JSON of each message too, and the two have to have the same members, as in bench/texts.py.
+here, and its program, both by `rt try`. The program reads the messages of all conversations of examples/ldap, one after another, but
+for those that are nested deeper than it reads, and writes them as JSON. Erlang's compiler makes JSON of each message too, and the two have to have the same members, as in bench/texts.py.
 Then the program writes the messages as DER, and of that BER to the packed codec and back, which have to be the same octets. At last it
 writes them in X.680's notation, and Erlang's compiler has to make a value of each text whose DER is that of the message.
 
@@ -20,6 +20,8 @@ import encoders
 import texts
 
 ROOT = pathlib.Path(__file__).resolve().parent.parent
+# Each element can open two scopes, of which the program reads 64.
+NESTED = 32
 CONVERSATIONS = sorted((ROOT / "examples" / "ldap").glob("*.ber"))
 EXTERNS = [f"--extern={name}=asn1_recursive::{name}"
            for name in ("Filter", "AttributeValueAssertion", "SubstringFilter", "MatchingRuleAssertion")]
@@ -99,6 +101,12 @@ def messages_in(octets):
         start += header + length
 
 
+def nesting(octets):
+    """How deep elements are inside one another in elements of definite lengths."""
+    inner = (nesting(part[2 if part[1] < 0x80 else part[1] - 0x7e:]) for part in messages_in(octets) if part[0] & 0x20)
+    return 1 + max(inner, default=0)
+
+
 def by_erlang(folder, octets):
     """The JSON of each message, by Erlang."""
     folder.mkdir()
@@ -116,7 +124,8 @@ def main():
     if sys.argv[1:]:
         print(__doc__, file=sys.stderr)
         return 2
-    octets = b"".join(path.read_bytes() for path in CONVERSATIONS)
+    messages = messages_in(b"".join(path.read_bytes() for path in CONVERSATIONS))
+    octets = b"".join(message for message in messages if nesting(message) <= NESTED)
     with tempfile.TemporaryDirectory() as folder:
         clone = pathlib.Path(folder) / "clone"
         subprocess.run(["git", "clone", "-q", ROOT, clone], check=True)
