@@ -1,12 +1,13 @@
 #!/usr/bin/env python3
-"""Compiles the modules of examples/modules with asn1_compile, and compares the crates that are made of them with what it prints.
+"""Compiles the modules of examples/modules but expressions.asn1 with asn1_compile, and compares the crates that are made of them with what it prints.
 
     bench/compile.py [--try] [--prove NAME] [--round-trip NAME] [--layout NUMBER] [--refuse] [--time]
 
 The program is the one that is built (`rt run` in crates/asn1_compile builds it), or with `--try` it is run before its proof, by
 `rt try`. Each module has to compile. Where a crate of the table is in crates/, its src/ and proofs/ have to be the files that are
-printed, and those that the table has as written by hand; its lib.rt then has each line of code that is printed, and more. Then the
-program is run on wrong arguments, on modules with an error, and with `--out` and `--check`.
+printed, and those that the table has as written by hand; its lib.rt then has each line of code that is printed, and more. The
+crates greetings_convert and greetings_c have to be what `--program` and `--exports` print. Then the program is run on wrong arguments,
+on modules with an error, and with `--out` and `--check`.
 
 With `--prove` the types of one module, as `snmp`, are put into a clone in a temporary folder, with the libraries that are built here
 and with their line in crates.txt; `rt fmt` has to leave them as they are, and `rt check` has to prove them. With `--round-trip` a
@@ -55,6 +56,7 @@ TABLE = {
     "certificates": ("certificates", [], []),
     "cms": ("cms", [*(f"--extern={name}=asn1_x509::{name.split('.')[-1]}" for name in SIGNED),
                     "--extern=GeneralNames=asn1_x509_extensions::GeneralNames"], ["asn1_x509", "asn1_x509_extensions"]),
+    "externals": ("externals", [], []),
     "greetings": ("greetings", [], []),
     "ldap": ("asn1_ldap", [f"--extern={name}=asn1_recursive::{name}" for name in FILTERS], ["asn1_recursive"]),
     "snmp": ("snmp", [], []),
@@ -140,6 +142,20 @@ def compare(crate, files):
     for path in sorted(found.keys() & files.keys()):
         if not is_printed(path, found[path], files[path], by_hand):
             expect(f"{crate}/{path}", "other text", "what is printed")
+
+
+def compare_beside():
+    """Compares the program and the calls of greetings, which are printed beside the crate, with the crates that are stored."""
+    written, told, status = run(["greetings", "--program", "--exports"], (MODULES / "greetings.asn1").read_text())
+    expect("greetings with --program and --exports", (told, status), ("", 0))
+    files = {path[3:]: text for path, text in files_of(written).items() if path.startswith("../")}
+    print(f"greetings: {len(files)} files beside the crate")
+    found = {str(path.relative_to(CRATES)) for name in ("greetings_convert", "greetings_c")
+             for path in (CRATES / name).rglob("*") if path.is_file() and "out" not in path.parts}
+    expect("the files beside greetings", sorted(found & files.keys()), sorted(files))
+    for path in sorted(found & files.keys()):
+        if (CRATES / path).read_text() != files[path]:
+            expect(f"crates/{path}", "other text", "what is printed")
 
 
 def lay(folder, files):
@@ -392,6 +408,10 @@ def time_large_modules():
 WRONG = "M DEFINITIONS ::= BEGIN\nA ::= B\nC ::= SEQUENCE { a NULL, a NULL }\nEND\n"
 RIGHT = "M DEFINITIONS ::= BEGIN\nA ::= SEQUENCE { a NULL }\nEND\n"
 PARTS = "M DEFINITIONS ::= BEGIN\nA ::= SEQUENCE { a }\nB ::= SEQUENCE { a A }\nC ::= D\nEND\n"
+TOGETHER = ("M DEFINITIONS ::= BEGIN\nA ::= SEQUENCE { a NULL b NULL }\nB ::= SEQUENCE { a Missing, b NULL OPTIONAL, c NULL }\n"
+            "C ::= SEQUENCE { a NULL OPTIONAL, b NULL }\nD ::= CHOICE { a A, b A }\nE ::= CHOICE { a B, b B }\nF ::= VideotexString\n"
+            "G ::= SEQUENCE { a INTEGER (0..many) }\nmany INTEGER ::= TRUE\nH {T} ::= SEQUENCE { a T OPTIONAL, b T }\nI ::= H {B}\nEND\n")
+FRONT = "M DEFINITIONS ::= BEGIN\nA ::= SEQUENCE { a NULL OPTIONAL, b NULL, c B }\nC ::= SEQUENCE { a NULL OPTIONAL, b NULL }\nD ::= $\nB ::= A\n"
 CLASH = "M DEFINITIONS ::= BEGIN\nA ::= SEQUENCE { a NULL OPTIONAL, b NULL }\nEND\n"
 
 
@@ -407,6 +427,11 @@ def try_arguments():
     expect("a byte order mark", run(["x", "--check"], "\ufeff" + RIGHT), ("", "", 0))
     written, told, status = run(["x"], PARTS)
     expect("errors in the notation and in names", ([line[:7] for line in told.splitlines()], status), (["-:2:20:", "-:4:7: "], 1))
+    written, told, status = run(["x"], TOGETHER)
+    expect("errors of all stages", ([line[:7] for line in told.splitlines()], status),
+           (["-:2:25:", "-:3:20:", "-:4:35:", "-:7:7: ", "-:9:18:"], 1))
+    written, told, status = run(["x"], FRONT)
+    expect("errors in front of a wrong character", ([line[:7] for line in told.splitlines()], status), (["-:3:35:", "-:4:7: "], 1))
     expect("no module", run(["x"], ""), ("", "-:1:1: there is no module\n", 1))
     twice = RIGHT + RIGHT.replace("M", "N", 1)
     expect("a type of two modules that exists", run(["x", "--extern", "A=y::A"], twice),
@@ -479,6 +504,7 @@ def main():
             files = printed(name)
             if (CRATES / crate).is_dir():
                 compare(crate, files)
+        compare_beside()
         try_arguments()
     print(f"{faults} faults")
     return faults > 0

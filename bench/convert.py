@@ -50,7 +50,7 @@ der(N) ->
 
 def tried(folder, words, octets=b""):
     """What a program writes, by `rt try` in its folder."""
-    ran = subprocess.run(["rt", "try", "--seconds", "100", "--", *words], cwd=folder, input=octets, capture_output=True)
+    ran = subprocess.run(["rt", "try", "--seconds", "600", "--", *words], cwd=folder, input=octets, capture_output=True)
     output = ran.stdout
     return output[:output.rindex(b"checked: ended")] if b"checked: ended" in output else output
 

@@ -1,4 +1,5 @@
-/* Statuses of the functions of Fanughespu, and what each asks of its caller, for C and C++. fanughespu.h includes this.
+/* Statuses of the functions of Fanughespu, and what each asks of its caller, for C and C++. fanughespu.h and the header of a library for
+ * types of one's own include this.
  *
  * Each function ends, and reads and writes only the memory that its arguments name, if its caller keeps these rules:
  *

@@ -1,4 +1,4 @@
-/* The heap of libfanughespu.a over malloc, for a machine without the kit of Rattle. */
+/* The heap of libfanughespu.a, and of a library for types of one's own, over malloc, for a machine without the kit of Rattle. */
 #include <stddef.h>
 #include <stdint.h>
 #include <stdlib.h>

@@ -55,6 +55,11 @@ pub accepted_in_front : (messages others : List Message) → accepts (messages +
 accepted_in_front messages others accepted =
     first_part (accepts messages) (accepts others) (sym (list_all-append (λ message. is_warning message.severity) messages others) ∙ accepted)
 
+-- problems in front of others
+pub warned_in_front : (problems others : List Problem) → resolved.accepts (problems ++ others) ≡ true → resolved.accepts problems ≡ true
+warned_in_front problems others accepted =
+    first_part (resolved.accepts problems) (resolved.accepts others) (sym (list_all-append (λ problem. is_warning problem.severity) problems others) ∙ accepted)
+
 -- problems that are all errors, between others
 pub no_errors : (errors : List Problem) → All IsError errors → resolved.accepts errors ≡ true → errors ≡ []
 no_errors [] all accepted = refl

@@ -32,4 +32,6 @@ pub struct Job<'a> {
     pub extern_modules: &'a [ExternModule<'a>],
     /// Whether a program that converts values of the types is printed too.
     pub has_program: bool,
+    /// Whether a crate that exports calls for the types is printed too.
+    pub has_exports: bool,
 }

@@ -8,8 +8,9 @@
 //! | [`extern_of`], [`extern_module_of`], [`is_crate_name`] | what a command line says of types that exist already, and of the name of the crate |
 //!
 //! The texts go through `parse` of `asn1_grammar`, `resolve` of `asn1_resolver`, `check_tags` of `asn1_module_check` and `print_crate`
-//! of `asn1_print`. The errors of one stage are told together: those of the notation, then those of names and numbers, then those of
-//! tags and of what cannot be printed.
+//! of `asn1_print`. The errors of all stages are told together. After an error every stage goes on with what there is, and what the
+//! error may have caused is left out: names whose definitions were not read (`left_out`), and errors in tags and in printing of
+//! definitions that rest on another error (`doubtful`).
 //!
 //! The contracts promise:
 //!
@@ -23,7 +24,9 @@
 //! No contract covers which problems a text has. Every call returns, and fails only if memory runs out.
 #![tactic(auto)]
 
+mod calls;
 mod compiled;
+mod doubtful;
 mod externs;
 mod job;
 mod known_types;

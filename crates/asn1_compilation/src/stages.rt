@@ -5,18 +5,20 @@ ghost use Rattle.asn1_module_check.specs.DistinctTags.{IsFreeOfClashes};
 ghost use Rattle.asn1_resolved.specs.TypesInside.{types_of};
 ghost use Rattle.asn1_resolver.specs.Accepted as resolved;
 
+use crate::calls::call_files;
 use crate::compiled::Compiled;
+use crate::doubtful::Doubtful;
 use crate::externs::{extern_errors, extern_module_errors};
 use crate::job::{Input, Job};
 use crate::known_types::known_types;
-use crate::left_out::{are_read_to_the_end, is_due_to, names_left_out};
+use crate::left_out::LeftOut;
 use crate::message::{Message, messages_of};
 use crate::problems::syntax_problems;
-use asn1_grammar::{Parsed, parse};
+use asn1_grammar::{AssociatedModule, Parsed, associated_modules, parse};
 use asn1_module_check::{check_extensible_choices, check_tags};
 use asn1_modules::Source;
 use asn1_print::{Extern, Printed, Request, print_crate, print_program};
-use asn1_resolved::{Problem, Schema};
+use asn1_resolved::{Problem, Schema, Severity};
 use asn1_resolver::{Resolution, resolve};
 use std::alloc::{AllocError, Global};
 
@@ -29,40 +31,71 @@ pub fn compile(alloc: Global, job: Job<'_>) -> Result<Compiled, AllocError>
         is_some compiled.files ≡ spec.accepts compiled.messages.items) }
 {
     let parsed = parse_all(alloc, job.inputs)?;
+    let associated = associated_modules(alloc, parsed.as_slice())?;
+    let sources = sources_of(alloc, job.inputs, parsed.as_slice(), associated.as_slice())?;
+    let resolution = resolve(alloc, sources.as_slice())?;
     let problems = syntax_problems(alloc, job.inputs, parsed.as_slice())?;
-    if !problems.is_empty() {
-        return refuse_notation(alloc, job, parsed.as_slice(), problems);
+    if problems.is_empty() {
+        compile_resolved(alloc, job, sources.as_slice(), resolution)
+    } else {
+        let left_out = LeftOut::of(alloc, job.inputs, parsed.as_slice(), &resolution.names)?;
+        refuse_notation(
+            alloc,
+            job,
+            sources.as_slice(),
+            problems,
+            &left_out,
+            resolution,
+        )
     }
-    compile_parsed(alloc, job, job.inputs, parsed.as_slice())
 }
 
-// The messages for errors in the notation, with those in the names of the definitions that were read. If a part of a text was
-// not read to its end, names are not looked at.
-fn refuse_notation(
+// The messages for errors in the notation, with those in what was read, but for those that are due to what was not.
+fn refuse_notation<'a>(
     alloc: Global,
     job: Job<'_>,
-    parsed: &[Parsed],
+    sources: &[Source<'a>],
     problems: Vec<Problem>,
+    left_out: &LeftOut<'_>,
+    resolution: Resolution<'a>,
 ) -> Result<Compiled, AllocError>
     ensures { IfOk result (λ compiled.
         is_some compiled.files ≡ spec.accepts compiled.messages.items) }
 {
     let mut problems = problems;
-    if are_read_to_the_end(parsed) {
-        let sources = sources_of(alloc, job.inputs, parsed)?;
-        let left_out = names_left_out(alloc, job.inputs, parsed)?;
-        let Resolution {
-            problems: found,
-            ..
-        } = resolve(alloc, sources.as_slice())?;
-        for problem in found {
-            if !is_due_to(&left_out, job.inputs, &problem) {
-                problems.push(problem)?;
-            }
+    problems.append(&mut further_errors(alloc, job, sources, &resolution)?)?;
+    for problem in resolution.problems {
+        if !left_out.causes(job.inputs, &problem) {
+            problems.push(problem)?;
         }
     }
     let messages = messages_of(alloc, job.inputs, problems.as_slice())?;
     Ok(Compiled::new(messages, Vec::new(alloc)))
+}
+
+// The errors in the tags of an incomplete schema and in what is printed of it. One in a definition that rests on another error
+// is left out.
+fn further_errors<'a>(
+    alloc: Global,
+    job: Job<'_>,
+    sources: &[Source<'a>],
+    resolution: &Resolution<'a>,
+) -> Result<Vec<Problem>, AllocError> {
+    let Printed { problems, .. } = print_checked(
+        alloc,
+        job,
+        sources,
+        &resolution.schema,
+        Vec::new(alloc),
+    )?;
+    let doubtful = Doubtful::of(alloc, sources, &resolution.names, &resolution.problems)?;
+    let mut errors = Vec::new(alloc);
+    for problem in problems {
+        if problem.severity == Severity::Error && !doubtful.has(problem.place) {
+            errors.push(problem)?;
+        }
+    }
+    Ok(errors)
 }
 
 // Reads the modules of all texts.
@@ -74,25 +107,12 @@ fn parse_all(alloc: Global, inputs: &[Input]) -> Result<Vec<Parsed>, AllocError>
     Ok(parsed)
 }
 
-// Compiles the modules of texts that were read.
-fn compile_parsed<'a>(
-    alloc: Global,
-    job: Job<'_>,
-    inputs: &'a [Input],
-    parsed: &'a [Parsed],
-) -> Result<Compiled, AllocError>
-    ensures { IfOk result (λ compiled.
-        is_some compiled.files ≡ spec.accepts compiled.messages.items) }
-{
-    let sources = sources_of(alloc, inputs, parsed)?;
-    compile_sources(alloc, job, sources.as_slice())
-}
-
-// The texts with their modules.
+// The texts with their modules, and behind them those that define types of the language.
 fn sources_of<'a>(
     alloc: Global,
     inputs: &'a [Input],
     parsed: &'a [Parsed],
+    associated: &'a [AssociatedModule],
 ) -> Result<Vec<Source<'a>>, AllocError> {
     let mut sources = Vec::new(alloc);
     for (input, part) in inputs.iter().zip(parsed) {
@@ -101,20 +121,13 @@ fn sources_of<'a>(
             modules: part.modules.as_slice(),
         })?;
     }
+    for part in associated {
+        sources.push(Source {
+            text: part.text,
+            modules: part.modules.as_slice(),
+        })?;
+    }
     Ok(sources)
-}
-
-// Resolves the modules, checks their tags and prints them.
-fn compile_sources(
-    alloc: Global,
-    job: Job<'_>,
-    sources: &[Source<'_>],
-) -> Result<Compiled, AllocError>
-    ensures { IfOk result (λ compiled.
-        is_some compiled.files ≡ spec.accepts compiled.messages.items) }
-{
-    let resolution = resolve(alloc, sources)?;
-    compile_resolved(alloc, job, sources, resolution)
 }
 
 // Compiles resolved modules. Errors in names and numbers come before those in tags.
@@ -133,7 +146,7 @@ fn compile_resolved<'a>(
         All (IsFreeOfClashes resolution.entry.schema) (types_of resolution.entry.schema)) }
 {
     if !resolution.is_accepted() {
-        return refused(alloc, job, resolution.problems.as_slice());
+        return refused(alloc, job, sources, resolution);
     }
     let Resolution {
         schema,
@@ -143,14 +156,26 @@ fn compile_resolved<'a>(
     compile_schema(alloc, job, sources, &schema, problems)
 }
 
-// The messages for problems of which one is an error.
-fn refused(alloc: Global, job: Job<'_>, problems: &[Problem]) -> Result<Compiled, AllocError>
+// The messages for resolved modules with an error, and for what else is wrong with them.
+fn refused<'a>(
+    alloc: Global,
+    job: Job<'_>,
+    sources: &[Source<'a>],
+    resolution: Resolution<'a>,
+) -> Result<Compiled, AllocError>
     ensures complete { IfOk result (λ compiled.
         is_some compiled.files ≡ spec.accepts compiled.messages.items) }
     ensures refused { IfOk result (λ compiled. IsTrue (is_some compiled.files) →
-        IsTrue (resolved.accepts problems.now)) }
+        IsTrue (resolved.accepts resolution.entry.problems.items)) }
 {
-    let messages = messages_of(alloc, job.inputs, problems)?;
+    let mut further = further_errors(alloc, job, sources, &resolution)?;
+    let Resolution {
+        schema,
+        mut problems,
+        ..
+    } = resolution;
+    problems.append(&mut further)?;
+    let messages = schema_messages(alloc, job, &schema, problems.as_slice())?;
     Ok(Compiled::new(messages, Vec::new(alloc)))
 }
 
@@ -245,6 +270,9 @@ fn print_with<'a>(
     let mut printed = print_crate(alloc, request)?;
     if job.has_program {
         printed.files.push(print_program(alloc, request)?)?;
+    }
+    if job.has_exports {
+        printed.files.append(&mut call_files(alloc, request)?)?;
     }
     Ok(printed)
 }

@@ -5,7 +5,7 @@ use asn1_print::Extern;
 use clap::{Arg, ArgAction, ArgMatches, Command, Error};
 use std::alloc::{AllocError, Global};
 
-/// What the program is for, in its help.
+/// The use of the program, in its help.
 const ABOUT: &str =
     "Compiles modules of ASN.1 to a crate of Rust types, which the check proves as it is.";
 
@@ -40,29 +40,40 @@ fn command<'a>(alloc: Global) -> Result<Command<'a>, AllocError> {
         .action(ArgAction::Append)
         .value_name("MODULE=CRATE")
         .help("A module that was compiled to a crate already, as PKIX1Explicit88=certificates");
-    let program = Arg::new(alloc, "program")
-        .long("program")
-        .action(ArgAction::SetTrue)
-        .help(
-            "Write, beside the crate, the program CRATE_convert, which converts values of its types",
-        );
-    let check = Arg::new(alloc, "check")
-        .long("check")
-        .action(ArgAction::SetTrue)
-        .help("Write no file, only errors and warnings");
-    Command::new(alloc, "asn1_compile")
+    let command = Command::new(alloc, "asn1_compile")
         .about(ABOUT)
         .after_help(STATUSES)
         .arg(out)?
         .arg(externs)?
-        .arg(extern_modules)?
-        .arg(program)?
-        .arg(check)?
-        .arg(name)?
-        .arg(files)
+        .arg(extern_modules)?;
+    with_flags(alloc, command)?.arg(name)?.arg(files)
 }
 
-/// What these words of a command line ask for.
+// A command with the arguments that are there or not.
+fn with_flags<'a>(alloc: Global, command: Command<'a>) -> Result<Command<'a>, AllocError> {
+    let program = flag(
+        alloc,
+        "program",
+        "Write, beside the crate, the program CRATE_convert, which converts values of its types",
+    );
+    let exports = flag(
+        alloc,
+        "exports",
+        "Write, beside the crate, the crate CRATE_c, which exports calls for its types to C, Rust and Python",
+    );
+    let check = flag(alloc, "check", "Write no file, only errors and warnings");
+    command.arg(program)?.arg(exports)?.arg(check)
+}
+
+// An argument that is there or not.
+fn flag<'a>(alloc: Global, name: &'a str, help: &'a str) -> Arg<'a> {
+    Arg::new(alloc, name)
+        .long(name)
+        .action(ArgAction::SetTrue)
+        .help(help)
+}
+
+/// The request in these words of a command line.
 pub(crate) fn matches_of(alloc: Global, words: &[String]) -> Result<ArgMatches<'_>, Error> {
     command(alloc)?.try_get_matches_from(words)
 }

@@ -6,7 +6,7 @@ use std::alloc::AllocError;
 use std::fmt::Write;
 use std::fs;
 
-/// Adds the lines of the crate that was written, and of its program, to crates.txt, if the folder is crates/CRATE beside that file.
+/// Adds the lines of the crate that was written, of its program and of its exports, to crates.txt, if the folder is crates/CRATE beside that file.
 pub(crate) fn list_crates<'a>(
     rt: &HostRuntime,
     folder: &str,
@@ -68,6 +68,13 @@ fn missing_lines<'a>(
     let program = format!(in rt.alloc(); "{crate_name}_convert")?;
     if matches.get_flag("program") && !is_listed(list, program.as_str()) {
         writeln!(&mut lines, "{program}: asn1_convert {crate_name}")?;
+    }
+    let exports = format!(in rt.alloc(); "{crate_name}_c")?;
+    if matches.get_flag("exports") && !is_listed(list, exports.as_str()) {
+        writeln!(
+            &mut lines,
+            "{exports} staticlib: asn1_schema fan_calls fan_types {crate_name}"
+        )?;
     }
     Ok(lines)
 }

@@ -2,7 +2,7 @@
 use std::alloc::{AllocError, AllocFailed};
 use std::io;
 
-/// What no module is to blame for.
+/// An error that no module has.
 #[derive(Drop)]
 pub(crate) enum Failure<'a> {
     /// This is not the name of a crate.

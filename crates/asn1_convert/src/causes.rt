@@ -15,9 +15,16 @@ pub(crate) fn cause_text(
         Cause::OutOfRange => range_text(alloc, limits),
         Cause::NoAlternative => String::from_str(alloc, "no alternative has its tag"),
         Cause::Missing(name) => format!(in alloc; "component {name} is missing"),
+        Cause::Twice(name) => format!(in alloc; "component {name} is there twice"),
+        Cause::NoComponent => String::from_str(alloc, "no component of the SET has its tag"),
         Cause::NoValue => type_text(alloc, limits),
         Cause::Other(error) => format!(in alloc; "{error}"),
     }
+}
+
+/// Whether the error tells no more than that the octets are no value of the type.
+pub(crate) fn is_plain(error: DecodeError) -> bool {
+    matches!(cause_of(error), Cause::NoValue)
 }
 
 /// The cause for which a value was not read, as a person is shown it.
@@ -26,6 +33,8 @@ enum Cause {
     OutOfRange,
     NoAlternative,
     Missing(&'static str),
+    Twice(&'static str),
+    NoComponent,
     NoValue,
     Other(DecodeError),
 }
@@ -36,6 +45,8 @@ fn cause_of(error: DecodeError) -> Cause {
         DecodeError::OutOfRange => Cause::OutOfRange,
         DecodeError::NoValidChoice(_) => Cause::NoAlternative,
         DecodeError::MissingField(name) => Cause::Missing(name),
+        DecodeError::DuplicateField(name) => Cause::Twice(name),
+        DecodeError::UnknownField { .. } => Cause::NoComponent,
         DecodeError::Custom(_) => Cause::NoValue,
         DecodeError::FieldError { cause, .. } => cause_of_number(cause),
         _ => Cause::Other(error),

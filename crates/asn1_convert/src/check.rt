@@ -17,6 +17,7 @@ use asn1_dec::{Decode, DecodeError};
 use asn1_der::DerRules;
 use asn1_der_items::find_element;
 use asn1_enc::Encode;
+use asn1_items::ItemError;
 use asn1_rules::{CanonicalError, read_canonical, recode};
 use std::alloc::{AllocError, Global};
 
@@ -131,6 +132,12 @@ fn reading_fault<T: Decode>(
         return Ok(CheckFault {
             cause: String::from_str(alloc, "octets follow the value")?,
             position: Some(position),
+        });
+    }
+    if let Err(ItemError::Missing(_)) = find_element(octets) {
+        return Ok(CheckFault {
+            cause: String::from_str(alloc, "the octets end inside the value")?,
+            position: None,
         });
     }
     let failure = read_failure::<T>(alloc, CodecForm::Der, octets, error, depth)?;

@@ -1,6 +1,6 @@
 //! The place in a value at which reading fails, and that of a position.
 
-use crate::element_numbers::element_numbers;
+use crate::elements::element_numbers;
 use crate::form::CodecForm;
 use asn1_ber::BerDecoder;
 use asn1_ber_items::normal_form;

@@ -31,8 +31,9 @@
 mod arguments;
 mod causes;
 mod check;
+mod contents;
 mod differences;
-mod element_numbers;
+mod elements;
 mod failing_place;
 mod form;
 mod fronts;
@@ -44,6 +45,7 @@ mod recoding;
 mod report;
 mod stream;
 mod task;
+mod type_faults;
 
 pub use check::{CheckError, CheckFault, check_der, check_fault};
 pub use form::{CodecForm, OutputForm};

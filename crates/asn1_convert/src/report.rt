@@ -1,10 +1,10 @@
 //! The line for a value that was not converted.
 
 use crate::form::CodecForm;
-use crate::places::{ReadFailure, read_failure};
+use crate::places::{ReadFailure, malformed_failure, read_failure};
 use crate::stream::{Cause, Stop};
 use crate::task::Task;
-use asn1_dec::{Decode, DecodeError};
+use asn1_dec::Decode;
 use asn1_der_items::find_element;
 use asn1_items::ItemError;
 use asn1_rules::RecodeError;
@@ -35,8 +35,7 @@ pub(crate) fn stop_line<T: Decode>(
             push_failure(&mut text, start, failure)?;
         }
         Cause::NoFront(ItemError::Malformed) if length.is_some() => {
-            let error = DecodeError::Custom("bad item");
-            let failure = read_failure::<T>(alloc, CodecForm::Der, octets, error, task.depth)?;
+            let failure = malformed_failure::<T>(alloc, octets, task.depth)?;
             push_failure(&mut text, start, failure)?;
         }
         Cause::NotRecoded(RecodeError::Write(error)) => write!(&mut text, "not written: {error}")?,

@@ -1,7 +1,7 @@
 //! Definitions.
 use crate::braced::braced;
 use crate::classes::{
-    class_name_length, parse_class, sees_class_name, sees_known_class, type_reference,
+    class_name_length, parse_class, sees_bare_class, sees_class_name, type_reference,
 };
 use crate::cursor::Cursor;
 use crate::error::{Construct, Expected, Fault, Owner};
@@ -48,7 +48,7 @@ fn class_or_type(cursor: &mut Cursor<'_>, has_objects_alone: bool) -> Result<Def
         let class = parse_class(cursor)?;
         return Ok(Definition::Class(class));
     }
-    if sees_known_class(cursor) && !cursor.sees_after(1, TokenKind::Symbol, b".") {
+    if sees_bare_class(cursor) {
         let reference = type_reference(cursor)?;
         return Ok(Definition::Class(Class::Alias(reference)));
     }

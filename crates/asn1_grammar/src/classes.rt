@@ -5,7 +5,8 @@ use crate::error::{Expected, Fault, Owner};
 use crate::grammar::parse_type;
 use crate::parsed::MAX_DEPTH;
 use asn1_notation::{
-    Assignment, Class, ClassField, Definition, FieldKind, FieldUsage, Reference, Span, TypeKind,
+    Assignment, Class, ClassField, Definition, FieldKind, FieldUsage, Reference, Span, Type,
+    TypeKind,
 };
 use asn1_tokens::TokenKind;
 use std::alloc::{AllocError, Global};
@@ -52,7 +53,7 @@ pub(crate) fn class_name_length(cursor: &Cursor<'_>) -> Option<usize> {
     }
 }
 
-/// Whether a class of the language is next, without a field.
+/// Whether the name of a class of the language is next.
 pub(crate) fn sees_known_class(cursor: &Cursor<'_>) -> bool {
     match cursor.peek() {
         Some(token) => token.kind == TokenKind::ReservedWord && is_known_class(token.text),
@@ -60,13 +61,30 @@ pub(crate) fn sees_known_class(cursor: &Cursor<'_>) -> bool {
     }
 }
 
+/// Whether a class of the language is next, and no field of it.
+pub(crate) fn sees_bare_class(cursor: &Cursor<'_>) -> bool {
+    sees_known_class(cursor) && !cursor.sees_after(1, TokenKind::Symbol, b".")
+}
+
+/// Reads the name of a class, in the form of the type that the same name would be.
+pub(crate) fn class_type(cursor: &mut Cursor<'_>) -> Result<Type, Fault> {
+    let start = cursor.start();
+    let class = type_reference(cursor)?;
+    Ok(Type {
+        start,
+        kind: TypeKind::Reference(class),
+        constraints: Vec::new(cursor.alloc()),
+    })
+}
+
 /// Reads the name of a type or a class, with its module or without.
 pub(crate) fn type_reference(cursor: &mut Cursor<'_>) -> Result<Reference, Fault> {
     if sees_known_class(cursor) {
-        let name = known_class(cursor)?;
+        let name = cursor.next_span();
+        cursor.skip();
         return Ok(Reference { module: None, name });
     }
-    let name = cursor.type_name(Expected::Type)?;
+    let name = cursor.type_name(Expected::TypeName)?;
     if !cursor.sees_symbol(b".") || cursor.sees_after(1, TokenKind::Symbol, b"&") {
         return Ok(Reference { module: None, name });
     }
@@ -76,21 +94,6 @@ pub(crate) fn type_reference(cursor: &mut Cursor<'_>) -> Result<Reference, Fault
         module: Some(name),
         name: inner,
     })
-}
-
-// Reads the name of a class of the language.
-fn known_class(cursor: &mut Cursor<'_>) -> Result<Span, Fault> {
-    let start = cursor.start();
-    match cursor.peek() {
-        Some(token) => {
-            cursor.skip();
-            Ok(Span {
-                start,
-                end: start.saturating_add(token.text.len()),
-            })
-        }
-        None => Err(cursor.expected(Expected::Type)),
-    }
 }
 
 /// Reads the names of fields, each behind an ampersand, with dots between them.

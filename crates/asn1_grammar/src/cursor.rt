@@ -1,9 +1,10 @@
 //! The tokens that are left to be read.
+use crate::associated::AssociatedType;
 use crate::error::{Cause, Construct, Expected, Fault, Owner, SyntaxError};
 use crate::slips::slip_at;
 use asn1_notation::{Number, NumberName, Reference, Span};
 use asn1_tokens::{Token, TokenKind};
-use std::alloc::Global;
+use std::alloc::{AllocError, Global};
 
 /// The tokens of a text, and how many were read.
 #[derive(Drop)]
@@ -12,7 +13,11 @@ pub(crate) struct Cursor<'a> {
     index: usize,
     // The offset of the end of the text.
     end: usize,
+    // The text, if lines are skipped.
+    text: &'a [u8],
     alloc: Global,
+    // The types of the language that were named and that others define.
+    associated: Vec<AssociatedType>,
 }
 
 /// Where a token is.
@@ -30,8 +35,15 @@ impl<'a> Cursor<'a> {
             tokens,
             index: 0,
             end,
+            text: &[],
             alloc,
+            associated: Vec::new(alloc),
         }
+    }
+
+    /// The same cursor, which can skip lines of this text.
+    pub(crate) fn over(self, text: &'a [u8]) -> Cursor<'a> {
+        Cursor { text, ..self }
     }
 
     /// The allocator of the tree.
@@ -86,6 +98,22 @@ impl<'a> Cursor<'a> {
         }
     }
 
+    /// Reads the tokens up to the end of the line of the next one.
+    pub(crate) fn skip_line(&mut self) {
+        let line = self.text.get(self.start()..).unwrap_or(&[]);
+        let length = match line.iter().position(|octet| *octet == b'\n') {
+            Some(length) => length,
+            None => line.len(),
+        };
+        let end = self.start().saturating_add(length);
+        for _ in 0..self.tokens.len() {
+            if self.is_at_end() || end <= self.start() {
+                return;
+            }
+            self.skip();
+        }
+    }
+
     /// Goes back to where this many tokens were read.
     pub(crate) fn go_back(&mut self, index: usize) {
         self.index = index;
@@ -97,6 +125,38 @@ impl<'a> Cursor<'a> {
             Some(token) => token.start,
             None => self.end,
         }
+    }
+
+    /// Where the next token is, or the end of the text.
+    pub(crate) fn next_span(&self) -> Span {
+        match self.peek() {
+            Some(token) => span_of(token),
+            None => Span {
+                start: self.end,
+                end: self.end,
+            },
+        }
+    }
+
+    /// Keeps that a type of the language is named.
+    pub(crate) fn keep_associated(&mut self, kind: AssociatedType) -> Result<(), AllocError> {
+        if !self.associated.contains(&kind) {
+            self.associated.push(kind)?;
+        }
+        Ok(())
+    }
+
+    /// The types of the language that were named.
+    pub(crate) fn into_associated(self) -> Vec<AssociatedType> {
+        let Cursor {
+            tokens: _,
+            index: _,
+            end: _,
+            text: _,
+            alloc: _,
+            associated,
+        } = self;
+        associated
     }
 
     /// Whether the token so many behind the next is of this kind and has this text.
@@ -163,15 +223,8 @@ impl<'a> Cursor<'a> {
 
     /// The fault that something is wrong with the next token.
     pub(crate) fn fault(&self, cause: Cause) -> Fault {
-        let found = match self.peek() {
-            Some(token) => span_of(token),
-            None => Span {
-                start: self.end,
-                end: self.end,
-            },
-        };
         Fault::Syntax(SyntaxError {
-            found,
+            found: self.next_span(),
             cause,
             definition: None,
         })

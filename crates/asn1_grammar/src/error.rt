@@ -199,20 +199,12 @@ pub enum Construct {
     Real,
     /// A value of REAL.
     RealValue,
-    /// EXTERNAL.
-    External,
-    /// EMBEDDED PDV.
-    EmbeddedPdv,
-    /// CHARACTER STRING.
-    CharacterString,
     /// RELATIVE-OID.
     RelativeOid,
     /// OID-IRI.
     OidIri,
     /// RELATIVE-OID-IRI.
     RelativeOidIri,
-    /// INSTANCE OF.
-    InstanceOf,
     /// A type of the standard ISO 8601.
     Time,
     /// An information object class where a type is.
@@ -227,13 +219,9 @@ impl Construct {
         match self {
             Construct::Real => "REAL",
             Construct::RealValue => "a value of REAL",
-            Construct::External => "EXTERNAL",
-            Construct::EmbeddedPdv => "EMBEDDED PDV",
-            Construct::CharacterString => "CHARACTER STRING",
             Construct::RelativeOid => "RELATIVE-OID",
             Construct::OidIri => "OID-IRI",
             Construct::RelativeOidIri => "RELATIVE-OID-IRI",
-            Construct::InstanceOf => "INSTANCE OF",
             Construct::Time => "a type of the standard ISO 8601",
             Construct::Class => "an information object class as a type",
             Construct::ParameterizedValue => "a parameterized value",

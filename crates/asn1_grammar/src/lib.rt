@@ -3,17 +3,20 @@
 //! | Item | What it is |
 //! |---|---|
 //! | [`parse`], [`Parsed`] | reads a text: its modules (`asn1_notation`) and its errors, in the order of the text |
+//! | [`associated_modules`], [`AssociatedModule`], [`AssociatedType`] | the definitions of EXTERNAL and its like, if texts name them |
 //! | [`MAX_DEPTH`] | how many types, values or constraints may be inside one another |
 //! | [`SyntaxError`], [`Cause`] | a place of the text, and why it was not read |
 //! | [`Expected`], [`Owner`] | the item that was expected, and the name before it |
 //! | [`Slip`] | a frequent slip, which is told by what to write |
 //! | [`Construct`] | a construct of X.680 to X.683 that the reader refuses by name |
 //! | [`append_cause`] | appends the message of an error |
+//! | [`leading_type`], [`leading_value`] | read the type or the value with which some tokens begin |
 //!
-//! The notation is that of X.680 without REAL, EXTERNAL, EMBEDDED PDV, CHARACTER STRING, RELATIVE-OID, INSTANCE OF and the types of
-//! time of ISO 8601, with ANY and ANY DEFINED BY of 1988; with classes and their fields (X.681), table constraints and CONSTRAINED BY
-//! (X.682), and parameters of types (X.683). Objects and object sets are read to the brace that closes them, and macros of X.208 to
-//! their END. A definition of a value whose governor is in capitals is an object where what is in its braces is no value.
+//! The notation is that of X.680 without REAL, RELATIVE-OID and the types of time of ISO 8601, with ANY and ANY DEFINED BY of 1988;
+//! with classes and their fields, INSTANCE OF and values of open types (X.681), table constraints and CONSTRAINED BY (X.682), and
+//! parameters of types (X.683). EXTERNAL, EMBEDDED PDV, CHARACTER STRING and INSTANCE OF stand in the tree as references. The type of
+//! a value of an open type is a name or a word, as in `NULL : NULL`, and stands as the name of an alternative. Objects and object sets
+//! are read to the brace that closes them, and macros of X.208 to their END. A definition of a value whose governor is in capitals is an object where what is in its braces is no value.
 //!
 //! An error has what was expected and the item that is there. After an error in a definition the reader goes on with the next
 //! one, and leaves the one in error out of the tree; the error has the name of that definition.
@@ -24,6 +27,7 @@
 #![tactic(auto)]
 
 mod assignments;
+mod associated;
 mod braced;
 mod classes;
 mod components;
@@ -40,11 +44,14 @@ mod parsed;
 mod plain_constraints;
 mod plain_types;
 mod slips;
+mod spans;
 mod tables;
 mod types;
 mod values;
 mod words;
 
+pub use associated::{AssociatedModule, AssociatedType, associated_modules};
 pub use error::{Cause, Construct, Expected, Owner, Slip, SyntaxError};
 pub use messages::append_cause;
 pub use parsed::{MAX_DEPTH, Parsed, parse};
+pub use spans::{leading_type, leading_value};

@@ -1,7 +1,7 @@
 //! Modules.
 use crate::assignments::{parse_assignment, skip_assignment};
 use crate::cursor::{Cursor, span_of};
-use crate::error::{Expected, Fault, Owner, SyntaxError};
+use crate::error::{Cause, Expected, Fault, Owner, Slip, SyntaxError};
 use crate::parsed::MAX_DEPTH;
 use crate::values::parse_value;
 use asn1_notation::{Assignment, Exports, Import, Module, Span, TagDefault, Value};
@@ -16,33 +16,35 @@ struct Header {
     is_extensible: bool,
 }
 
-/// Reads a module. Errors in its definitions are added to the list, and the definitions left out.
+/// Reads a module up to its END. Errors in its definitions are added to the list, and the definitions left out.
 pub(crate) fn parse_module(
     cursor: &mut Cursor<'_>,
     errors: &mut Vec<SyntaxError>,
 ) -> Result<Module, Fault> {
-    let header = parse_header(cursor)?;
-    let exports = exports(cursor)?;
-    let imports = imports(cursor)?;
-    let assignments = assignments(cursor, errors)?;
-    if !cursor.accept_word(b"END") {
-        return Err(cursor.expected_after(Expected::Definition, Owner::Module, header.name));
-    }
     let Header {
         name,
         identifier,
         tagging,
         is_extensible,
-    } = header;
+    } = parse_header(cursor)?;
     Ok(Module {
         name,
         identifier,
         tagging,
         is_extensible,
-        exports,
-        imports,
-        assignments,
+        exports: exports(cursor)?,
+        imports: imports(cursor)?,
+        assignments: assignments(cursor, errors)?,
     })
+}
+
+/// Reads the END of the module of this name.
+pub(crate) fn parse_end(cursor: &mut Cursor<'_>, name: Span) -> Result<(), Fault> {
+    if cursor.accept_word(b"END") {
+        Ok(())
+    } else {
+        Err(cursor.expected_after(Expected::Definition, Owner::Module, name))
+    }
 }
 
 // Reads a module up to BEGIN.
@@ -207,6 +209,9 @@ fn assignments(
             Ok(assignment) => assignments.push(assignment)?,
             Err(Fault::Memory) => return Err(Fault::Memory),
             Err(Fault::Syntax(error)) => {
+                if error.cause == Cause::Slip(Slip::Slashes) {
+                    cursor.skip_line();
+                }
                 errors.push(SyntaxError {
                     definition: name.map(span_of),
                     ..error

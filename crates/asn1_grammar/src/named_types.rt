@@ -2,7 +2,7 @@
 ghost use Rattle.asn1_grammar.specs.Nests.{Nests};
 
 use crate::braced::braced;
-use crate::classes::{field_names, sees_known_class, type_reference};
+use crate::classes::{class_type, field_names, sees_bare_class, sees_known_class, type_reference};
 use crate::cursor::Cursor;
 use crate::error::{Construct, Expected, Fault};
 use crate::grammar::Grammar;
@@ -84,6 +84,10 @@ impl<
         if cursor.sees_symbol(b"{") {
             let span = braced(cursor)?;
             return Ok(Argument::Braced(span));
+        }
+        if sees_bare_class(cursor) {
+            let class = class_type(cursor)?;
+            return Ok(Argument::Type(class));
         }
         if begins_type(cursor) || cursor.sees_word(b"NULL") || sees_selection(cursor) {
             let definition = (self.types)(cursor, self.depth)?;

@@ -1,10 +1,10 @@
 //! Parameters (X.683, 8).
-use crate::classes::class_name_length;
+use crate::classes::{class_name_length, class_type, sees_bare_class};
 use crate::cursor::Cursor;
 use crate::error::{Expected, Fault, Owner};
 use crate::grammar::parse_type;
 use crate::parsed::MAX_DEPTH;
-use asn1_notation::Parameter;
+use asn1_notation::{Parameter, Type};
 use asn1_tokens::TokenKind;
 
 /// The parameters of a definition.
@@ -53,10 +53,19 @@ fn parameter(cursor: &mut Cursor<'_>) -> Result<Parameter, Fault> {
     let governor = if is_alone {
         None
     } else {
-        let governor = parse_type(cursor, MAX_DEPTH)?;
+        let governor = governor(cursor)?;
         cursor.expect_symbol(b":", Expected::Colon)?;
         Some(governor)
     };
     let name = cursor.any_name(Expected::AnyName)?;
     Ok(Parameter { governor, name })
+}
+
+// Reads the type of a value or a set of values, or the class of an object or an object set.
+fn governor(cursor: &mut Cursor<'_>) -> Result<Type, Fault> {
+    if sees_bare_class(cursor) {
+        class_type(cursor)
+    } else {
+        parse_type(cursor, MAX_DEPTH)
+    }
 }

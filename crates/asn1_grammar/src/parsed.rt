@@ -1,10 +1,11 @@
 //! All modules of a text.
+use crate::associated::AssociatedType;
 use crate::classes::find_aliases;
 use crate::cursor::Cursor;
 use crate::error::{Cause, Fault, Slip, SyntaxError};
-use crate::modules::parse_module;
+use crate::modules::{parse_end, parse_module};
 use asn1_notation::{Module, Span};
-use asn1_tokens::{TokenError, tokens};
+use asn1_tokens::{Refusal, Token, TokenError, tokens};
 use std::alloc::{AllocError, Global};
 
 /// How many types, values or constraints may be inside one another.
@@ -17,58 +18,92 @@ pub struct Parsed {
     pub modules: Vec<Module>,
     /// The errors, in the order of the text.
     pub errors: Vec<SyntaxError>,
+    /// The types of the language that the text names, and whose definitions [`associated_modules`](crate::associated_modules)
+    /// reads.
+    pub associated: Vec<AssociatedType>,
 }
 
 /// Reads the modules of a text.
 ///
-/// After an error in a definition the next definition is read, so all errors of a text are told. The error of this call is
-/// that of memory.
+/// After an error in a definition the next definition is read, so all errors of a text are told. After another error, or an octet with
+/// which no item begins, the rest is not read. The error of this call is that of memory.
 pub fn parse(alloc: Global, text: &[u8]) -> Result<Parsed, AllocError> {
-    let mut modules = Vec::new(alloc);
-    let mut errors = Vec::new(alloc);
-    match parse_text(alloc, text, &mut modules, &mut errors) {
+    let mut parsed = Parsed {
+        modules: Vec::new(alloc),
+        errors: Vec::new(alloc),
+        associated: Vec::new(alloc),
+    };
+    match parse_text(alloc, text, &mut parsed) {
         Ok(()) => {}
         Err(Fault::Memory) => return Err(AllocError),
-        Err(Fault::Syntax(error)) => errors.push(error)?,
+        Err(Fault::Syntax(error)) => parsed.errors.push(error)?,
     }
-    Ok(Parsed { modules, errors })
+    Ok(parsed)
 }
 
-// Reads the modules of a text, up to an error that is in no definition.
-fn parse_text(
+// Reads a text, up to an error that is in no definition.
+fn parse_text(alloc: Global, text: &[u8], parsed: &mut Parsed) -> Result<(), Fault> {
+    match tokens(alloc, text) {
+        Ok(tokens) => parse_tokens(alloc, text, tokens, parsed),
+        Err(TokenError::Memory) => Err(Fault::Memory),
+        Err(TokenError::Refused(refusal, start)) => {
+            parse_front(alloc, text, start, parsed)?;
+            Err(token_fault(text, refusal, start))
+        }
+    }
+}
+
+// Reads what is in front of an octet with which no item begins. Errors at the end of it are due to that octet.
+fn parse_front(alloc: Global, text: &[u8], end: usize, parsed: &mut Parsed) -> Result<(), Fault> {
+    let front = text.get(..end).unwrap_or(text);
+    if let Ok(tokens) = tokens(alloc, front) {
+        match parse_tokens(alloc, front, tokens, parsed) {
+            Ok(()) => {}
+            Err(Fault::Memory) => return Err(Fault::Memory),
+            Err(Fault::Syntax(error)) => parsed.errors.push(error)?,
+        }
+    }
+    parsed.errors.retain(|error| error.found.start < end);
+    Ok(())
+}
+
+// Reads the modules of a text with these tokens, up to an error that is in no definition.
+fn parse_tokens<'a>(
     alloc: Global,
-    text: &[u8],
-    modules: &mut Vec<Module>,
-    errors: &mut Vec<SyntaxError>,
+    text: &'a [u8],
+    tokens: Vec<Token<'a>>,
+    parsed: &mut Parsed,
 ) -> Result<(), Fault> {
-    let tokens = match tokens(alloc, text) {
-        Ok(tokens) => tokens,
-        Err(error) => return Err(token_fault(text, error)),
-    };
-    let mut cursor = Cursor::new(alloc, tokens, text.len());
+    let mut cursor = Cursor::new(alloc, tokens, text.len()).over(text);
+    let end = parse_modules(&mut cursor, text, parsed);
+    parsed.associated = cursor.into_associated();
+    end
+}
+
+// Reads modules. One whose END is missing is kept.
+fn parse_modules(cursor: &mut Cursor<'_>, text: &[u8], parsed: &mut Parsed) -> Result<(), Fault> {
     for _ in 0..cursor.len() {
         if cursor.is_at_end() {
             return Ok(());
         }
-        let mut module = parse_module(&mut cursor, errors)?;
-        find_aliases(alloc, text, &mut module.assignments)?;
-        modules.push(module)?;
+        let mut module = parse_module(cursor, &mut parsed.errors)?;
+        let name = module.name;
+        find_aliases(cursor.alloc(), text, &mut module.assignments)?;
+        parsed.modules.push(module)?;
+        parse_end(cursor, name)?;
     }
     Ok(())
 }
 
-// The fault of a text that has no tokens.
-fn token_fault(text: &[u8], error: TokenError) -> Fault {
-    match error {
-        TokenError::Memory => Fault::Memory,
-        TokenError::Refused(refusal, start) => Fault::Syntax(SyntaxError {
-            found: Span { start, end: start },
-            cause: if text.get(start) == Some(&b'_') {
-                Cause::Slip(Slip::Underscore)
-            } else {
-                Cause::NoItem(refusal)
-            },
-            definition: None,
-        }),
-    }
+// The fault that no item begins with an octet.
+fn token_fault(text: &[u8], refusal: Refusal, start: usize) -> Fault {
+    Fault::Syntax(SyntaxError {
+        found: Span { start, end: start },
+        cause: if text.get(start) == Some(&b'_') {
+            Cause::Slip(Slip::Underscore)
+        } else {
+            Cause::NoItem(refusal)
+        },
+        definition: None,
+    })
 }

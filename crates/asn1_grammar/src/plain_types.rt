@@ -1,4 +1,5 @@
 //! Types that hold no other.
+use crate::associated::associated_type;
 use crate::components::skip_exception;
 use crate::cursor::Cursor;
 use crate::error::{Expected, Fault, Owner};
@@ -69,6 +70,9 @@ fn word_type(cursor: &mut Cursor<'_>, word: &[u8]) -> Result<TypeKind, Fault> {
     if let Some(kind) = string_kind(word) {
         cursor.skip();
         return Ok(TypeKind::String(kind));
+    }
+    if let Some(kind) = associated_type(cursor)? {
+        return Ok(kind);
     }
     if let Some(construct) = not_taken(word) {
         return Err(cursor.not_taken(construct));

@@ -1,7 +1,8 @@
 //! Values.
 use crate::cursor::{Cursor, span_of};
 use crate::error::{Cause, Construct, Expected, Fault};
-use asn1_notation::{ListItem, Value, ValueKind};
+use crate::words::is_plain_type;
+use asn1_notation::{ListItem, Span, Value, ValueKind};
 use asn1_tokens::TokenKind;
 
 /// Reads a value, with at most so many braces and colons inside it.
@@ -13,24 +14,70 @@ pub(crate) fn parse_value(cursor: &mut Cursor<'_>, depth: usize) -> Result<Value
     let start = cursor.start();
     let kind = if cursor.accept_symbol(b"{") {
         list(cursor, depth)?
-    } else if cursor.sees_kind_after(0, TokenKind::Identifier)
-        && cursor.sees_after(1, TokenKind::Symbol, b":")
-    {
-        alternative(cursor, depth)?
+    } else if let Some(length) = alternative_length(cursor) {
+        alternative(cursor, length, depth)?
     } else {
         plain_value(cursor)?
     };
     Ok(Value { start, kind })
 }
 
-// Reads an alternative of a CHOICE.
+// Reads an alternative of a CHOICE, whose name has so many tokens. A value of an open type is one, and its type is the name.
 #[cycle(values)]
-fn alternative(cursor: &mut Cursor<'_>, depth: usize) -> Result<ValueKind, Fault> {
-    let name = cursor.identifier(Expected::AlternativeName)?;
-    cursor.skip();
+fn alternative(cursor: &mut Cursor<'_>, length: usize, depth: usize) -> Result<ValueKind, Fault> {
+    let name = alternative_name(cursor, length);
+    cursor.expect_symbol(b":", Expected::Colon)?;
     let value = parse_value(cursor, depth)?;
     let value = Box::new(cursor.alloc(), value)?;
     Ok(ValueKind::Alternative(name, value))
+}
+
+// Reads a name of so many tokens.
+fn alternative_name(cursor: &mut Cursor<'_>, length: usize) -> Span {
+    let mut name = cursor.next_span();
+    for _ in 0..length {
+        name.end = cursor.next_span().end;
+        cursor.skip();
+    }
+    name
+}
+
+// How many tokens are before a colon, if they are the name of an alternative, or the type of a value of an open type (X.681, 14.6):
+// the name of a type, or words of the language for one.
+fn alternative_length(cursor: &Cursor<'_>) -> Option<usize> {
+    let length = if sees_two_words(cursor) {
+        2
+    } else if sees_name(cursor) {
+        1
+    } else {
+        return None;
+    };
+    if cursor.sees_after(length, TokenKind::Symbol, b":") {
+        Some(length)
+    } else {
+        None
+    }
+}
+
+// Whether a name is next, or the word for a type that holds no other.
+fn sees_name(cursor: &Cursor<'_>) -> bool {
+    match cursor.peek() {
+        Some(token) => match token.kind {
+            TokenKind::Identifier | TokenKind::TypeReference => true,
+            TokenKind::ReservedWord => is_plain_type(token.text),
+            _ => false,
+        },
+        None => false,
+    }
+}
+
+// Whether two words for a type are next.
+fn sees_two_words(cursor: &Cursor<'_>) -> bool {
+    let is_string = (cursor.sees_word(b"BIT") || cursor.sees_word(b"OCTET"))
+        && cursor.sees_after(1, TokenKind::ReservedWord, b"STRING");
+    is_string
+        || cursor.sees_word(b"OBJECT")
+            && cursor.sees_after(1, TokenKind::ReservedWord, b"IDENTIFIER")
 }
 
 // Reads a list up to the brace that closes it.

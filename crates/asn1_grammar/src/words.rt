@@ -25,13 +25,9 @@ const STRINGS: &[(&[u8], StringKind)] = &[
 // The words with which types begin that are not taken, and the names of these types.
 const NOT_TAKEN: &[(&[u8], Construct)] = &[
     (b"REAL", Construct::Real),
-    (b"EXTERNAL", Construct::External),
-    (b"EMBEDDED", Construct::EmbeddedPdv),
-    (b"CHARACTER", Construct::CharacterString),
     (b"RELATIVE-OID", Construct::RelativeOid),
     (b"OID-IRI", Construct::OidIri),
     (b"RELATIVE-OID-IRI", Construct::RelativeOidIri),
-    (b"INSTANCE", Construct::InstanceOf),
     (b"TIME", Construct::Time),
     (b"DATE", Construct::Time),
     (b"DATE-TIME", Construct::Time),
@@ -47,6 +43,11 @@ pub(crate) fn string_kind(word: &[u8]) -> Option<StringKind> {
         }
     }
     None
+}
+
+/// Whether this word is a type that holds no other, without parts.
+pub(crate) fn is_plain_type(word: &[u8]) -> bool {
+    matches!(word, b"BOOLEAN" | b"INTEGER" | b"NULL") || string_kind(word).is_some()
 }
 
 /// The name of the type that begins with this word, and is not taken.

@@ -21,6 +21,7 @@ const BUILT_IN: &[(&[u8], &[u8])] = &[
     (b"NULL", b"NULL"),
     (b"NUMERICSTRING", b"NumericString"),
     (b"OBJECTDESCRIPTOR", b"ObjectDescriptor"),
+    (b"OBJECT", b"OBJECT IDENTIFIER"),
     (b"OCTET", b"OCTET STRING"),
     (b"PRINTABLESTRING", b"PrintableString"),
     (b"SEQUENCE", b"SEQUENCE"),
@@ -31,8 +32,19 @@ const BUILT_IN: &[(&[u8], &[u8])] = &[
     (b"UNIVERSALSTRING", b"UniversalString"),
     (b"UTCTIME", b"UTCTime"),
     (b"UTF8STRING", b"UTF8String"),
+    (b"VIDEOTEXSTRING", b"VideotexString"),
     (b"VISIBLESTRING", b"VisibleString"),
 ];
+
+/// Whether a name is the word of a type of the language.
+pub(crate) fn is_built_in(name: &[u8]) -> bool {
+    for (_, written) in BUILT_IN {
+        if *written == name {
+            return true;
+        }
+    }
+    false
+}
 
 /// The type of the language that a name may mean, without regard to case.
 pub(crate) fn nearest_built_in(

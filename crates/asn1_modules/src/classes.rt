@@ -1,8 +1,7 @@
 //! The names in classes.
-use crate::class_index::is_known_class;
 use crate::collector::Collector;
 use crate::types::collect_type;
-use asn1_notation::{Class, FieldKind, Reference};
+use asn1_notation::{Class, FieldKind};
 use std::alloc::AllocError;
 
 /// Collects the names in a class, without those in a DEFAULT, which is not read.
@@ -19,18 +18,6 @@ pub(crate) fn collect_class(
             }
             Ok(())
         }
-        Class::Alias(reference) => refer_to_class(collector, reference),
-    }
-}
-
-/// Adds a reference to a class, unless it is one of the language.
-pub(crate) fn refer_to_class(
-    collector: &mut Collector<'_>,
-    reference: &Reference,
-) -> Result<(), AllocError> {
-    if is_known_class(collector.octets(reference.name)) {
-        Ok(())
-    } else {
-        collector.refer(reference)
+        Class::Alias(reference) => collector.refer_to_type(reference),
     }
 }

@@ -1,6 +1,7 @@
 //! The references of definitions, as far as they were listed.
-use crate::class_index::ClassIndex;
-use asn1_names::{Place, UsedName};
+use crate::class_index::{ClassIndex, is_known_class};
+use crate::references::{type_of_open_value, used_name};
+use asn1_names::UsedName;
 use asn1_notation::{NumberName, Parameter, Reference, Span, Type, TypeKind};
 use std::alloc::{AllocError, Global};
 use std::collections::HashSet;
@@ -63,25 +64,9 @@ impl<'a> Collector<'a> {
         reference.module.is_none() && self.parameters.contains(reference.name.octets(self.text))
     }
 
-    // The place of octets of the text that is passed.
-    fn place(&self, span: Span) -> Place {
-        Place {
-            text: self.index,
-            span,
-        }
-    }
-
     // A reference with its place.
     fn used(&self, reference: &Reference) -> UsedName<'a> {
-        UsedName {
-            module: self.module,
-            qualifier: match reference.module {
-                Some(module) => Some(module.octets(self.text)),
-                None => None,
-            },
-            name: reference.name.octets(self.text),
-            place: self.place(reference.name),
-        }
+        used_name(self.text, self.index, self.module, reference)
     }
 
     /// Adds a reference to a definition.
@@ -91,6 +76,23 @@ impl<'a> Collector<'a> {
             self.used.push(used)?;
         }
         Ok(())
+    }
+
+    /// Adds a reference to a type or a class, unless it is a class of the language.
+    pub(crate) fn refer_to_type(&mut self, reference: &Reference) -> Result<(), AllocError> {
+        if is_known_class(reference.name.octets(self.text)) {
+            Ok(())
+        } else {
+            self.refer(reference)
+        }
+    }
+
+    /// Adds the reference to the type of a value of an open type, if the name of an alternative is one.
+    pub(crate) fn refer_to_open_type(&mut self, name: Span) -> Result<(), AllocError> {
+        match type_of_open_value(self.text, name) {
+            Some(reference) => self.refer(&reference),
+            None => Ok(()),
+        }
     }
 
     /// Adds a name of the module that is passed, as a reference.

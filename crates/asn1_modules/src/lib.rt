@@ -6,6 +6,8 @@
 //! | [`collect_names`] | the names that the modules define, import and use, as `asn1_names` checks them |
 //! | [`NameMessages`] | the messages of what is wrong with names, with a name that may be meant for the first hundred |
 //! | [`standard_arc`] | the number of an arc that has a name of its own |
+//! | [`used_name`] | the definition that a reference is to; that of a type of the language which another defines is in a module apart |
+//! | [`type_of_open_value`] | the name of the type of a value of an open type |
 //! | [`ClassIndex`], [`FoundClass`], [`is_known_class`] | the information object classes, by their names |
 //!
 //! The contract of [`collect_names`] promises that the names of all definitions of all modules are listed, in the order of the
@@ -25,6 +27,7 @@
 #![tactic(auto)]
 
 mod arcs;
+mod associated;
 mod built_in;
 mod class_index;
 mod classes;
@@ -33,6 +36,7 @@ mod definitions;
 mod identifiers;
 mod messages;
 mod modules;
+mod references;
 mod source;
 mod types;
 mod values;
@@ -41,4 +45,5 @@ pub use arcs::standard_arc;
 pub use class_index::{ClassIndex, FoundClass, is_known_class};
 pub use messages::NameMessages;
 pub use modules::collect_names;
+pub use references::{type_of_open_value, used_name};
 pub use source::Source;

@@ -1,5 +1,4 @@
 //! The names in types and constraints.
-use crate::classes::refer_to_class;
 use crate::collector::Collector;
 use crate::values::{collect_end, collect_value};
 use asn1_notation::{
@@ -22,7 +21,7 @@ pub(crate) fn collect_type(
 #[cycle(collect_types)]
 fn collect_kind(collector: &mut Collector<'_>, kind: &TypeKind) -> Result<(), AllocError> {
     match kind {
-        TypeKind::Reference(reference) => collector.refer(reference),
+        TypeKind::Reference(reference) => collector.refer_to_type(reference),
         TypeKind::Integer(numbers) => collect_numbers(collector, numbers.as_slice()),
         TypeKind::BitString(numbers) => collect_numbers(collector, numbers.as_slice()),
         TypeKind::Enumerated(items) => collect_enumeration(collector, items.as_slice()),
@@ -36,7 +35,7 @@ fn collect_kind(collector: &mut Collector<'_>, kind: &TypeKind) -> Result<(), Al
             collect_type(collector, inner)
         }
         TypeKind::Selection(_, inner) => collect_type(collector, inner),
-        TypeKind::Field(class, _) => refer_to_class(collector, class),
+        TypeKind::Field(class, _) => collector.refer_to_type(class),
         TypeKind::Instance(reference, arguments) => {
             collector.refer(reference)?;
             collect_arguments(collector, arguments.as_slice())

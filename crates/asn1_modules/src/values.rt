@@ -12,7 +12,10 @@ pub(crate) fn collect_value(
     match &value.kind {
         ValueKind::Reference(reference) => collector.refer_or_name_item(reference),
         ValueKind::Arc(_, number) => collector.refer_to_number(number),
-        ValueKind::Alternative(_, value) => collect_value(collector, value),
+        ValueKind::Alternative(name, value) => {
+            collector.refer_to_open_type(*name)?;
+            collect_value(collector, value)
+        }
         ValueKind::List(items) => collect_list(collector, items.as_slice()),
         _ => Ok(()),
     }

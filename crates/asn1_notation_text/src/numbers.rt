@@ -20,7 +20,8 @@ pub(crate) fn print_reference(
         printer.push_span(module)?;
         printer.push(b".")?;
     }
-    printer.push_span(reference.name)
+    printer.push_span(reference.name)?;
+    printer.push_words_behind(reference.name)
 }
 
 /// Appends a number, or the name of a value.

@@ -1,4 +1,5 @@
 //! The text that is made.
+use crate::words::words_behind;
 use asn1_notation::Span;
 use std::alloc::{AllocError, Global};
 
@@ -34,6 +35,17 @@ impl<'a> Printer<'a> {
     pub(crate) fn push_span(&mut self, span: Span) -> Result<(), AllocError> {
         let octets = span.octets(self.source);
         self.push(octets)
+    }
+
+    // Appends the words behind the first in the name of a type of the language.
+    pub(crate) fn push_words_behind(&mut self, name: Span) -> Result<(), AllocError> {
+        let words = words_behind(name.octets(self.source));
+        self.push(words)
+    }
+
+    // Whether the octets of the source are these.
+    pub(crate) fn has(&self, span: Span, octets: &[u8]) -> bool {
+        span.octets(self.source) == octets
     }
 
     // Appends a separator, but before the first.

@@ -76,9 +76,10 @@ fn print_kind(printer: &mut Printer<'_>, kind: &TypeKind) -> Result<(), AllocErr
         }
         TypeKind::Instance(reference, arguments) => {
             print_reference(printer, reference)?;
-            printer.push(b" {")?;
+            let has_braces = !printer.has(reference.name, b"INSTANCE");
+            printer.push(if has_braces { b" {" } else { b" " })?;
             print_arguments(printer, arguments.as_slice())?;
-            printer.push(b"}")
+            printer.push(if has_braces { b"}" } else { b"" })
         }
         kind => print_plain_kind(printer, kind),
     }

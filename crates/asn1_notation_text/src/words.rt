@@ -26,6 +26,16 @@ pub fn type_word(kind: &TypeKind) -> &'static [u8] {
     }
 }
 
+/// The words behind the first in the name of a type of the language that another defines, with a space in front.
+pub(crate) fn words_behind(first: &[u8]) -> &'static [u8] {
+    match first {
+        b"EMBEDDED" => b" PDV",
+        b"CHARACTER" => b" STRING",
+        b"INSTANCE" => b" OF",
+        _ => b"",
+    }
+}
+
 // The word for a string of characters, or a time.
 fn string_word(kind: StringKind) -> &'static [u8] {
     match kind {

@@ -2,7 +2,7 @@
 
 use crate::names::{alternative_name, component_index};
 use crate::path::{Path, ScopeKind};
-use crate::place::{Limits, Place};
+use crate::place::{ElementTags, Limits, Place};
 use asn1_bounds::{Codec, Constraints};
 use asn1_components::{Choice, EnumeratedTable, FieldTable};
 use asn1_dec::{DecodeError, Decoder};
@@ -70,12 +70,14 @@ impl<D: Decoder> Decoder for PathDecoder<D> {
     }
 
     fn decode_bool(&mut self, tag: Tag) -> Result<bool, DecodeError> {
-        self.path.begin_element(Limits::NONE);
+        self.path
+            .begin_element(ElementTags::new(tag, Tag::BOOL), Limits::NONE);
         self.inner.decode_bool(tag)
     }
 
     fn decode_null(&mut self, tag: Tag) -> Result<(), DecodeError> {
-        self.path.begin_element(Limits::NONE);
+        self.path
+            .begin_element(ElementTags::new(tag, Tag::NULL), Limits::NONE);
         self.inner.decode_null(tag)
     }
 
@@ -83,12 +85,13 @@ impl<D: Decoder> Decoder for PathDecoder<D> {
         &mut self,
         tag: Tag,
     ) -> Result<isize, DecodeError> {
-        self.path.begin_element(Limits::NONE);
+        self.path
+            .begin_element(ElementTags::new(tag, Tag::ENUMERATED), Limits::NONE);
         self.inner.decode_enumerated_number::<E>(tag)
     }
 
     fn decode_object_identifier(&mut self, tag: Tag) -> Result<ObjectIdentifier, DecodeError> {
-        self.path.begin_element(Limits::NONE);
+        self.path.begin_element(ElementTags::new(tag, Tag::OBJECT_IDENTIFIER), Limits::NONE);
         self.inner.decode_object_identifier(tag)
     }
 
@@ -97,7 +100,10 @@ impl<D: Decoder> Decoder for PathDecoder<D> {
         tag: Tag,
         constraints: &Constraints<'_>,
     ) -> Result<I, DecodeError> {
-        self.path.begin_element(Limits::of_number(constraints));
+        self.path.begin_element(
+            ElementTags::new(tag, Tag::INTEGER),
+            Limits::of_number(constraints),
+        );
         self.inner.decode_integer(tag, constraints)
     }
 
@@ -106,12 +112,15 @@ impl<D: Decoder> Decoder for PathDecoder<D> {
         tag: Tag,
         constraints: &Constraints<'_>,
     ) -> Result<K::Owned, DecodeError> {
-        self.path.begin_element(Limits::of_size(constraints));
+        self.path.begin_element(
+            ElementTags::new(tag, K::table().tag),
+            Limits::of_size(constraints),
+        );
         self.inner.decode_string::<U, K>(tag, constraints)
     }
 
     fn decode_any(&mut self, tag: Tag) -> Result<Any, DecodeError> {
-        self.path.begin_element(Limits::NONE);
+        self.path.begin_untyped_element();
         self.inner.decode_any(tag)
     }
 
@@ -129,11 +138,14 @@ impl<D: Decoder> Decoder for PathDecoder<D> {
 
     fn open_group<C: FieldTable>(&mut self) -> Result<bool, DecodeError> {
         let presence = self.inner.open_group::<C>();
-        if let Ok(true) = presence {
-            self.path.begin_part();
-            self.path.open_components::<C>(ScopeKind::Group);
+        match presence {
+            Ok(true) => {
+                self.path.begin_part();
+                self.path.open_components::<C>(ScopeKind::Group);
+            }
+            Ok(false) => self.path.pass_part(),
+            Err(_) => self.path.reach_end(),
         }
-        self.path.pass_unless_present(&presence);
         presence
     }
 
@@ -143,7 +155,8 @@ impl<D: Decoder> Decoder for PathDecoder<D> {
     }
 
     fn open_sequence<C: FieldTable>(&mut self, tag: Tag) -> Result<(), DecodeError> {
-        self.path.begin_element(Limits::NONE);
+        self.path
+            .begin_element(ElementTags::new(tag, Tag::SEQUENCE), Limits::NONE);
         let opened = self.inner.open_sequence::<C>(tag);
         if opened.is_ok() {
             self.path.open_components::<C>(ScopeKind::Sequence);
@@ -152,7 +165,8 @@ impl<D: Decoder> Decoder for PathDecoder<D> {
     }
 
     fn open_set<C: FieldTable>(&mut self, tag: Tag) -> Result<usize, DecodeError> {
-        self.path.begin_element(Limits::NONE);
+        self.path
+            .begin_element(ElementTags::new(tag, Tag::SET), Limits::NONE);
         let opened = self.inner.open_set::<C>(tag);
         if opened.is_ok() {
             self.path.open_components::<C>(ScopeKind::Set);
@@ -174,7 +188,10 @@ impl<D: Decoder> Decoder for PathDecoder<D> {
         tag: Tag,
         constraints: &Constraints<'_>,
     ) -> Result<usize, DecodeError> {
-        self.path.begin_element(Limits::of_size(constraints));
+        self.path.begin_element(
+            ElementTags::new(tag, Tag::SEQUENCE),
+            Limits::of_size(constraints),
+        );
         let opened = self.inner.open_sequence_of(tag, constraints);
         if opened.is_ok() {
             self.path.open_scope(ScopeKind::Elements);
@@ -187,7 +204,10 @@ impl<D: Decoder> Decoder for PathDecoder<D> {
         tag: Tag,
         constraints: &Constraints<'_>,
     ) -> Result<usize, DecodeError> {
-        self.path.begin_element(Limits::of_size(constraints));
+        self.path.begin_element(
+            ElementTags::new(tag, Tag::SET),
+            Limits::of_size(constraints),
+        );
         let opened = self.inner.open_set_of(tag, constraints);
         if opened.is_ok() {
             self.path.open_scope(ScopeKind::Elements);
@@ -196,7 +216,7 @@ impl<D: Decoder> Decoder for PathDecoder<D> {
     }
 
     fn open_explicit_prefix(&mut self, tag: Tag) -> Result<(), DecodeError> {
-        self.path.begin_element(Limits::NONE);
+        self.path.begin_untyped_element();
         let opened = self.inner.open_explicit_prefix(tag);
         if opened.is_ok() {
             self.path.open_scope(ScopeKind::Tagged);

@@ -3,7 +3,7 @@
 //! | Item | What it is | In `specs/` |
 //! |---|---|---|
 //! | [`PathDecoder`] | a decoder that reads as another one does, and notes where in the value it is | `PathReader` |
-//! | [`Place`], [`Limits`] | the place: names of components and alternatives, elements before it, and the limits of the value there | |
+//! | [`Place`], [`ElementTags`], [`Limits`] | the place: names of components and alternatives, elements before it, tags and limits of what is due there | |
 //! | [`push_component_names`], [`alternative_name`] | the names that tables have | |
 //!
 //! A codec's error has no place in a value (docs/DECISIONS.md), and a type's error names one component at most. So who wants the place
@@ -20,4 +20,4 @@ mod place;
 
 pub use decoder::PathDecoder;
 pub use names::{alternative_name, push_component_names};
-pub use place::{Limits, Place};
+pub use place::{ElementTags, Limits, Place};

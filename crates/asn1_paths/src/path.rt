@@ -1,7 +1,7 @@
 //! The place of a reader in a value.
 
 use crate::names::push_component_names;
-use crate::place::{Limits, Place};
+use crate::place::{ElementTags, Limits, Place};
 use asn1_components::FieldTable;
 use asn1_dec::DecodeError;
 use std::alloc::{AllocError, Global};
@@ -53,7 +53,9 @@ pub(crate) struct Path {
     alloc: Global,
     scopes: Vec<Scope>,
     names: Vec<String>,
-    /// The limits of the element that was begun last.
+    /// The tags of the element that was begun last, if its type is known.
+    tags: Option<ElementTags>,
+    /// Its limits.
     limits: Limits,
     /// The element that is looked for: how many elements are before it in each element that it is inside of, from the outermost on.
     wanted: Option<Vec<usize>>,
@@ -68,6 +70,7 @@ impl Path {
             alloc,
             scopes: Vec::new(alloc),
             names: Vec::new(alloc),
+            tags: None,
             limits: Limits::NONE,
             wanted: None,
             found: None,
@@ -81,10 +84,20 @@ impl Path {
         path
     }
 
-    /// Goes to the next component or element, which is an element of the codec under these limits.
-    pub(crate) fn begin_element(&mut self, limits: Limits) {
+    /// Goes to the next component or element, which is an element of the codec with these tags, under these limits.
+    pub(crate) fn begin_element(&mut self, tags: ElementTags, limits: Limits) {
+        self.begin(Some(tags), limits);
+    }
+
+    /// Goes to the next component or element, which is an element of the codec. Its type is not known, or lies in an element inside.
+    pub(crate) fn begin_untyped_element(&mut self) {
+        self.begin(None, Limits::NONE);
+    }
+
+    fn begin(&mut self, tags: Option<ElementTags>, limits: Limits) {
         self.begin_part();
         self.count_element();
+        self.tags = tags;
         self.limits = limits;
         self.note_if_wanted();
     }
@@ -145,11 +158,12 @@ impl Path {
         match presence {
             Ok(true) => {}
             Ok(false) => self.pass_part(),
-            Err(_) => self.begin_element(Limits::NONE),
+            Err(_) => self.begin_untyped_element(),
         }
     }
 
-    fn pass_part(&mut self) {
+    /// Passes over the next component.
+    pub(crate) fn pass_part(&mut self) {
         if let Some(scope) = self.scopes.last_mut() {
             scope.next = scope.next.saturating_add(1);
         }
@@ -172,6 +186,12 @@ impl Path {
     /// Goes to a CHOICE, which is no element of its own.
     pub(crate) fn begin_choice(&mut self) {
         self.begin_part();
+        self.forget_element();
+    }
+
+    /// Forgets what is known of the element that was begun last.
+    fn forget_element(&mut self) {
+        self.tags = None;
         self.limits = Limits::NONE;
     }
 
@@ -210,10 +230,10 @@ impl Path {
         let _ = push_component_names::<C>(self.alloc, &mut self.names);
     }
 
-    /// Goes behind all components and elements that were read in the innermost scope.
+    /// Goes behind all components and elements that were read in the innermost scope, to an element that has no name.
     pub(crate) fn reach_end(&mut self) {
         self.set_current(None);
-        self.limits = Limits::NONE;
+        self.forget_element();
         if self
             .scopes
             .last()
@@ -235,6 +255,7 @@ impl Path {
         Ok(Place {
             path: self.text()?,
             element_numbers: self.element_numbers()?,
+            tags: self.tags,
             limits: self.limits,
         })
     }

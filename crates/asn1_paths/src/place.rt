@@ -1,6 +1,7 @@
 //! A place in a value.
 
 use asn1_bounds::Constraints;
+use asn1_tags::Tag;
 
 /// A place in a value at which reading came to an end.
 #[derive(Debug, Drop)]
@@ -10,8 +11,25 @@ pub struct Place {
     pub path: String,
     /// How many elements are before it in each element that it is inside of, from the outermost on.
     pub element_numbers: Vec<usize>,
+    /// The tags of the element that is due there, if its type is known.
+    pub tags: Option<ElementTags>,
     /// The limits of the value that is read there.
     pub limits: Limits,
+}
+
+/// The tags of an element that is due.
+#[derive(Clone, Copy, Debug, PartialEq, Eq)]
+pub struct ElementTags {
+    /// The tag with which it begins.
+    pub own: Tag,
+    /// The tag of the universal class of its type (X.680, 8.4, table 1), in whose place an implicit tag stands.
+    pub universal: Tag,
+}
+
+impl ElementTags {
+    pub(crate) fn new(own: Tag, universal: Tag) -> ElementTags {
+        ElementTags { own, universal }
+    }
 }
 
 /// The ends of the numbers, or of the numbers of units, that a type has.

@@ -41,6 +41,7 @@ fn type_file_of(
         asn1_name: plan.text(owner.asn1_name)?,
         summary: plan.text(owner.summary)?,
         body,
+        lists: None,
     })
 }
 

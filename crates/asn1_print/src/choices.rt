@@ -58,6 +58,7 @@ pub(crate) fn alternative_with(
         tagging,
         tree,
         is_null,
+        held: None,
     })
 }
 

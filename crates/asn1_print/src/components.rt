@@ -129,6 +129,7 @@ pub(crate) fn component_with(
         tagging,
         usage,
         is_addition,
+        held: None,
     })
 }
 
@@ -184,6 +185,7 @@ pub(crate) fn group_component(
         tagging: Tagging::Untagged,
         usage: asn1_rust_components::Usage::Group(constant),
         is_addition: true,
+        held: None,
     })
 }
 

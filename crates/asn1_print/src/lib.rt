@@ -8,6 +8,7 @@
 //! |---|---|
 //! | [`print_crate`] | the files of a crate |
 //! | [`print_program`] | the program that converts values of its types |
+//! | [`list_types`], [`ListedType`] | the names of its types |
 //! | [`Request`], [`Extern`] | a schema with its texts, and the types that exist already |
 //! | [`Printed`], [`PrintedFile`] | the files, and what cannot be printed |
 //! | [`rust_name`] | the name of a type |
@@ -37,5 +38,5 @@ mod values;
 
 pub use plan::rust_name;
 pub use printing::print_crate;
-pub use program::print_program;
+pub use program::{ListedType, list_types, print_program};
 pub use request::{Extern, Printed, PrintedFile, Request};

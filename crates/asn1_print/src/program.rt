@@ -6,13 +6,19 @@ use asn1_rust_names::TakenNames;
 use std::alloc::{AllocError, Global};
 use std::fmt::Write;
 
-// A type of the program.
+/// A type that a crate has.
 #[derive(Drop)]
-struct ListedType {
-    // The name by which a user asks for it.
-    name: String,
-    // The name in Rust.
-    rust_name: String,
+pub struct ListedType {
+    /// The name in ASN.1; where two modules have one name, the second with a number.
+    pub name: String,
+    /// The name in Rust.
+    pub rust_name: String,
+}
+
+/// The types of a schema that do not exist already. The error is that of memory.
+pub fn list_types(alloc: Global, request: Request<'_, '_>) -> Result<Vec<ListedType>, AllocError> {
+    let plan = plan_of(alloc, request)?;
+    listed_types(&plan)
 }
 
 /// The program that converts values of the types of a schema, as a file beside the folder of their crate.

@@ -27,8 +27,6 @@ pub struct TypeDefinition<'a> {
     pub origin: Origin,
     /// The type.
     pub definition: Type<'a>,
-    /// Whether the type is that of a template with arguments.
-    pub is_completed: bool,
     /// The names of the arguments, if it is no definition.
     pub arguments: Vec<Vec<u8>>,
 }

@@ -88,6 +88,7 @@ impl<'a> Resolver<'_, 'a> {
         depth: usize,
     ) -> Result<Meant, Fault> {
         self.require_arguments(named, template)?;
+        self.require_class(named)?;
         let key = self.key_of(named, index, depth)?;
         match self.instances.find(key.as_slice()) {
             Some(known) => Ok(Meant::Instance(known)),
@@ -220,6 +221,17 @@ impl<'a> Resolver<'_, 'a> {
         ))
     }
 
+    // Refuses INSTANCE OF a class that is not TYPE-IDENTIFIER (X.681, annex C).
+    fn require_class(&mut self, named: Use<'a>) -> Result<(), Fault> {
+        let is_instance_of = matches!(named.scope.octets(named.reference.name), b"INSTANCE");
+        match named.arguments {
+            [Argument::Type(definition)] if is_instance_of => {
+                self.require_known_class(named.scope, definition)
+            }
+            _ => Ok(()),
+        }
+    }
+
     // Appends a number to a key.
     fn push_number(&mut self, key: &mut Vec<u8>, number: usize) -> Result<(), AllocError> {
         let text = format!(in self.alloc; "{number} ")?;
@@ -300,6 +312,10 @@ impl<'a> Resolver<'_, 'a> {
         scope: Scope<'a>,
         reference: &Reference,
     ) -> Result<(), Fault> {
+        if self.is_of_language(scope, *reference) {
+            key.extend_from_slice(b"C ")?;
+            return Ok(());
+        }
         if let Some(start) = self.start_of_class(scope, *reference) {
             key.push(b'C')?;
             self.push_number(key, start.0)?;

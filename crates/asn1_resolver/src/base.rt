@@ -192,12 +192,24 @@ impl<'a> Resolver<'_, 'a> {
         }
     }
 
-    // Whether a type with none behind it is the open type of a field.
-    fn is_open(&mut self, governed: Governed<'a>) -> Result<bool, Fault> {
+    /// Whether a type with none behind it is an open type.
+    pub(crate) fn is_open(&mut self, governed: Governed<'a>) -> Result<bool, Fault> {
         match &governed.definition.kind {
+            TypeKind::Any(_) => Ok(true),
             TypeKind::Field(class, names) => {
                 let field = self.field_type(governed.scope, class, names.as_slice())?;
                 Ok(matches!(field, FieldType::Open))
+            }
+            _ => Ok(false),
+        }
+    }
+
+    /// Whether a type with none behind it is the identifier of a class of the language.
+    pub(crate) fn is_identifier(&mut self, governed: Governed<'a>) -> Result<bool, Fault> {
+        match &governed.definition.kind {
+            TypeKind::Field(class, names) => {
+                let field = self.field_type(governed.scope, class, names.as_slice())?;
+                Ok(matches!(field, FieldType::ObjectIdentifier))
             }
             _ => Ok(false),
         }
@@ -210,7 +222,7 @@ impl<'a> Resolver<'_, 'a> {
         for _ in 0..self.most_steps() {
             let scope = current.scope;
             current = match &current.definition.kind {
-                TypeKind::Choice(_) | TypeKind::Any(_) => return Ok(true),
+                TypeKind::Choice(_) => return Ok(true),
                 TypeKind::Selection(name, inner) => {
                     let choice = self.base(Governed {
                         scope,

@@ -102,13 +102,7 @@ fn list_source<'a>(
         ++ flat_map (types_defined_in index) source.entry.modules.now) }
 {
     for (module_index, module) in source.modules.iter().enumerate() {
-        let scope = Scope {
-            text: source.text,
-            source: index,
-            name: module.name.octets(source.text),
-            module,
-            instance: None,
-        };
+        let scope = Scope::of(source.text, index, module);
         list_module(definitions, scope, module_index)?;
     }
     Ok(())

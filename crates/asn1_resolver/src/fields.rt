@@ -167,6 +167,34 @@ impl<'a> Resolver<'_, 'a> {
         self.find_class(scope, reference).is_some()
     }
 
+    /// Refuses what is no class of the language, by its own name or another.
+    pub(crate) fn require_known_class(
+        &mut self,
+        scope: Scope<'a>,
+        definition: &'a Type,
+    ) -> Result<(), Fault> {
+        let TypeKind::Reference(class) = &definition.kind else {
+            return Ok(());
+        };
+        match self.find_class(scope, *class) {
+            Some(Fields::Known) => Ok(()),
+            Some(Fields::Listed(_, _)) => Err(self.refuse(
+                scope.place(class.name),
+                &[
+                    b"INSTANCE OF is of TYPE-IDENTIFIER, and '",
+                    scope.octets(class.name),
+                    b"' is another class",
+                ],
+            )),
+            None => Err(self.refuse_class(scope, class)),
+        }
+    }
+
+    /// Whether a name is one of a class of the language.
+    pub(crate) fn is_of_language(&self, scope: Scope<'a>, reference: Reference) -> bool {
+        matches!(self.find_class(scope, reference), Some(Fields::Known))
+    }
+
     /// The text and the offset of the definition of a class.
     pub(crate) fn start_of_class(
         &self,
@@ -220,13 +248,7 @@ impl<'a> Resolver<'_, 'a> {
 
 // The module of a class.
 fn scope_of(found: FoundClass<'_>) -> Scope<'_> {
-    Scope {
-        text: found.text,
-        source: found.source,
-        name: found.module.name.octets(found.text),
-        module: found.module,
-        instance: None,
-    }
+    Scope::of(found.text, found.source, found.module)
 }
 
 // The contents of the field of this name.

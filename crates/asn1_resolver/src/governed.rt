@@ -2,8 +2,9 @@
 ghost use Rattle.std.specs.Prelude.{◌≡◌};
 ghost use Rattle.asn1_modules.specs.Places.{place_in};
 
-use asn1_names::Place;
-use asn1_notation::{Module, Span, Type, Value};
+use asn1_modules::used_name;
+use asn1_names::{Place, UsedName};
+use asn1_notation::{Module, Reference, Span, Type, Value};
 
 /// A module of a text.
 #[derive(Clone, Copy)]
@@ -21,6 +22,25 @@ pub(crate) struct Scope<'a> {
 }
 
 impl<'a> Scope<'a> {
+    /// A module of the text with this index, outside all templates.
+    pub(crate) fn of(text: &'a [u8], source: usize, module: &'a Module) -> Scope<'a>
+        ensures source { result.source ≡ source }
+        ensures module { result.«module».now ≡ «module».now }
+    {
+        Scope {
+            text,
+            source,
+            name: module.name.octets(text),
+            module,
+            instance: None,
+        }
+    }
+
+    /// A reference in the module, as a name.
+    pub(crate) fn used_name(self, reference: &Reference) -> UsedName<'a> {
+        used_name(self.text, self.source, self.name, reference)
+    }
+
     /// The same module, with the arguments of the instance of this index.
     pub(crate) fn within(self, instance: usize) -> Scope<'a> {
         Scope {

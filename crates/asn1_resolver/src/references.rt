@@ -33,7 +33,7 @@ impl<'a> Resolver<'_, 'a> {
             &self.type_finder,
             self.definitions.types.as_slice(),
             self.names.imported.as_slice(),
-            &used_name(scope, reference),
+            &scope.used_name(reference),
         )
     }
 
@@ -47,7 +47,7 @@ impl<'a> Resolver<'_, 'a> {
             &self.template_finder,
             self.definitions.templates.as_slice(),
             self.names.imported.as_slice(),
-            &used_name(scope, reference),
+            &scope.used_name(reference),
         )
     }
 
@@ -107,7 +107,7 @@ impl<'a> Resolver<'_, 'a> {
             &self.value_finder,
             self.definitions.values.as_slice(),
             self.names.imported.as_slice(),
-            &used_name(scope, reference),
+            &scope.used_name(reference),
         )
     }
 
@@ -165,7 +165,7 @@ impl<'a> Resolver<'_, 'a> {
         if let Some(index) = self.index_of_template(scope, reference) {
             return self.refuse_bare(scope, reference, index);
         }
-        let used = NameProblem::Undefined(used_name(scope, reference));
+        let used = NameProblem::Undefined(scope.used_name(reference));
         match self.name_text(&used) {
             Ok(text) => self.refuse(place, &[text.as_slice()]),
             Err(_) => Fault::Memory,
@@ -174,7 +174,7 @@ impl<'a> Resolver<'_, 'a> {
 
     // The kind of a name that is neither that of a type nor of a value.
     fn other_kind(&self, scope: Scope<'a>, reference: &Reference) -> Option<&'static str> {
-        let used = used_name(scope, reference);
+        let used = scope.used_name(reference);
         if self.class_of_name(scope, reference).is_some() {
             Some("is an information object class")
         } else if self
@@ -221,19 +221,6 @@ impl<'a> Resolver<'_, 'a> {
         let mut text = Vec::new(self.alloc);
         self.messages.append(&mut text, problem)?;
         Ok(text)
-    }
-}
-
-// The name of a reference, with its module.
-fn used_name<'a>(scope: Scope<'a>, reference: &Reference) -> UsedName<'a> {
-    UsedName {
-        module: scope.name,
-        qualifier: match reference.module {
-            Some(module) => Some(scope.octets(module)),
-            None => None,
-        },
-        name: scope.octets(reference.name),
-        place: scope.place(reference.name),
     }
 }
 

@@ -209,7 +209,6 @@ impl<'a> Resolver<'_, 'a> {
             place: defined.place,
             origin: defined.origin,
             definition,
-            is_completed: body.is_some(),
             arguments: Vec::new(self.alloc),
         })
     }

@@ -35,13 +35,7 @@ impl<'a> Resolver<'_, 'a> {
         let mut classes = HashSet::new(self.alloc);
         for (index, source) in sources.iter().enumerate() {
             for module in source.modules {
-                let scope = Scope {
-                    text: source.text,
-                    source: index,
-                    name: module.name.octets(source.text),
-                    module,
-                    instance: None,
-                };
+                let scope = Scope::of(source.text, index, module);
                 for assignment in &module.assignments {
                     self.report_definition(scope, assignment, &mut classes)?;
                 }

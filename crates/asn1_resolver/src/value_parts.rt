@@ -248,7 +248,7 @@ impl<'a> Resolver<'_, 'a> {
         let ValueKind::Reference(reference) = &written.value.kind else {
             return Ok(());
         };
-        if suits(&base.definition.kind, value) {
+        if suits(&base.definition.kind, value) || self.suits_field(base, value)? {
             return Ok(());
         }
         let scope = written.scope;
@@ -258,6 +258,15 @@ impl<'a> Resolver<'_, 'a> {
             scope.octets(reference.name),
             word,
         ))
+    }
+
+    // Whether a value is one of a field of a class that has no tree of its own.
+    fn suits_field(&mut self, base: Governed<'a>, value: &Value<'a>) -> Result<bool, Fault> {
+        match value {
+            Value::ObjectIdentifier(_) => self.is_identifier(base),
+            Value::Alternative(_, _) => self.is_open(base),
+            _ => Ok(false),
+        }
     }
 
     /// Refuses a value that leads to no end.

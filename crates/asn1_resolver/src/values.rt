@@ -4,7 +4,7 @@ use crate::fault::Fault;
 use crate::followed::Followed;
 use crate::governed::{Governed, Scope, Written};
 use crate::resolver::Resolver;
-use asn1_modules::standard_arc;
+use asn1_modules::{standard_arc, type_of_open_value};
 use asn1_notation::{ComponentItem, ListItem, Span, Type, TypeKind, ValueKind};
 use asn1_resolved::{ComponentValue, Value};
 
@@ -75,7 +75,11 @@ impl<'a> Resolver<'_, 'a> {
             ValueKind::List(values) => { self.list_value(base, written, values.as_slice(), depth) }
             ValueKind::Alternative(name, value) => {
                 let scope = written.scope;
-                self.alternative_value(base, scope, *name, value, depth)
+                if self.is_open(base)? {
+                    self.open_value(base, *name, Written { scope, value }, depth)
+                } else {
+                    self.alternative_value(base, scope, *name, value, depth)
+                }
             }
             _ => self.plain_literal(base, written),
         }
@@ -111,7 +115,13 @@ impl<'a> Resolver<'_, 'a> {
                 self.bits_value(base.scope, bits.as_slice(), written, values)
             }
             TypeKind::String(_) => self.characters_value(base, written, values, depth),
-            _ => Err(self.refuse_kind(base, written)),
+            _ => {
+                if self.is_identifier(base)? {
+                    self.identifier_value(base, written, values, depth)
+                } else {
+                    Err(self.refuse_kind(base, written))
+                }
+            }
         }
     }
 
@@ -199,6 +209,50 @@ impl<'a> Resolver<'_, 'a> {
         let value = self.inner_value(listed.governed(), Written { scope, value }, depth)?;
         let value = Box::new(self.alloc, value)?;
         Ok(Value::Alternative(listed.name(), value))
+    }
+
+    // The value of an open type, of the type that stands as the name of an alternative.
+    #[cycle(values)]
+    fn open_value(
+        &mut self,
+        base: Governed<'a>,
+        name: Span,
+        written: Written<'a>,
+        depth: usize,
+    ) -> Result<Value<'a>, Fault> {
+        let scope = written.scope;
+        let value = match type_of_open_value(scope.text, name) {
+            Some(reference) => {
+                let governed = self.referenced(scope, &reference)?;
+                self.inner_value(governed, written, depth)?
+            }
+            None => self.word_value(base, scope.octets(name), written, depth)?,
+        };
+        let value = Box::new(self.alloc, value)?;
+        Ok(Value::Alternative(scope.octets(name), value))
+    }
+
+    // The value of the type of the language with this word.
+    #[cycle(values)]
+    fn word_value(
+        &mut self,
+        base: Governed<'a>,
+        word: &[u8],
+        written: Written<'a>,
+        depth: usize,
+    ) -> Result<Value<'a>, Fault> {
+        let value = match &written.value.kind {
+            ValueKind::Reference(reference) => {
+                let (governed, referenced) = self.find_value(written.scope, reference)?;
+                self.inner_value(governed, referenced, depth)?
+            }
+            ValueKind::List(values) => {
+                self.identifier_value(base, written, values.as_slice(), depth)?
+            }
+            _ => self.literal_of_word(word, written)?,
+        };
+        self.require_word(word, written, &value)?;
+        Ok(value)
     }
 
     // The arcs of an object identifier.

@@ -61,6 +61,7 @@ impl<'a> Resolver<'_, 'a> {
         let governed = self.behind_parameters(governed);
         let scope = governed.scope;
         match &governed.definition.kind {
+            TypeKind::Reference(reference) if self.is_class(scope, *reference) => Ok(()),
             TypeKind::Reference(reference) => self.push_word(words, scope.octets(reference.name)),
             TypeKind::Instance(reference, arguments) => {
                 self.push_word(words, scope.octets(reference.name))?;

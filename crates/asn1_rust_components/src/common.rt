@@ -1,5 +1,5 @@
 //! The parts that types of each kind have.
-use crate::definitions::TypeFile;
+use crate::definitions::{PARAMETER, TypeFile};
 use asn1_rust_code::{Draft, ListStyle, TypeName};
 use std::alloc::AllocError;
 
@@ -12,6 +12,20 @@ pub struct Table<'a> {
     pub call: &'a str,
     /// Its arguments.
     pub arguments: &'a [String],
+}
+
+/// The first line of the `impl` of a trait for a type; for each `T` with this bound, if the type has the parameter.
+pub fn impl_line(
+    draft: &Draft,
+    trait_name: &str,
+    name: &str,
+    bound: &str,
+) -> Result<String, AllocError> {
+    if name.ends_with(PARAMETER) {
+        format!(in draft.alloc(); "impl<T: {bound}> {trait_name} for {name} {{")
+    } else {
+        format!(in draft.alloc(); "impl {trait_name} for {name} {{")
+    }
 }
 
 /// Appends `AsnType`.
@@ -33,9 +47,10 @@ pub fn append_type(draft: &mut Draft, name: &str, table: &Table<'_>) -> Result<(
 pub fn append_table_head(draft: &mut Draft, name: &str, meaning: &str) -> Result<(), AllocError> {
     draft.use_names(&["AsnType", "Identifier", "TypeTable"])?;
     draft.use_signs(&["codes"])?;
+    let head = impl_line(draft, "AsnType", name, "AsnType")?;
+    draft.line(0, head.as_str())?;
     draft.text(format!(in draft.alloc();
-        "impl AsnType for {name} {{
-    ghost meaning = {{ {meaning} }};
+        "    ghost meaning = {{ {meaning} }};
 
     fn table() -> TypeTable {{
 "
@@ -65,9 +80,10 @@ pub fn append_agreement(
 ) -> Result<(), AllocError> {
     draft.use_names(&[law])?;
     draft.use_words(&[word])?;
+    let head = impl_line(draft, law, name, "AsnType")?;
+    draft.line(0, head.as_str())?;
     draft.text(format!(in draft.alloc();
-        "impl {law} for {name} {{
-    ghost agrees = {{ {word} }};
+        "    ghost agrees = {{ {word} }};
 }}
 
 "
@@ -106,9 +122,10 @@ pub fn append_encode(
         "Identifier",
         "Tag",
     ])?;
+    let head = impl_line(draft, "Encode", name, "Encode")?;
+    draft.line(0, head.as_str())?;
     draft.text(format!(in draft.alloc();
-        "impl Encode for {name} {{
-    fn encode_with_tag_and_constraints<E: Encoder>(
+        "    fn encode_with_tag_and_constraints<E: Encoder>(
         &self,
         encoder: &mut E,
         tag: Tag,
@@ -131,9 +148,10 @@ pub fn append_decode(
     call: &str,
 ) -> Result<(), AllocError> {
     draft.use_names(&["Constraints", "Decode", "DecodeError", "Decoder", "Tag"])?;
+    let head = impl_line(draft, "Decode", name, "Decode")?;
+    draft.line(0, head.as_str())?;
     draft.text(format!(in draft.alloc();
-        "impl Decode for {name} {{
-    fn decode_with_tag_and_constraints<D: Decoder>(
+        "    fn decode_with_tag_and_constraints<D: Decoder>(
         decoder: &mut D,
         tag: Tag,
         {constraints}: &Constraints<'_>,

@@ -113,8 +113,8 @@ pub fn append_group(
     )?)
 }
 
-// Appends the struct.
-fn append_struct(draft: &mut Draft, subject: Subject<'_>) -> Result<(), AllocError> {
+/// Appends the struct.
+pub fn append_struct(draft: &mut Draft, subject: Subject<'_>) -> Result<(), AllocError> {
     let summary = subject.file.summary.as_str();
     let name = subject.file.name.as_str();
     let end = if subject.body.components.is_empty() {
@@ -185,15 +185,26 @@ fn append_meaning(draft: &mut Draft, subject: Subject<'_>) -> Result<(), AllocEr
             )?
         }
     };
+    append_meaning_of(draft, subject, meaning.as_str())
+}
+
+/// Appends `AsnType` of a SEQUENCE or a SET with this meaning.
+pub fn append_meaning_of(
+    draft: &mut Draft,
+    subject: Subject<'_>,
+    meaning: &str,
+) -> Result<(), AllocError> {
+    let alloc = draft.alloc();
+    let asn1_name = subject.file.asn1_name.as_str();
     let tag = draft.tag_code(tag_of(subject))?;
     let identifier = format!(in alloc; "Identifier(Some(\"{asn1_name}\"))")?;
     let arguments = [tag, identifier];
     let table = Table {
-        meaning: meaning.as_str(),
+        meaning,
         call: "TypeTable::new",
         arguments: arguments.as_slice(),
     };
-    append_type(draft, name, &table)
+    append_type(draft, subject.file.name.as_str(), &table)
 }
 
 // The tag of a type.

@@ -10,7 +10,7 @@ pub struct TypeFile {
     pub page: Vec<String>,
     /// The module that it is.
     pub module: String,
-    /// The name of the type in Rust.
+    /// The name of the type in Rust, with its parameter if it has one, as `CallOf<T>`.
     pub name: String,
     /// The name in ASN.1.
     pub asn1_name: String,
@@ -18,7 +18,20 @@ pub struct TypeFile {
     pub summary: String,
     /// The type.
     pub body: TypeBody,
+    /// The module of `specs/` with its lists, if the type has a parameter: it is of a circle of types.
+    pub lists: Option<String>,
 }
+
+impl TypeFile {
+    /// The name of the type without its parameter.
+    pub fn plain_name(&self) -> &str {
+        let name = self.name.as_str();
+        name.strip_suffix(PARAMETER).unwrap_or(name)
+    }
+}
+
+/// The parameter of a type of a circle, behind its name.
+pub(crate) const PARAMETER: &str = "<T>";
 
 /// A type with a file of its own.
 #[derive(Drop)]
@@ -69,6 +82,26 @@ pub struct Component {
     pub usage: Usage,
     /// Whether it is behind the extension marker.
     pub is_addition: bool,
+    /// How its type holds the parameter of the type that it is in, if it does.
+    pub held: Option<Held>,
+}
+
+/// How a type holds the parameter of a type of a circle: by itself or in a type of the circle, inside lists.
+#[derive(Drop)]
+pub struct Held {
+    /// The lists, the outermost first.
+    pub lists: Vec<ListKind>,
+    /// The module of the type of the circle; the type is the parameter itself if there is none.
+    pub member: Option<String>,
+}
+
+/// A kind of list.
+#[derive(Clone, Copy, Debug, PartialEq, Eq)]
+pub enum ListKind {
+    /// SEQUENCE OF.
+    SequenceOf,
+    /// SET OF.
+    SetOf,
 }
 
 /// Whether a component may be absent.
@@ -134,6 +167,8 @@ pub struct Alternative {
     pub tree: Tree,
     /// Whether its type is NULL, under a name of its own too.
     pub is_null: bool,
+    /// How its type holds the parameter of the type that it is in, if it does.
+    pub held: Option<Held>,
 }
 
 /// An ENUMERATED.

@@ -15,6 +15,8 @@
 //! | [`append_sequence`], [`append_set`], [`append_group`] | the code of a type of components |
 //! | [`append_type`], [`append_table_head`], [`append_table_tail`], [`append_agreement`], [`append_theorem`], [`append_encode`], [`append_decode`] | the parts of each type |
 //! | [`append_trees`], [`tree_code`], [`constant_of`], [`append_entry`] | constants of trees, and lists in ghost members |
+//! | [`append_struct`], [`append_slots`], [`append_layout`], [`append_full`], [`append_table_of`] and the like | their parts |
+//! | [`impl_line`] | the first line of an `impl` |
 //! | [`identifier_code`], [`owned`] | the call that names a type, and texts |
 //! | [`alias_file`], [`marker_file`], [`constant_file`] | files that are no type |
 //!
@@ -36,12 +38,17 @@ pub use aliases::{
 };
 pub use common::{
     Table, append_agreement, append_decode, append_encode, append_table_head, append_table_tail,
-    append_theorem, append_type, identifier_code, owned,
+    append_theorem, append_type, identifier_code, impl_line, owned,
 };
-pub use constructed::{Kind, Subject, append_group, append_sequence, append_set};
+pub use constructed::{
+    Kind, Subject, append_group, append_meaning_of, append_sequence, append_set, append_struct,
+};
 pub use definitions::{
-    Alternative, ChoiceType, Component, Constructed, DefaultValue, Enumeration, Item,
-    RestrictedString, Sizes, Tree, TypeBody, TypeFile, Usage,
+    Alternative, ChoiceType, Component, Constructed, DefaultValue, Enumeration, Held, Item,
+    ListKind, RestrictedString, Sizes, Tree, TypeBody, TypeFile, Usage,
 };
-pub use slots::append_entry;
+pub use reader::{append_full, append_plain_arm};
+pub use slots::{append_entry, append_layout, append_slots, slot_path};
+pub use table::append_table_of;
 pub use trees::{append_trees, constant_of, tree_code};
+pub use writer::append_field_writer;

@@ -29,8 +29,8 @@ pub(crate) fn append_reader(draft: &mut Draft, subject: Subject<'_>) -> Result<(
     draft.blank()
 }
 
-// Appends the call that makes a value of filled slots.
-fn append_full(draft: &mut Draft, components: &[Component]) -> Result<(), AllocError> {
+/// Appends the call that makes a value of filled slots.
+pub fn append_full(draft: &mut Draft, components: &[Component]) -> Result<(), AllocError> {
     let alloc = draft.alloc();
     let allocator = if components.iter().any(needs_memory) {
         "alloc"
@@ -156,6 +156,16 @@ fn append_decode_field(draft: &mut Draft, subject: Subject<'_>) -> Result<(), Al
     draft.line(3, "_ => Ok(()),")?;
     draft.line(2, "}")?;
     draft.line(1, "}")
+}
+
+/// Appends the line that reads a component of a SEQUENCE.
+pub fn append_plain_arm(
+    draft: &mut Draft,
+    component: &Component,
+    index: usize,
+    slot: &str,
+) -> Result<(), AllocError> {
+    append_reading_arm(draft, Kind::Sequence, component, index, slot)
 }
 
 // Appends the line that reads a component.

@@ -7,7 +7,7 @@ use std::alloc::{AllocError, Global};
 const PARTS: usize = 12;
 
 /// The slot of the component with an index, of this many.
-pub(crate) fn slot_path(alloc: Global, index: usize, count: usize) -> Result<String, AllocError> {
+pub fn slot_path(alloc: Global, index: usize, count: usize) -> Result<String, AllocError> {
     if count <= PARTS {
         return format!(in alloc; "{index}");
     }
@@ -17,7 +17,7 @@ pub(crate) fn slot_path(alloc: Global, index: usize, count: usize) -> Result<Str
 }
 
 /// Appends the tuple of slots. It has tuples of twelve in it, if there are more.
-pub(crate) fn append_slots(draft: &mut Draft, components: &[Component]) -> Result<(), AllocError> {
+pub fn append_slots(draft: &mut Draft, components: &[Component]) -> Result<(), AllocError> {
     let alloc = draft.alloc();
     let mut slots = Vec::new(alloc);
     for component in components {
@@ -45,7 +45,7 @@ pub(crate) fn append_slots(draft: &mut Draft, components: &[Component]) -> Resul
 }
 
 /// Appends the list of components with their slots.
-pub(crate) fn append_layout(draft: &mut Draft, components: &[Component]) -> Result<(), AllocError> {
+pub fn append_layout(draft: &mut Draft, components: &[Component]) -> Result<(), AllocError> {
     draft.use_signs(&["[]"])?;
     if components.is_empty() {
         draft.line(1, "ghost layout = { [] };")?;

@@ -1,5 +1,5 @@
 //! The table of a type of components.
-use crate::common::{owned, quoted};
+use crate::common::{impl_line, owned, quoted};
 use crate::constructed::{Kind, Subject, reading_trait};
 use crate::definitions::{Component, Usage};
 use asn1_rust_code::{Draft, TagNumber, Tagging};
@@ -8,25 +8,36 @@ use std::alloc::AllocError;
 // The number of columns that are left of a line of the table.
 const OPENING_WIDTH: usize = 88;
 
-/// Appends the table of a type.
+/// Appends the table of a type, with its own list of components.
 pub(crate) fn append_table(draft: &mut Draft, subject: Subject<'_>) -> Result<(), AllocError> {
-    let alloc = draft.alloc();
     let name = subject.file.name.as_str();
-    draft.use_names(&["Field", "FieldTable"])?;
     let word = components_word(subject);
     draft.use_words(&[word])?;
     let reader = reading_trait(subject.kind);
-    let (word, index) = match subject.body.extension_index {
-        Some(index) => (
-            format!(in alloc; "{word} {index}")?,
-            format!(in alloc; "Some({index})")?,
-        ),
-        None => (owned(draft, word)?, owned(draft, "None")?),
+    let list = match subject.body.extension_index {
+        Some(index) => format!(in draft.alloc(); "{word} {index} ⟦<{name} as {reader}>⟧.layout")?,
+        None => format!(in draft.alloc(); "{word} ⟦<{name} as {reader}>⟧.layout")?,
+    };
+    append_table_of(draft, subject, list.as_str())
+}
+
+/// Appends the table of a type with this list of components.
+pub fn append_table_of(
+    draft: &mut Draft,
+    subject: Subject<'_>,
+    list: &str,
+) -> Result<(), AllocError> {
+    let alloc = draft.alloc();
+    draft.use_names(&["Field", "FieldTable"])?;
+    let index = match subject.body.extension_index {
+        Some(index) => format!(in alloc; "Some({index})")?,
+        None => owned(draft, "None")?,
     };
     let count = subject.body.components.len();
+    let head = impl_line(draft, "FieldTable", subject.file.name.as_str(), "AsnType")?;
+    draft.line(0, head.as_str())?;
     draft.text(format!(in alloc;
-        "impl FieldTable for {name} {{
-    ghost components = {{ {word} ⟦<{name} as {reader}>⟧.layout }};
+        "    ghost components = {{ {list} }};
 
     fn field_count() -> usize {{
         {count}

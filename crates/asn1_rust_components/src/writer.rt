@@ -1,19 +1,17 @@
 //! How components are written.
-use crate::common::{identifier_code, owned};
+use crate::common::{identifier_code, impl_line, owned};
 use crate::constructed::Subject;
 use crate::definitions::{Component, Usage};
 use asn1_rust_code::{Draft, ListStyle, TagNumber, Tagging};
 use std::alloc::{AllocError, Global};
 
 /// Appends `EncodeFields`.
-pub(crate) fn append_field_writer(
-    draft: &mut Draft,
-    subject: Subject<'_>,
-) -> Result<(), AllocError> {
+pub fn append_field_writer(draft: &mut Draft, subject: Subject<'_>) -> Result<(), AllocError> {
     let name = subject.file.name.as_str();
     let components = subject.body.components.as_slice();
     draft.use_names(&["Encode", "EncodeError", "EncodeFields", "Encoder"])?;
-    draft.text(format!(in draft.alloc(); "impl EncodeFields for {name} {{\n")?)?;
+    let head = impl_line(draft, "EncodeFields", name, "Encode")?;
+    draft.line(0, head.as_str())?;
     if components.is_empty() {
         draft.line(
             1,

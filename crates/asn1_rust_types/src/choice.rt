@@ -3,8 +3,8 @@ use crate::variants::{same_cases, use_variants};
 use asn1_rust_code::{Draft, ListStyle, TagNumber, Tagging};
 use asn1_rust_components::{
     Alternative, ChoiceType, Table, Tree, TypeFile, append_agreement, append_decode, append_encode,
-    append_entry, append_theorem, append_trees, append_type, constant_of, identifier_code, owned,
-    tree_code,
+    append_entry, append_theorem, append_trees, append_type, constant_of, identifier_code,
+    impl_line, owned, tree_code,
 };
 use std::alloc::AllocError;
 
@@ -13,11 +13,11 @@ const FEW: usize = 8;
 
 /// A CHOICE with its file.
 #[derive(Clone, Copy)]
-pub(crate) struct ChoiceSubject<'a> {
+pub struct ChoiceSubject<'a> {
     /// The file.
-    pub(crate) file: &'a TypeFile,
+    pub file: &'a TypeFile,
     /// The type.
-    pub(crate) body: &'a ChoiceType,
+    pub body: &'a ChoiceType,
 }
 
 /// Appends a CHOICE.
@@ -27,15 +27,9 @@ pub(crate) fn append_choice(
 ) -> Result<(), AllocError> {
     let name = subject.file.name.as_str();
     append_enum(draft, subject)?;
-    let mut trees = Vec::new(draft.alloc());
-    for alternative in &subject.body.alternatives {
-        trees.push(tree_code(draft, &alternative.tree)?)?;
-    }
-    draft.line(0, "/// The trees of the alternatives.")?;
-    append_trees(draft, subject.file, trees.as_slice())?;
     append_reader(draft, subject)?;
-    append_trees_of_choice(draft, subject)?;
-    append_meaning(draft, subject)?;
+    append_own_trees(draft, subject)?;
+    append_own_meaning(draft, subject)?;
     append_agreement(draft, name, "ChoiceType", "choice_agrees")?;
     append_theorem(draft, subject.file)?;
     append_encode(
@@ -44,7 +38,7 @@ pub(crate) fn append_choice(
         "constraints",
         "encoder.encode_choice_with_tag(tag, constraints, self, name)",
     )?;
-    append_writer(draft, subject)?;
+    append_choice_writer(draft, subject)?;
     append_decode(
         draft,
         name,
@@ -63,8 +57,8 @@ impl DecodeChoice for {name} {{
     )?)
 }
 
-// Appends the enum.
-fn append_enum(draft: &mut Draft, subject: ChoiceSubject<'_>) -> Result<(), AllocError> {
+/// Appends the enum, and the constant with the trees of its alternatives.
+pub fn append_enum(draft: &mut Draft, subject: ChoiceSubject<'_>) -> Result<(), AllocError> {
     let alloc = draft.alloc();
     let summary = subject.file.summary.as_str();
     let name = subject.file.name.as_str();
@@ -86,7 +80,13 @@ pub enum {name} {{
     }
     draft.line(0, "}")?;
     draft.blank()?;
-    use_variants(draft, subject.file, variants.as_slice())
+    use_variants(draft, subject.file, variants.as_slice())?;
+    let mut trees = Vec::new(alloc);
+    for alternative in &subject.body.alternatives {
+        trees.push(tree_code(draft, &alternative.tree)?)?;
+    }
+    draft.line(0, "/// The trees of the alternatives.")?;
+    append_trees(draft, subject.file, trees.as_slice())
 }
 
 // Appends `DecodeChoiceByIndex`.
@@ -137,8 +137,8 @@ fn is_behind_tag(alternative: &Alternative) -> bool {
     matches!(alternative.tagging, Tagging::Explicit(_))
 }
 
-// Appends the list of alternatives with their variants.
-fn append_cases(draft: &mut Draft, alternatives: &[Alternative]) -> Result<(), AllocError> {
+/// Appends the list of alternatives with their variants.
+pub fn append_cases(draft: &mut Draft, alternatives: &[Alternative]) -> Result<(), AllocError> {
     draft.use_signs(&["[]", "codes", "◌∷◌"])?;
     draft.use_words(&["variant"])?;
     for (index, alternative) in alternatives.iter().enumerate() {
@@ -174,8 +174,8 @@ fn append_case_of(draft: &mut Draft, alternatives: &[Alternative]) -> Result<(),
     draft.blank()
 }
 
-// Appends the law that a value is what its variant makes.
-fn append_made(draft: &mut Draft, alternatives: &[Alternative]) -> Result<(), AllocError> {
+/// Appends the law that a value is what its variant makes.
+pub fn append_made(draft: &mut Draft, alternatives: &[Alternative]) -> Result<(), AllocError> {
     let alloc = draft.alloc();
     draft.use_signs(&["refl"])?;
     let mut variants = Vec::new(alloc);
@@ -234,35 +234,49 @@ macro_rules! read {{
     )?)
 }
 
-// Appends `Choice`.
-fn append_trees_of_choice(draft: &mut Draft, subject: ChoiceSubject<'_>) -> Result<(), AllocError> {
+// Appends `Choice` of a type with its own list.
+fn append_own_trees(draft: &mut Draft, subject: ChoiceSubject<'_>) -> Result<(), AllocError> {
     let alloc = draft.alloc();
     let name = subject.file.name.as_str();
-    draft.use_names(&["Choice", "TagTree"])?;
-    let constant = constant_of(draft, subject.file)?;
-    let (word, root, additions) = match subject.body.extension_index {
+    let list = match subject.body.extension_index {
         Some(index) => {
             draft.use_words(&["extensible_choice_after"])?;
-            (
-                format!(in alloc; "extensible_choice_after {index}")?,
-                format!(in alloc; "&{constant}[..{index}]")?,
-                format!(in alloc; "Some(&{constant}[{index}..])")?,
-            )
+            format!(in alloc;
+                "extensible_choice_after {index} ⟦<{name} as DecodeChoiceByIndex>⟧.cases"
+            )?
         }
         None => {
             draft.use_words(&["choice_of_cases"])?;
-            (
-                owned(draft, "choice_of_cases")?,
-                constant,
-                owned(draft, "None")?,
-            )
+            format!(in alloc; "choice_of_cases ⟦<{name} as DecodeChoiceByIndex>⟧.cases")?
         }
     };
-    draft.text(format!(in alloc;
-        "impl Choice for {name} {{
-    ghost alternatives = {{ {word} ⟦<{name} as DecodeChoiceByIndex>⟧.cases }};
+    let pick = format!(in alloc; "⟦<{name} as DecodeChoiceByIndex>⟧.case_of")?;
+    append_trees_of_choice(draft, subject, list.as_str(), pick.as_str())
+}
 
-    ghost pick = {{ ⟦<{name} as DecodeChoiceByIndex>⟧.case_of }};
+/// Appends `Choice` of a type with this list, and this choice of an alternative.
+pub fn append_trees_of_choice(
+    draft: &mut Draft,
+    subject: ChoiceSubject<'_>,
+    list: &str,
+    pick: &str,
+) -> Result<(), AllocError> {
+    let alloc = draft.alloc();
+    draft.use_names(&["Choice", "TagTree"])?;
+    let constant = constant_of(draft, subject.file)?;
+    let (root, additions) = match subject.body.extension_index {
+        Some(index) => (
+            format!(in alloc; "&{constant}[..{index}]")?,
+            format!(in alloc; "Some(&{constant}[{index}..])")?,
+        ),
+        None => (constant, owned(draft, "None")?),
+    };
+    let head = impl_line(draft, "Choice", subject.file.name.as_str(), "AsnType")?;
+    draft.line(0, head.as_str())?;
+    draft.text(format!(in alloc;
+        "    ghost alternatives = {{ {list} }};
+
+    ghost pick = {{ {pick} }};
 
     fn variants() -> &'static [TagTree<'static>] {{
         {root}
@@ -295,33 +309,47 @@ fn append_identifiers(draft: &mut Draft, alternatives: &[Alternative]) -> Result
     draft.line(1, "}")
 }
 
-// Appends `AsnType`.
-fn append_meaning(draft: &mut Draft, subject: ChoiceSubject<'_>) -> Result<(), AllocError> {
-    let alloc = draft.alloc();
+// Appends `AsnType` of a type with its own list.
+fn append_own_meaning(draft: &mut Draft, subject: ChoiceSubject<'_>) -> Result<(), AllocError> {
     let name = subject.file.name.as_str();
     let asn1_name = subject.file.asn1_name.as_str();
     draft.use_words(&["choice_of"])?;
-    let meaning = format!(in alloc;
+    let meaning = format!(in draft.alloc();
         "choice_of (codes \"{asn1_name}\") ⟦<{name} as Choice>⟧.alternatives ⟦<{name} as Choice>⟧.pick"
     )?;
+    append_choice_meaning(draft, subject, meaning.as_str())
+}
+
+/// Appends `AsnType` of a CHOICE with this meaning.
+pub fn append_choice_meaning(
+    draft: &mut Draft,
+    subject: ChoiceSubject<'_>,
+    meaning: &str,
+) -> Result<(), AllocError> {
+    let alloc = draft.alloc();
+    let asn1_name = subject.file.asn1_name.as_str();
     let identifier = format!(in alloc; "Identifier(Some(\"{asn1_name}\"))")?;
     let constant = constant_of(draft, subject.file)?;
     let arguments = [identifier, constant];
     let table = Table {
-        meaning: meaning.as_str(),
+        meaning,
         call: "TypeTable::choice",
         arguments: arguments.as_slice(),
     };
-    append_type(draft, name, &table)
+    append_type(draft, subject.file.name.as_str(), &table)
 }
 
-// Appends `EncodeChoice`.
-fn append_writer(draft: &mut Draft, subject: ChoiceSubject<'_>) -> Result<(), AllocError> {
+/// Appends `EncodeChoice`.
+pub fn append_choice_writer(
+    draft: &mut Draft,
+    subject: ChoiceSubject<'_>,
+) -> Result<(), AllocError> {
     let name = subject.file.name.as_str();
     draft.use_names(&["EncodeChoice"])?;
+    let head = impl_line(draft, "EncodeChoice", name, "Encode")?;
+    draft.line(0, head.as_str())?;
     draft.text(format!(in draft.alloc();
-        "impl EncodeChoice for {name} {{
-    fn chosen_tag(&self) -> Tag {{
+        "    fn chosen_tag(&self) -> Tag {{
         match self {{
 "
     )?)?;

@@ -97,14 +97,14 @@ fn import_order(alloc: Global, modules: &[ModuleNames]) -> Result<Vec<usize>, Al
     Ok(indices)
 }
 
-// Appends the lines that pass on the names of a module, unless it is public itself.
+// Appends the lines that pass on the names of a module, unless it is public itself or has none.
 fn append_module_names(
     alloc: Global,
     code: &mut Code,
     module: &ModuleNames,
     is_long: bool,
 ) -> Result<(), AllocError> {
-    if module.is_public {
+    if module.is_public || module.names.is_empty() {
         Ok(())
     } else if is_long {
         append_each_name(alloc, code, module)

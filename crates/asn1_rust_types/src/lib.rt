@@ -4,6 +4,7 @@
 //! |---|---|
 //! | [`type_file`] | the file of a type (`TypeFile` of `asn1_rust_components`) |
 //! | [`root_file`], [`ModuleNames`] | the root file of a crate |
+//! | [`append_enum`], [`append_choice_writer`] and the like | the parts of a CHOICE |
 //! | [`proof_files`], [`ProofFile`] | the proofs that the check does not find by itself |
 //!
 //! The text is in the layout of `rt fmt`. No contract covers it: the check of the printed crate proves it. Calls fail only if
@@ -17,5 +18,10 @@ mod proofs;
 mod restricted_string;
 mod variants;
 
+pub use choice::{
+    ChoiceSubject, append_cases, append_choice_meaning, append_choice_writer, append_enum,
+    append_made, append_trees_of_choice,
+};
 pub use files::{ModuleNames, root_file, type_file};
 pub use proofs::{ProofFile, proof_files};
+pub use variants::use_variants;

@@ -55,7 +55,7 @@ fn push_choice_proof(
 // Whether the check may not prove the writer of the only alternative by itself. It does behind an explicit tag, where the answer
 // would not hold, and names that are one could not be told apart there.
 fn needs_answer(file: &TypeFile, only: &Alternative) -> bool {
-    !matches!(only.tagging, Tagging::Explicit(_)) && only.variant.as_str() != file.name.as_str()
+    !matches!(only.tagging, Tagging::Explicit(_)) && only.variant.as_str() != file.plain_name()
 }
 
 // Appends the proof of the arms of a writer of alternatives.
@@ -143,7 +143,7 @@ fn tree_proof(alloc: Global, file: &TypeFile, wanted: TreeAnswer) -> Result<Proo
         answer,
     } = wanted;
     let module = file.module.as_str();
-    let name = file.name.as_str();
+    let name = file.plain_name();
     let crate_name = file.crate_name.as_str();
     Ok(ProofFile {
         path: format!(in alloc; "proofs/{module}/{name}{trait_name}/{function}/Answers.antt")?,
@@ -264,7 +264,7 @@ fn only_proof(alloc: Global, file: &TypeFile, only: &Alternative) -> Result<Proo
     let (call, clause) = call_of_alternative(only);
     let variant = only.variant.as_str();
     let module = file.module.as_str();
-    let name = file.name.as_str();
+    let name = file.plain_name();
     let crate_name = file.crate_name.as_str();
     Ok(ProofFile {
         path: format!(in alloc;
@@ -303,7 +303,7 @@ fn push_writer_proof(
         function,
     } = writer;
     let module = file.module.as_str();
-    let name = file.name.as_str();
+    let name = file.plain_name();
     let crate_name = file.crate_name.as_str();
     let mut text = format!(in alloc;
         "use Rattle.{crate_name}.proofs.{module}.{name}{trait_name}.{function}.Goals as goal\n"

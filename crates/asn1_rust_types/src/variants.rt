@@ -4,7 +4,7 @@ use asn1_rust_components::TypeFile;
 use std::alloc::{AllocError, Global};
 
 /// Brings in the variants of a type for its clauses.
-pub(crate) fn use_variants(
+pub fn use_variants(
     draft: &mut Draft,
     file: &TypeFile,
     variants: &[&str],
@@ -13,7 +13,7 @@ pub(crate) fn use_variants(
     let variants = joined(alloc, variants, ", ")?;
     let crate_name = file.crate_name.as_str();
     let module = file.module.as_str();
-    let name = file.name.as_str();
+    let name = file.plain_name();
     let line = format!(in alloc;
         "ghost use Rattle.{crate_name}.specs.declared.{module}.{name}.TheVariants.{{{variants}}};"
     )?;

@@ -2,7 +2,7 @@
 use crate::errors::{append_errors, append_position, append_problems};
 use crate::rust_names::{append_forms, append_taken};
 use crate::work::{Text, Work};
-use asn1_grammar::{Parsed, parse};
+use asn1_grammar::{AssociatedModule, Parsed, associated_modules, parse};
 use asn1_module_check::{check_extensible_choices, check_tags};
 use asn1_modules::{NameMessages, Source, collect_names};
 use asn1_names::check_names;
@@ -80,11 +80,9 @@ fn printed(alloc: Global, text: &[u8], parsed: &Parsed) -> Result<Vec<u8>, Alloc
 fn answer_names(alloc: Global, out: &mut Vec<u8>, text: &[u8]) -> io::Result<()> {
     let parsed = parse(alloc, text)?;
     append_errors(alloc, out, text, &parsed.errors)?;
-    let source = Source {
-        text,
-        modules: &parsed.modules,
-    };
-    let names = collect_names(alloc, &[source])?;
+    let parsed = [parsed];
+    let associated = associated_modules(alloc, &parsed)?;
+    let names = collect_names(alloc, &sources_of(alloc, text, &parsed, &associated)?)?;
     let mut messages = NameMessages::new(alloc, &names)?;
     for problem in &check_names(alloc, &names)? {
         append_position(out, text, problem.place().span.start)?;
@@ -94,15 +92,36 @@ fn answer_names(alloc: Global, out: &mut Vec<u8>, text: &[u8]) -> io::Result<()>
     Ok(())
 }
 
+// A text with its modules, and those that define types of the language.
+fn sources_of<'a>(
+    alloc: Global,
+    text: &'a [u8],
+    parsed: &'a [Parsed],
+    associated: &'a [AssociatedModule],
+) -> Result<Vec<Source<'a>>, AllocError> {
+    let mut sources = Vec::new(alloc);
+    for part in parsed {
+        sources.push(Source {
+            text,
+            modules: &part.modules,
+        })?;
+    }
+    for part in associated {
+        sources.push(Source {
+            text: part.text,
+            modules: &part.modules,
+        })?;
+    }
+    Ok(sources)
+}
+
 // Appends the errors of a text, and the problems of its modules; or that there is no error.
 fn answer_schema(alloc: Global, out: &mut Vec<u8>, text: &[u8]) -> io::Result<()> {
     let parsed = parse(alloc, text)?;
     append_errors(alloc, out, text, &parsed.errors)?;
-    let source = Source {
-        text,
-        modules: &parsed.modules,
-    };
-    let resolution = resolve(alloc, &[source])?;
+    let parsed = [parsed];
+    let associated = associated_modules(alloc, &parsed)?;
+    let resolution = resolve(alloc, &sources_of(alloc, text, &parsed, &associated)?)?;
     append_problems(out, text, &resolution.problems)?;
     if !resolution.is_accepted() {
         return Ok(());

@@ -16,6 +16,12 @@ decreases-elements_value l = 16 * l.depth + 3
 abbrev pub decreases-alternative_value : goal.decreases-alternative_value
 decreases-alternative_value l = 16 * l.depth + 3
 
+abbrev pub decreases-open_value : goal.decreases-open_value
+decreases-open_value l = 16 * l.depth + 6
+
+abbrev pub decreases-word_value : goal.decreases-word_value
+decreases-word_value l = 16 * l.depth + 5
+
 abbrev pub decreases-identifier_value : goal.decreases-identifier_value
 decreases-identifier_value l = 16 * l.depth + 4
 
@@ -23,7 +29,7 @@ abbrev pub decreases-list_value : goal.decreases-list_value
 decreases-list_value l = 16 * l.depth + 5
 
 abbrev pub decreases-literal : goal.decreases-literal
-decreases-literal l = 16 * l.depth + 6
+decreases-literal l = 16 * l.depth + 7
 
 abbrev pub decreases-characters_value : goal.decreases-characters_value
 decreases-characters_value l = 16 * l.depth + 3

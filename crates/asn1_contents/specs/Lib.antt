@@ -1,0 +1,2 @@
+pub mod ContentsTypes
+pub mod RelativeOids

@@ -1,0 +1,3 @@
+pub mod ExprTags
+pub mod CategoryTags
+pub mod ChainTags

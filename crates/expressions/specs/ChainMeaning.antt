@@ -1,0 +1,77 @@
+-- The meaning of `Chain`.
+use Rattle.std.specs.Prelude.{◌≡◌, ◌↔◌, ℕ, ⊤, Bool, List, codes, refl}
+use Rattle.std.proofs.Common.{◌∙◌}
+use Rattle.asn1_circles.specs.Words.{Alternatives, IsMadeOf, KnotLaws, KnotOf, Meaning, MeansTheSame, OneOf, Record, all_of, choice_itself, choice_knot, inner, itself_at_all, knot_is_made, knot_meaning, level, of_type_to, same_at_all, valid_to, well_formed_alone, write_choice, written}
+use Rattle.expressions.specs.ChainLists.{chain_of_alternatives, chain_of_pick, chain_of_meaning}
+use Rattle.expressions.specs.declared.chain.Chain.{Chain as Knot, Chain-F as Knot-F, out-Chain as out-Knot, fold-Chain as fold-Knot, fold_out-Chain as fold_out-Knot, map-Chain as map-Knot}
+use Rattle.expressions.specs.declared.chain_of.ChainOf.{ChainOf}
+use Rattle.expressions.specs.declared.chain_of.ChainOf.TheVariants.{End as chain_of-End, Link as chain_of-Link}
+
+abbrev pub alternatives : (V : Type 0) → Meaning V → Alternatives
+alternatives V m = chain_of_alternatives m
+
+abbrev pub pick : (V : Type 0) (m : Meaning V) → ChainOf V → OneOf (all_of (alternatives V m))
+pick V m v = chain_of_pick m v
+
+-- the value in the box
+abbrev pub in_knot : Knot → ChainOf Knot
+in_knot v = (out-Knot v).0.value
+
+-- the records inside a value
+abbrev write : Knot-F (List Record) → List Record
+write f = write_choice (codes "Chain") alternatives pick f.0.value
+
+abbrev pub inside : Knot → List Record
+inside = fold-Knot (List Record) write
+
+abbrev pub knot : KnotOf Knot ChainOf
+knot = choice_knot (codes "Chain") alternatives pick in_knot inside
+
+-- a value inside another: as it means by itself, and where it has been written
+abbrev pub within : Meaning Knot
+within = inner knot
+
+abbrev already : Meaning (List Record)
+already = written (choice_itself (codes "Chain") alternatives pick)
+
+-- a whole value, where those inside it have been written
+abbrev mapped : Knot-F Knot → ChainOf Knot → ChainOf (List Record)
+mapped f v = (map-Knot Knot (List Record) inside (record f { 0 = record f.0 { value = v } })).0.value
+
+-- the meaning of a value inside another down to a depth
+abbrev type_level : ℕ → Meaning Knot
+type_level n = level knot (of_type_to knot n) (well_formed_alone knot)
+
+abbrev valid_level : ℕ → Meaning Knot
+valid_level n = level knot (λ _. ⊤) (valid_to knot n)
+
+chain_of_of_type : (v : ChainOf Knot) → ((n : ℕ) → (chain_of_meaning (type_level n)).IsOfType v) ↔ (chain_of_meaning within).IsOfType v
+chain_of_of_type (chain_of-End v) = same_at_all
+chain_of_of_type (chain_of-Link v) = itself_at_all
+
+chain_of_valid : (accepts : List ℕ → Bool) (v : ChainOf Knot) → ((n : ℕ) → (chain_of_meaning (valid_level n)).IsValid accepts v) ↔ (chain_of_meaning within).IsValid accepts v
+chain_of_valid accepts (chain_of-End v) = same_at_all
+chain_of_valid accepts (chain_of-Link v) = itself_at_all
+
+same_records : (f : Knot-F Knot) (v : ChainOf Knot) → write (map-Knot Knot (List Record) inside (record f { 0 = record f.0 { value = v } })) ≡ (knot.content Knot within v).records
+same_records f (chain_of-End v0) = refl
+same_records f (chain_of-Link v0) = refl
+
+pub laws : KnotLaws knot
+laws = record {
+  of_type = chain_of_of_type;
+  valid_inside = chain_of_valid;
+  records = λ v. fold_out-Knot (List Record) write v ∙ same_records (out-Knot v) (out-Knot v).0.value;
+}
+
+-- The meaning of the type.
+abbrev pub meaning : Meaning Knot
+meaning = knot_meaning (codes "Chain") alternatives pick in_knot inside laws
+
+unrolled : (v : ChainOf Knot) → MeansTheSame (knot.content Knot within v) (knot.content Knot meaning v)
+unrolled (chain_of-End v) = record { records = refl; of_type = (λ h. h, λ h. h); valid = λ _. (λ h. h, λ h. h) }
+unrolled (chain_of-Link v) = record { records = refl; of_type = (λ h. h, λ h. h); valid = λ _. (λ h. h, λ h. h) }
+
+-- It is the meaning of what a value is made of.
+pub is_made : IsMadeOf in_knot meaning (chain_of_meaning meaning)
+is_made = knot_is_made (codes "Chain") alternatives pick in_knot inside laws refl unrolled

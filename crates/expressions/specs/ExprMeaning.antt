@@ -1,0 +1,110 @@
+-- The meaning of `Expr`.
+use Rattle.std.specs.Prelude.{◌≡◌, ◌↔◌, [], ◌∷◌, ℕ, ⊤, Bool, List, Option, None, Some, codes, flat_map, refl}
+use Rattle.std.proofs.Common.{◌∙◌}
+use Rattle.asn1_circles.specs.Words.{Alternatives, IsMadeOf, KnotLaws, KnotOf, Meaning, MeansTheSame, OneOf, Record, Vec, all_of, both_at_all, choice_itself, choice_knot, each_by, flat_map-map, if_some_by, inner, itself_at_all, knot_is_made, knot_meaning, level, list_by, list_meaning, of_first, of_some, of_type_to, own_records, same_at_all, set_meaning, valid_to, well_formed_alone, write_choice, written}
+use Rattle.expressions.specs.ExprLists.{call_has_then, call_has_rest, call_meaning, expr_of_alternatives, expr_of_pick, expr_of_meaning}
+use Rattle.expressions.specs.declared.expr.Expr.{Expr as Knot, Expr-F as Knot-F, out-Expr as out-Knot, fold-Expr as fold-Knot, fold_out-Expr as fold_out-Knot, map-Expr as map-Knot}
+use Rattle.expressions.specs.declared.call.CallOf.{CallOf}
+use Rattle.expressions.specs.declared.expr_of.ExprOf.{ExprOf}
+use Rattle.expressions.specs.declared.expr_of.ExprOf.TheVariants.{Number as expr_of-Number, Sum as expr_of-Sum, Call as expr_of-Call, Not as expr_of-Not}
+
+abbrev pub alternatives : (V : Type 0) → Meaning V → Alternatives
+alternatives V m = expr_of_alternatives m
+
+abbrev pub pick : (V : Type 0) (m : Meaning V) → ExprOf V → OneOf (all_of (alternatives V m))
+pick V m v = expr_of_pick m v
+
+-- the value in the box
+abbrev pub in_knot : Knot → ExprOf Knot
+in_knot v = (out-Knot v).0.value
+
+-- the records inside a value
+abbrev write : Knot-F (List Record) → List Record
+write f = write_choice (codes "Expr") alternatives pick f.0.value
+
+abbrev pub inside : Knot → List Record
+inside = fold-Knot (List Record) write
+
+abbrev pub knot : KnotOf Knot ExprOf
+knot = choice_knot (codes "Expr") alternatives pick in_knot inside
+
+-- a value inside another: as it means by itself, and where it has been written
+abbrev pub within : Meaning Knot
+within = inner knot
+
+abbrev already : Meaning (List Record)
+already = written (choice_itself (codes "Expr") alternatives pick)
+
+-- a whole value, where those inside it have been written
+abbrev mapped : Knot-F Knot → ExprOf Knot → ExprOf (List Record)
+mapped f v = (map-Knot Knot (List Record) inside (record f { 0 = record f.0 { value = v } })).0.value
+
+-- the meaning of a value inside another down to a depth
+abbrev type_level : ℕ → Meaning Knot
+type_level n = level knot (of_type_to knot n) (well_formed_alone knot)
+
+abbrev valid_level : ℕ → Meaning Knot
+valid_level n = level knot (λ _. ⊤) (valid_to knot n)
+
+call_of_type : (v : CallOf Knot) → ((n : ℕ) → (call_meaning (type_level n)).IsOfType v) ↔ (call_meaning within).IsOfType v
+call_of_type v = both_at_all (same_at_all) (both_at_all (each_by (λ n. (type_level n).IsOfType) (within.IsOfType) (λ e1. itself_at_all) v.args.items) (both_at_all (if_some_by (λ n. (type_level n).IsOfType) (within.IsOfType) (λ x. itself_at_all) v.then) (both_at_all (same_at_all) (both_at_all (if_some_by (λ n. (set_meaning (list_meaning (type_level n))).IsOfType) ((set_meaning (list_meaning within)).IsOfType) (λ x. each_by (λ n. (list_meaning (type_level n)).IsOfType) ((list_meaning within).IsOfType) (λ e1. each_by (λ n. (type_level n).IsOfType) (within.IsOfType) (λ e2. itself_at_all) e1.items) x) v.rest) (same_at_all)))))
+
+expr_of_of_type : (v : ExprOf Knot) → ((n : ℕ) → (expr_of_meaning (type_level n)).IsOfType v) ↔ (expr_of_meaning within).IsOfType v
+expr_of_of_type (expr_of-Number v) = same_at_all
+expr_of_of_type (expr_of-Sum v) = each_by (λ n. (type_level n).IsOfType) (within.IsOfType) (λ e1. itself_at_all) v.items
+expr_of_of_type (expr_of-Call v) = call_of_type v
+expr_of_of_type (expr_of-Not v) = itself_at_all
+
+call_valid : (accepts : List ℕ → Bool) (v : CallOf Knot) → ((n : ℕ) → (call_meaning (valid_level n)).IsValid accepts v) ↔ (call_meaning within).IsValid accepts v
+call_valid accepts v = both_at_all (same_at_all) (both_at_all (each_by (λ n. (valid_level n).IsValid accepts) (within.IsValid accepts) (λ e1. itself_at_all) v.args.items) (both_at_all (if_some_by (λ n. (valid_level n).IsValid accepts) (within.IsValid accepts) (λ x. itself_at_all) v.then) (both_at_all (same_at_all) (both_at_all (if_some_by (λ n. (set_meaning (list_meaning (valid_level n))).IsValid accepts) ((set_meaning (list_meaning within)).IsValid accepts) (λ x. each_by (λ n. (list_meaning (valid_level n)).IsValid accepts) ((list_meaning within).IsValid accepts) (λ e1. each_by (λ n. (valid_level n).IsValid accepts) (within.IsValid accepts) (λ e2. itself_at_all) e1.items) x) v.rest) (same_at_all)))))
+
+expr_of_valid : (accepts : List ℕ → Bool) (v : ExprOf Knot) → ((n : ℕ) → (expr_of_meaning (valid_level n)).IsValid accepts v) ↔ (expr_of_meaning within).IsValid accepts v
+expr_of_valid accepts (expr_of-Number v) = same_at_all
+expr_of_valid accepts (expr_of-Sum v) = each_by (λ n. (valid_level n).IsValid accepts) (within.IsValid accepts) (λ e1. itself_at_all) v.items
+expr_of_valid accepts (expr_of-Call v) = call_valid accepts v
+expr_of_valid accepts (expr_of-Not v) = itself_at_all
+
+abbrev of-expr_of-Call : ((CallOf (List Record)) → List Record) → ExprOf (List Record) → List Record
+of-expr_of-Call g (expr_of-Call v) = g v
+of-expr_of-Call g _ = []
+
+same_records-Call-then : (f : Knot-F Knot) (v0 : (CallOf Knot)) (o : Option Knot) → (of-expr_of-Call (call_has_then already).records) (mapped f ((expr_of-Call (record v0 { then = o })))) ≡ (call_has_then within).records (record v0 { then = o })
+same_records-Call-then f v0 None = refl
+same_records-Call-then f v0 (Some v1) = refl
+
+same_records-Call-rest-elements-each : (f : Knot-F Knot) (v0 : (CallOf Knot)) (v1 : (List (Vec Knot))) (v2 : (List (Vec Knot))) (v3 : (Vec Knot)) → (of-expr_of-Call (λ x. of_some ((of_first ((own_records (list_meaning already))))) x.rest)) (mapped f ((expr_of-Call (record v0 { rest = Some (v3 ∷ []) })))) ≡ own_records (list_meaning within) v3
+same_records-Call-rest-elements-each f v0 v1 v2 v3 = rw (flat_map-map (own_records already) inside v3.items) refl
+
+same_records-Call-rest-elements : (f : Knot-F Knot) (v0 : (CallOf Knot)) (v1 : (List (Vec Knot))) (v2 : (List (Vec Knot))) → (of-expr_of-Call (λ x. of_some ((flat_map (own_records (list_meaning already)))) x.rest)) (mapped f ((expr_of-Call (record v0 { rest = Some v2 })))) ≡ flat_map (own_records (list_meaning within)) v2
+same_records-Call-rest-elements f v0 v1 v2 = list_by (own_records (list_meaning already)) (own_records (list_meaning within)) _ (λ v3. same_records-Call-rest-elements-each f v0 v1 v2 v3) v2
+
+same_records-Call-rest : (f : Knot-F Knot) (v0 : (CallOf Knot)) (o : Option (List (Vec Knot))) → (of-expr_of-Call (call_has_rest already).records) (mapped f ((expr_of-Call (record v0 { rest = o })))) ≡ (call_has_rest within).records (record v0 { rest = o })
+same_records-Call-rest f v0 None = refl
+same_records-Call-rest f v0 (Some v1) = rw (same_records-Call-rest-elements f v0 v1 v1) refl
+
+same_records : (f : Knot-F Knot) (v : ExprOf Knot) → write (map-Knot Knot (List Record) inside (record f { 0 = record f.0 { value = v } })) ≡ (knot.content Knot within v).records
+same_records f (expr_of-Number v0) = refl
+same_records f (expr_of-Sum v0) = rw (flat_map-map (own_records already) inside v0.items) refl
+same_records f (expr_of-Call v0) = rw (same_records-Call-then f v0 v0.then, same_records-Call-rest f v0 v0.rest, flat_map-map (own_records already) inside v0.args.items) refl
+same_records f (expr_of-Not v0) = refl
+
+pub laws : KnotLaws knot
+laws = record {
+  of_type = expr_of_of_type;
+  valid_inside = expr_of_valid;
+  records = λ v. fold_out-Knot (List Record) write v ∙ same_records (out-Knot v) (out-Knot v).0.value;
+}
+
+-- The meaning of the type.
+abbrev pub meaning : Meaning Knot
+meaning = knot_meaning (codes "Expr") alternatives pick in_knot inside laws
+
+unrolled : (v : ExprOf Knot) → MeansTheSame (knot.content Knot within v) (knot.content Knot meaning v)
+unrolled (expr_of-Number v) = record { records = refl; of_type = (λ h. h, λ h. h); valid = λ _. (λ h. h, λ h. h) }
+unrolled (expr_of-Sum v) = record { records = refl; of_type = (λ h. h, λ h. h); valid = λ _. (λ h. h, λ h. h) }
+unrolled (expr_of-Call v) = record { records = refl; of_type = (λ h. h, λ h. h); valid = λ _. (λ h. h, λ h. h) }
+unrolled (expr_of-Not v) = record { records = refl; of_type = (λ h. h, λ h. h); valid = λ _. (λ h. h, λ h. h) }
+
+-- It is the meaning of what a value is made of.
+pub is_made : IsMadeOf in_knot meaning (expr_of_meaning meaning)
+is_made = knot_is_made (codes "Expr") alternatives pick in_knot inside laws refl unrolled

@@ -1,0 +1,9 @@
+pub mod ExprLists
+pub mod ExprMeaning
+pub mod ExprReading
+pub mod CategoryLists
+pub mod CategoryMeaning
+pub mod CategoryReading
+pub mod ChainLists
+pub mod ChainMeaning
+pub mod ChainReading

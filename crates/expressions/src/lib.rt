@@ -1,0 +1,29 @@
+//! Types that hold themselves, of the module `Expressions` (examples/modules/expressions.asn1), in the form that `asn1_circles` is for.
+//!
+//! `Expr` is one circle with `Call` and `Terms`, cut at `Expr`; `Category` holds itself in a list, `Chain` in a box. Each circle has one
+//! recursive type, a box of an ordinary type with a parameter. `asn1_compile` does not print such types yet, so these files are kept by hand.
+#![tactic(auto, using(asn1_schema::proofs::Trees::tree_shapes))]
+
+mod aliases;
+mod call;
+mod category;
+mod category_of;
+mod category_parts;
+mod category_reader;
+mod chain;
+mod chain_of;
+mod chain_parts;
+mod chain_reader;
+mod expr;
+mod expr_of;
+mod expr_parts;
+mod expr_reader;
+
+pub use aliases::{Call, Terms};
+pub use call::CallOf;
+pub use category::{Category, category_is_well_tagged};
+pub use category_of::CategoryOf;
+pub use chain::{Chain, chain_is_well_tagged};
+pub use chain_of::ChainOf;
+pub use expr::{Expr, expr_is_well_tagged};
+pub use expr_of::ExprOf;

@@ -1,0 +1,4 @@
+mod Accepting
+mod Converting
+mod Numbers
+mod Statuses

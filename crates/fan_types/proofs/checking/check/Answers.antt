@@ -1,0 +1,20 @@
+use Rattle.std.proofs.Common.{inl, inr}
+use Rattle.fan_types.proofs.Numbers.{same_status}
+use Rattle.fan_calls.specs.declared.status.Status.TheVariants as status
+use Rattle.fan_types.proofs.Accepting.{are_refused}
+use Rattle.fan_types.proofs.checking.check.Goals as goal
+
+pub returns-clause-refused : goal.returns-clause-refused
+returns-clause-refused g c = λ told.
+    let same = same_status c.put_refusal.result in
+    are_refused g.T.AsnType.meaning g.T.PartialEq.eq c.in-Ok.own c.args.octets.now c.in-Ok.ensures.items c.in-Err.error g.T.Decode.refusals status.Fault
+    c.in-Err.ensures.departs (elim told [
+      | inl fault ↦ c.put_refusal.ensures.fault (same status.Fault c.number-in-Err.result c.number-in-Err.ensures fault)
+      | inr room ↦ c.put_refusal.ensures.room (same status.Room c.number-in-Err.result c.number-in-Err.ensures room)
+    ])
+
+pub returns-clause-deep : goal.returns-clause-deep
+returns-clause-deep g c = λ deep.
+    are_refused g.T.AsnType.meaning g.T.PartialEq.eq c.in-Ok.own c.args.octets.now c.in-Ok.ensures.items c.in-Err.error g.T.Decode.refusals status.Deep
+    c.in-Err.ensures.departs
+    (c.put_refusal.ensures.deep (same_status c.put_refusal.result status.Deep c.number-in-Err.result c.number-in-Err.ensures deep))

@@ -1,0 +1,34 @@
+//! Octets of values of one's own types, for C: the calls that a static library over a crate of types has for each type.
+//!
+//! | Item | What it answers of octets | In `specs/` |
+//! |---|---|---|
+//! | [`check`] | whether they are the DER of a value of the type, and if not where and why | `Checks` |
+//! | [`der`] | the DER of the value whose BER they are | `Conversions` |
+//! | [`text`], [`json`] | the value whose BER they are in X.680's notation, and as JSON | `Conversions` |
+//!
+//! The answer is the number of a status (`specs/Statuses` of `fan_calls`). `asn1_print_calls` prints the static library of a crate of
+//! types, whose exports are one call of these each; a static library cannot be named by another crate, so these are in a library.
+//!
+//! The contracts promise:
+//!
+//! - FAN_OK of [`check`] comes only of octets that are the DER of a value of the type with at most 64 nested scopes (`der`). Octets that
+//!   are the only DER of a valid value have FAN_OK if its scopes are nested at most 64 deep, and FAN_DEEP if they are nested deeper,
+//!   unless memory runs out (`found`). No contract says that the value of FAN_OK is valid, as with its numbers inside their limits.
+//! - FAN_FAULT, FAN_ROOM and FAN_DEEP of [`check`] come of octets that `read_canonical` may refuse so (`refused`, `deep`); FAN_ROOM if the
+//!   reason does not fit (`no_room`). The position is one of the octets or their end (`within`).
+//! - What [`der`], [`text`] and [`json`] write with FAN_OK is what `convert_value` of asn1_convert may make of the octets (`written`).
+//!   FAN_FAULT and FAN_DEEP come only of octets for which it may fail so (`refused`, `deep`), FAN_ROOM only of a result that does not fit
+//!   (`no_room`); then nothing is written (`stays`).
+//!
+//! No contract covers which position a refusal has, its words, and texts in X.680's notation.
+#![tactic(auto)]
+
+mod checking;
+mod conversion;
+mod refusal;
+
+pub use checking::check;
+pub use conversion::{der, json, text};
+
+#[cfg(test)]
+mod tests;

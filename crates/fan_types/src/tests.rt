@@ -1,0 +1,30 @@
+//! Each call succeeds: a contract lets one that always runs out of memory through.
+use super::{check, der, json, text};
+use fan_calls::Status;
+
+/// The DER of TRUE, and other octets that BER has for it (X.690, 8.2.2 and 11.1).
+const TRUE: &[u8] = &[1, 1, 0xff];
+
+const OTHER_TRUE: &[u8] = &[1, 1, 1];
+
+#[test]
+fn octets_are_checked(rt: HostRuntime) {
+    let mut out = [0u8; 200];
+    let (mut position, mut size) = (0usize, 0usize);
+    let whole = check::<bool>(rt.alloc(), TRUE, &mut position, &mut out, &mut size);
+    assert!(&rt; whole == Status::Ok.number());
+    let other = check::<bool>(rt.alloc(), OTHER_TRUE, &mut position, &mut out, &mut size);
+    assert!(&rt; other == Status::Fault.number() && size > 0);
+}
+
+#[test]
+fn values_are_converted(rt: HostRuntime) {
+    let mut out = [0u8; 5];
+    let mut size = 0usize;
+    let canonical = der::<bool>(rt.alloc(), OTHER_TRUE, &mut out, &mut size);
+    assert!(&rt; canonical == Status::Ok.number() && size == 3 && out[2] == 0xff);
+    let notation = text::<bool>(rt.alloc(), OTHER_TRUE, &mut out, &mut size);
+    assert!(&rt; notation == Status::Ok.number() && out.as_slice() == b"TRUE\n".as_slice());
+    let document = json::<bool>(rt.alloc(), OTHER_TRUE, &mut out, &mut size);
+    assert!(&rt; document == Status::Ok.number() && out.as_slice() == b"true\n".as_slice());
+}
