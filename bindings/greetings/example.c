@@ -12,5 +12,7 @@ int main(int count, char **words) {
     int32_t status = greetings_greeting_check(octets, length, &at, text, sizeof text, &size);
     if (status == FAN_FAULT)
         printf("octet %zu: %.*s\n", at, (int)size, (char *)text);
+    if (status == FAN_ROOM)
+        printf("octet %zu\n", at);
     return status;
 }

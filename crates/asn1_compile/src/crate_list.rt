@@ -1,16 +1,22 @@
 //! The list of the crates of a repository.
 use crate::arguments::{crate_name_of, extern_modules_of, externs_of};
 use crate::failure::Failure;
+use asn1_print::PrintedFile;
 use clap::ArgMatches;
 use std::alloc::AllocError;
 use std::fmt::Write;
 use std::fs;
 
-/// Adds the lines of the crate that was written, of its program and of its exports, to crates.txt, if the folder is crates/CRATE beside that file.
+// The library of the types whose values are kept as their contents octets.
+const CONTENTS: &str = "asn1_contents";
+
+/// Adds the lines of the crate that was written as these files, of its program and of its exports, to crates.txt, if the folder is
+/// crates/CRATE beside that file.
 pub(crate) fn list_crates<'a>(
     rt: &HostRuntime,
     folder: &str,
     matches: &ArgMatches<'a>,
+    files: &[PrintedFile],
 ) -> Result<(), Failure<'a>> {
     let crate_name = crate_name_of(matches)?;
     let Some(list) = list_beside(rt, folder, crate_name)? else {
@@ -19,7 +25,7 @@ pub(crate) fn list_crates<'a>(
     let Ok(text) = fs::read_to_string(rt, list.as_str()) else {
         return Ok(());
     };
-    let lines = missing_lines(rt, matches, text.as_str())?;
+    let lines = missing_lines(rt, matches, files, text.as_str())?;
     if lines.is_empty() {
         return Ok(());
     }
@@ -56,12 +62,16 @@ fn list_beside(
 fn missing_lines<'a>(
     rt: &HostRuntime,
     matches: &ArgMatches<'a>,
+    files: &[PrintedFile],
     list: &str,
 ) -> Result<String, Failure<'a>> {
     let crate_name = crate_name_of(matches)?;
     let mut lines = String::new(rt.alloc());
     if !is_listed(list, crate_name) {
         write!(&mut lines, "{crate_name}: asn1_schema asn1_tags")?;
+        if files.iter().any(names_contents) {
+            push_library(&mut lines, CONTENTS)?;
+        }
         push_externs(rt, &mut lines, matches)?;
         lines.push('\n')?;
     }
@@ -77,6 +87,11 @@ fn missing_lines<'a>(
         )?;
     }
     Ok(lines)
+}
+
+// Whether a file names the library of the types whose values are kept as their contents octets.
+fn names_contents(file: &PrintedFile) -> bool {
+    file.text.as_str().contains("asn1_contents::")
 }
 
 // Appends the crates of types that exist already, each once.

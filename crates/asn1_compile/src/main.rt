@@ -109,7 +109,7 @@ fn finish<'a>(
     let folder = matches.get_str("out");
     write_files(rt, folder, files.as_slice())?;
     if let Some(folder) = folder {
-        list_crates(rt, folder, matches)?;
+        list_crates(rt, folder, matches, files.as_slice())?;
     }
     Ok(0)
 }

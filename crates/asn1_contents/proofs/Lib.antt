@@ -1,1 +1,5 @@
+pub mod ArcsOfOctets
+pub mod Days
+pub mod DayTimes
 pub mod NumbersOfArcs
+pub mod RealParts

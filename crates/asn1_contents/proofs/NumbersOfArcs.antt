@@ -1,11 +1,10 @@
 -- Numbers to the base 128, one after another, are the contents of a RELATIVE-OID.
-use Rattle.std.proofs.Common.{◌≡◌, ◌⊎◌, ℕ, ◌+◌, ◌<◌, ◌^◌, Bool, true, false, List, [], ◌∷◌, ◌++◌, append_assoc, refl, sym, ap, ◌∙◌, arith, inl, inr, subst, lit<, lit≤, ◌*◌}
+use Rattle.std.proofs.Common.{◌≡◌, ℕ, ◌+◌, ◌<◌, ◌^◌, Bool, true, false, List, [], ◌∷◌, ◌++◌, append_assoc, refl, sym, ap, ◌∙◌, arith, subst, lit<, lit≤, ◌*◌}
 use Rattle.std.proofs.lemmas.Bool.Decides.{nat_tests}
 use Rattle.std.proofs.lemmas.List.Elements.{All-cons}
-use Rattle.std.specs.Prelude.{All, IsTrue, drop, map, ◌&&◌, ◌||◌, ◌==◌, not, nat_lt}
+use Rattle.std.specs.Prelude.{All, IsTrue, drop, map}
 use Rattle.std.specs.Int.Digits.{AllBelowBase}
 use Rattle.asn1_values.specs.Numbers.{IsShortest}
-use Rattle.asn1_items.specs.Items.{IsJoined}
 use Rattle.asn1_items.specs.Numbers.{Appended}
 use Rattle.asn1_der_items.proofs.Encodings.{one_base128}
 use Rattle.asn1_der_items.specs.Arcs.{AreArcs, AreNumbers}
@@ -109,3 +108,11 @@ made arcs all start new own is none appended rest = subst (AreNumbers arcs) (sym
 pub none_are_left : (arcs own : List ℕ) → AreNumbers arcs own → (IsTrue (is_relative_oid own) → ⊥) → arcs ≡ []
 none_are_left [] own are refused = refl
 none_are_left (arc ∷ arcs) own are refused = absurd (refused (allowed arc arcs own are))
+
+-- the octets of numbers
+pub one_numbers : (numbers own other : List ℕ) → AreNumbers numbers own → AreNumbers numbers other → own ≡ other
+one_numbers [] own other a b = a ∙ sym b
+one_numbers (n ∷ numbers) own other a b =
+    a.are
+    ∙ (λ i. one_base128 n a.first b.first a.is_first b.is_first i ++ one_numbers numbers a.others b.others a.are_others b.are_others i)
+    ∙ sym b.are

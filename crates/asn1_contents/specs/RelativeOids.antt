@@ -1,4 +1,5 @@
 -- The contents octets of a RELATIVE-OID (X.680, 33; X.690, 8.20).
+use Rattle.asn1_der_items.specs.Arcs.{AreNumbers}
 use Rattle.std.specs.Prelude.{ℕ, Bool, false, ◌&&◌, ◌||◌, not, List, [], ◌∷◌, ◌==◌, nat_lt}
 
 -- Whether octets are the rest of numbers to the base 128, one after another (8.20.2): bit 8 is 1 in each octet of a number but its last, and
@@ -11,3 +12,9 @@ are_numbers begun (o ∷ rest) = (begun || not (o == 128)) && are_numbers (not (
 abbrev pub is_relative_oid : List ℕ → Bool
 is_relative_oid [] = false
 is_relative_oid (o ∷ rest) = are_numbers false (o ∷ rest)
+
+-- Octets are those of one arc or more.
+pub record IsRelativeOid (octets : List ℕ) : Type 0 where
+  pub first : ℕ
+  pub others : List ℕ
+  pub are : AreNumbers (first ∷ others) octets

@@ -9,11 +9,14 @@ use asn1_enc::{Encode, EncodeError, Encoder};
 use asn1_model::{AsnType, TypeTable};
 use asn1_tags::{Identifier, Tag};
 use asn1_values::UnitString;
+use asn1_values::shown::write_octets;
+use std::fmt;
 use std::marker::Model;
 
 /// A value by its contents octets, which keep the rule of their kind.
 ///
-/// Contracts see it as the list of these octets. Values are equal if their octets are, and go lexicographically.
+/// Contracts see it as the list of these octets. Values are equal if their octets are, and go lexicographically; for REAL and
+/// RELATIVE-OID this is not the order of numbers or arcs.
 #[derive(Drop)]
 #[derive_where(PartialEq, Eq, PartialOrd, Ord, Hash)]
 pub struct ContentsString<K: ContentsKind> {
@@ -53,6 +56,13 @@ impl<K: ContentsKind> ContentsString<K> {
         ensures allowed { IsTrue (K.allows self.now) }
     {
         self.octets.as_slice()
+    }
+}
+
+/// As an `OctetString` is shown: octets as a quoted text where a line can show them in UTF-8, else by hexadecimal digits.
+impl<K: ContentsKind> fmt::Debug for ContentsString<K> {
+    fn fmt<W: fmt::Write>(&self, f: &mut fmt::Formatter<W>) -> fmt::Result {
+        write_octets(self.as_slice(), f)
     }
 }
 

@@ -1,5 +1,5 @@
 //! RELATIVE-OID (X.680, 33).
-ghost use Rattle.std.specs.Prelude.{◌≡◌, ◌⊎◌, ◌<◌, ◌^◌, [], ◌∷◌, All, IfErr, IfOk, List, MatchResult, codes, drop, false, ℕ};
+ghost use Rattle.std.specs.Prelude.{◌≡◌, ◌⊎◌, ◌<◌, ◌^◌, [], ◌∷◌, All, IfErr, IfOk, List, MatchResult, codes, drop, false, true, ℕ};
 ghost use Rattle.asn1_contents.specs.RelativeOids.{are_numbers, is_relative_oid};
 ghost use Rattle.asn1_der_items.specs.Arcs.{AreNumbers};
 ghost use Rattle.asn1_items.specs.declared.error.ItemError.TheVariants as item;
@@ -7,7 +7,7 @@ ghost use Rattle.asn1_model.specs.Tags.{universal};
 
 use crate::contents_kind::ContentsKind;
 use crate::contents_string::ContentsString;
-use asn1_der_items::{ElementError, append_arcs, read_arcs};
+use asn1_der_items::{append_arcs, read_arcs};
 use asn1_items::ItemError;
 use asn1_model::TypeTable;
 use asn1_tags::{Identifier, Tag};
@@ -87,14 +87,8 @@ impl ContentsString<RelativeArcs> {
         ensures refused { IfErr result (λ error.
             (error ≡ RelativeOidError.Memory) ⊎ (error ≡ RelativeOidError.NoArcs) × (arcs.now ≡ [])) }
     {
-        let rooted = with_root(alloc, arcs)?;
-        let mut octets = Vec::new(alloc);
-        match append_arcs(&mut octets, &rooted) {
-            Ok(()) => {}
-            Err(ElementError::NoSuchArcs) => return Err(RelativeOidError::NoArcs),
-            Err(_) => return Err(RelativeOidError::Memory),
-        }
-        match ContentsString::new(without_first(alloc, &octets)?) {
+        let octets = octets_of(alloc, arcs)?;
+        match ContentsString::new(octets) {
             Some(own) => Ok(own),
             None => Err(RelativeOidError::NoArcs),
         }
@@ -105,21 +99,71 @@ impl ContentsString<RelativeArcs> {
     /// # Errors
     /// [`RelativeOidError::TooGreat`] if an arc is 2^32 or more, and [`RelativeOidError::Memory`].
     pub fn arcs(&self, alloc: Global) -> Result<Vec<u32>, RelativeOidError>
-        ensures { (list : List ℕ) → All (λ arc. arc < 2 ^ 32) list → AreNumbers list self.now →
+        ensures read { (list : List ℕ) → All (λ arc. arc < 2 ^ 32) list → AreNumbers list self.now →
             MatchResult result (λ arcs. arcs.items ≡ list)
             (λ error. error ≡ RelativeOidError.Memory) }
+        ensures only { IfOk result (λ arcs. AreNumbers arcs.items self.now) }
+        ensures refused { IfErr result (λ error.
+            (error ≡ RelativeOidError.Memory) ⊎ (error ≡ RelativeOidError.TooGreat)) }
     {
-        let octets = with_first(alloc, self.as_slice())?;
-        match read_arcs(alloc, &octets) {
-            Ok(arcs) => Ok(without_root(alloc, &arcs)?),
-            Err(error) => Err(reading_error(error)),
+        let arcs = arcs_of(alloc, self.as_slice())?;
+        if has_octets(alloc, &arcs, self.as_slice())? {
+            Ok(arcs)
+        } else {
+            Err(RelativeOidError::TooGreat)
         }
+    }
+}
+
+/// The octets of arcs.
+fn octets_of(alloc: Global, arcs: &[u32]) -> Result<Vec<u8>, AllocError>
+    ensures { IfOk result (λ octets. AreNumbers arcs.now octets.items) }
+{
+    let rooted = with_root(alloc, arcs)?;
+    let mut octets = Vec::new(alloc);
+    match append_arcs(&mut octets, &rooted) {
+        Ok(()) => {}
+        Err(_) => return Err(AllocError),
+    }
+    let own = without_first(alloc, &octets)?;
+    Ok(own)
+}
+
+/// Whether arcs have these octets.
+fn has_octets(alloc: Global, arcs: &[u32], octets: &[u8]) -> Result<bool, AllocError>
+    ensures only { IfOk result (λ has. has ≡ true → AreNumbers arcs.now octets.now) }
+    ensures every { AreNumbers arcs.now octets.now → IfOk result (λ has. has ≡ true) }
+{
+    let own = octets_of(alloc, arcs)?;
+    Ok(are_equal(own.as_slice(), octets))
+}
+
+/// Whether two lists of octets are equal.
+fn are_equal(own: &[u8], other: &[u8]) -> bool
+    ensures only { result ≡ true → own.now ≡ other.now }
+    ensures every { own.now ≡ other.now → result ≡ true }
+{
+    own == other
+}
+
+/// The arcs with these octets, if each fits.
+fn arcs_of(alloc: Global, octets: &[u8]) -> Result<Vec<u32>, RelativeOidError>
+    ensures read { (list : List ℕ) → All (λ arc. arc < 2 ^ 32) list → AreNumbers list octets.now →
+        MatchResult result (λ arcs. arcs.items ≡ list) (λ error. error ≡ RelativeOidError.Memory) }
+    ensures refused { IfErr result (λ error.
+        (error ≡ RelativeOidError.Memory) ⊎ (error ≡ RelativeOidError.TooGreat)) }
+{
+    let rooted = with_first(alloc, octets)?;
+    match read_arcs(alloc, &rooted) {
+        Ok(arcs) => Ok(without_root(alloc, &arcs)?),
+        Err(error) => Err(reading_error(error)),
     }
 }
 
 /// The error of reading arcs, of octets that are numbers to the base 128.
 fn reading_error(error: ItemError) -> RelativeOidError
-    ensures { error ≡ item.Memory → result ≡ RelativeOidError.Memory }
+    ensures memory { error ≡ item.Memory → result ≡ RelativeOidError.Memory }
+    ensures either { (result ≡ RelativeOidError.Memory) ⊎ (result ≡ RelativeOidError.TooGreat) }
 {
     match error {
         ItemError::Memory => RelativeOidError::Memory,

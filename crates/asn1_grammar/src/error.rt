@@ -195,17 +195,13 @@ impl fmt::Display for Owner {
 /// A construct of X.680 to X.683 that is not taken.
 #[derive(Clone, Copy, Debug, PartialEq, Eq)]
 pub enum Construct {
-    /// REAL.
-    Real,
     /// A value of REAL.
     RealValue,
-    /// RELATIVE-OID.
-    RelativeOid,
     /// OID-IRI.
     OidIri,
     /// RELATIVE-OID-IRI.
     RelativeOidIri,
-    /// A type of the standard ISO 8601.
+    /// TIME.
     Time,
     /// An information object class where a type is.
     Class,
@@ -217,12 +213,10 @@ impl Construct {
     // The words for it in a message.
     fn words(self) -> &'static str {
         match self {
-            Construct::Real => "REAL",
             Construct::RealValue => "a value of REAL",
-            Construct::RelativeOid => "RELATIVE-OID",
             Construct::OidIri => "OID-IRI",
             Construct::RelativeOidIri => "RELATIVE-OID-IRI",
-            Construct::Time => "a type of the standard ISO 8601",
+            Construct::Time => "TIME",
             Construct::Class => "an information object class as a type",
             Construct::ParameterizedValue => "a parameterized value",
         }

@@ -10,13 +10,13 @@
 //! | [`Slip`] | a frequent slip, which is told by what to write |
 //! | [`Construct`] | a construct of X.680 to X.683 that the reader refuses by name |
 //! | [`append_cause`] | appends the message of an error |
-//! | [`leading_type`], [`leading_value`] | read the type or the value with which some tokens begin |
 //!
-//! The notation is that of X.680 without REAL, RELATIVE-OID and the types of time of ISO 8601, with ANY and ANY DEFINED BY of 1988;
-//! with classes and their fields, INSTANCE OF and values of open types (X.681), table constraints and CONSTRAINED BY (X.682), and
-//! parameters of types (X.683). EXTERNAL, EMBEDDED PDV, CHARACTER STRING and INSTANCE OF stand in the tree as references. The type of
-//! a value of an open type is a name or a word, as in `NULL : NULL`, and stands as the name of an alternative. Objects and object sets
-//! are read to the brace that closes them, and macros of X.208 to their END. A definition of a value whose governor is in capitals is an object where what is in its braces is no value.
+//! The notation is that of X.680 without TIME, OID-IRI, RELATIVE-OID-IRI and values of REAL, with ANY and ANY DEFINED BY of 1988; with
+//! classes and their fields, INSTANCE OF and values of open types (X.681), table constraints and CONSTRAINED BY (X.682), and parameters
+//! of types (X.683). EXTERNAL, EMBEDDED PDV, CHARACTER STRING and INSTANCE OF stand in the tree as references. The type of a value of an
+//! open type is a name or a word, as in `NULL : NULL`, and stands as the name of an alternative, by the first word of two. Objects and
+//! object sets are read to the brace that closes them, and macros of X.208 to their END. A definition of a value whose governor is in
+//! capitals is an object where what is in its braces is no value.
 //!
 //! An error has what was expected and the item that is there. After an error in a definition the reader goes on with the next
 //! one, and leaves the one in error out of the tree; the error has the name of that definition.
@@ -44,7 +44,6 @@ mod parsed;
 mod plain_constraints;
 mod plain_types;
 mod slips;
-mod spans;
 mod tables;
 mod types;
 mod values;
@@ -54,4 +53,3 @@ pub use associated::{AssociatedModule, AssociatedType, associated_modules};
 pub use error::{Cause, Construct, Expected, Owner, Slip, SyntaxError};
 pub use messages::append_cause;
 pub use parsed::{MAX_DEPTH, Parsed, parse};
-pub use spans::{leading_type, leading_value};

@@ -25,8 +25,8 @@ pub struct Parsed {
 
 /// Reads the modules of a text.
 ///
-/// After an error in a definition the next definition is read, so all errors of a text are told. After another error, or an octet with
-/// which no item begins, the rest is not read. The error of this call is that of memory.
+/// After an error in a definition the reader goes on where a name and `::=` begin the next one, so an error between is not told. After
+/// another error, or an octet with which no item begins, the rest is not read. The error of this call is that of memory.
 pub fn parse(alloc: Global, text: &[u8]) -> Result<Parsed, AllocError> {
     let mut parsed = Parsed {
         modules: Vec::new(alloc),

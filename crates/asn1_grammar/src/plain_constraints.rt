@@ -1,7 +1,7 @@
 //! Constraints that hold no other and no type.
 use crate::cursor::Cursor;
 use crate::error::{Expected, Fault};
-use crate::values::parse_value;
+use crate::values::{begins_real, parse_value};
 use asn1_notation::{ConstraintKind, EndPoint, EndValue, Presence, Value};
 use asn1_tokens::TokenKind;
 
@@ -41,6 +41,7 @@ fn begins_value(cursor: &Cursor<'_>) -> bool {
         || cursor.sees_word(b"NULL")
         || cursor.sees_word(b"MIN")
         || cursor.sees_word(b"MAX")
+        || begins_real(cursor)
 }
 
 /// Reads a value or a range of values.

@@ -4,7 +4,7 @@ use crate::components::skip_exception;
 use crate::cursor::Cursor;
 use crate::error::{Expected, Fault, Owner};
 use crate::named_types::sees_selection;
-use crate::words::{not_taken, string_kind};
+use crate::words::{contents_kind, not_taken, string_kind};
 use asn1_notation::{EnumerationItem, NamedNumber, Span, Tag, TagClass, TagMode, TypeKind};
 use asn1_tokens::TokenKind;
 
@@ -70,6 +70,10 @@ fn word_type(cursor: &mut Cursor<'_>, word: &[u8]) -> Result<TypeKind, Fault> {
     if let Some(kind) = string_kind(word) {
         cursor.skip();
         return Ok(TypeKind::String(kind));
+    }
+    if let Some(kind) = contents_kind(word) {
+        cursor.skip();
+        return Ok(TypeKind::Contents(kind));
     }
     if let Some(kind) = associated_type(cursor)? {
         return Ok(kind);

@@ -2,7 +2,7 @@
 use crate::cursor::{Cursor, span_of};
 use crate::error::{Cause, Construct, Expected, Fault};
 use crate::words::is_plain_type;
-use asn1_notation::{ListItem, Span, Value, ValueKind};
+use asn1_notation::{ListItem, Value, ValueKind};
 use asn1_tokens::TokenKind;
 
 /// Reads a value, with at most so many braces and colons inside it.
@@ -22,24 +22,18 @@ pub(crate) fn parse_value(cursor: &mut Cursor<'_>, depth: usize) -> Result<Value
     Ok(Value { start, kind })
 }
 
-// Reads an alternative of a CHOICE, whose name has so many tokens. A value of an open type is one, and its type is the name.
+// Reads an alternative of a CHOICE, whose name has so many tokens. A value of an open type is one, and the first word of its type is the
+// name.
 #[cycle(values)]
 fn alternative(cursor: &mut Cursor<'_>, length: usize, depth: usize) -> Result<ValueKind, Fault> {
-    let name = alternative_name(cursor, length);
+    let name = cursor.next_span();
+    for _ in 0..length {
+        cursor.skip();
+    }
     cursor.expect_symbol(b":", Expected::Colon)?;
     let value = parse_value(cursor, depth)?;
     let value = Box::new(cursor.alloc(), value)?;
     Ok(ValueKind::Alternative(name, value))
-}
-
-// Reads a name of so many tokens.
-fn alternative_name(cursor: &mut Cursor<'_>, length: usize) -> Span {
-    let mut name = cursor.next_span();
-    for _ in 0..length {
-        name.end = cursor.next_span().end;
-        cursor.skip();
-    }
-    name
 }
 
 // How many tokens are before a colon, if they are the name of an alternative, or the type of a value of an open type (X.681, 14.6):
@@ -147,6 +141,9 @@ fn plain_value(cursor: &mut Cursor<'_>) -> Result<ValueKind, Fault> {
             let reference = cursor.value_reference(Expected::Value)?;
             Ok(ValueKind::Reference(reference))
         }
+        TokenKind::Number | TokenKind::Symbol if sees_fraction(cursor) => {
+            Err(cursor.not_taken(Construct::RealValue))
+        }
         TokenKind::Number | TokenKind::Symbol => {
             let number = cursor.number(Expected::Value)?;
             Ok(ValueKind::Number(number))
@@ -178,8 +175,16 @@ fn word_value(cursor: &mut Cursor<'_>) -> Result<ValueKind, Fault> {
     }
 }
 
-// Whether a value of REAL is next that is a reserved word.
-fn begins_real(cursor: &Cursor<'_>) -> bool {
+// Whether a number with a decimal point and digits behind it is next, with a hyphen in front or without.
+fn sees_fraction(cursor: &Cursor<'_>) -> bool {
+    let first = if cursor.sees_symbol(b"-") { 1 } else { 0 };
+    cursor.sees_kind_after(first, TokenKind::Number)
+        && cursor.sees_after(first + 1, TokenKind::Symbol, b".")
+        && cursor.sees_kind_after(first + 2, TokenKind::Number)
+}
+
+/// Whether a value of REAL is next that is a reserved word.
+pub(crate) fn begins_real(cursor: &Cursor<'_>) -> bool {
     cursor.sees_word(b"PLUS-INFINITY")
         || cursor.sees_word(b"MINUS-INFINITY")
         || cursor.sees_word(b"NOT-A-NUMBER")

@@ -1,6 +1,6 @@
 //! Tables of words.
 use crate::error::Construct;
-use asn1_notation::StringKind;
+use asn1_notation::{ContentsKind, StringKind};
 
 // The names of strings and useful types.
 const STRINGS: &[(&[u8], StringKind)] = &[
@@ -22,17 +22,21 @@ const STRINGS: &[(&[u8], StringKind)] = &[
     (b"ObjectDescriptor", StringKind::ObjectDescriptor),
 ];
 
+// The names of types whose values are kept as their contents octets.
+const CONTENTS: &[(&[u8], ContentsKind)] = &[
+    (b"REAL", ContentsKind::Real),
+    (b"RELATIVE-OID", ContentsKind::RelativeOid),
+    (b"DATE", ContentsKind::Date),
+    (b"TIME-OF-DAY", ContentsKind::TimeOfDay),
+    (b"DATE-TIME", ContentsKind::DateTime),
+    (b"DURATION", ContentsKind::Duration),
+];
+
 // The words with which types begin that are not taken, and the names of these types.
 const NOT_TAKEN: &[(&[u8], Construct)] = &[
-    (b"REAL", Construct::Real),
-    (b"RELATIVE-OID", Construct::RelativeOid),
     (b"OID-IRI", Construct::OidIri),
     (b"RELATIVE-OID-IRI", Construct::RelativeOidIri),
     (b"TIME", Construct::Time),
-    (b"DATE", Construct::Time),
-    (b"DATE-TIME", Construct::Time),
-    (b"TIME-OF-DAY", Construct::Time),
-    (b"DURATION", Construct::Time),
 ];
 
 /// The kind of string with this name.
@@ -45,9 +49,21 @@ pub(crate) fn string_kind(word: &[u8]) -> Option<StringKind> {
     None
 }
 
+/// The type with this name, if its values are kept as their contents octets.
+pub(crate) fn contents_kind(word: &[u8]) -> Option<ContentsKind> {
+    for entry in CONTENTS {
+        if entry.0 == word {
+            return Some(entry.1);
+        }
+    }
+    None
+}
+
 /// Whether this word is a type that holds no other, without parts.
 pub(crate) fn is_plain_type(word: &[u8]) -> bool {
-    matches!(word, b"BOOLEAN" | b"INTEGER" | b"NULL") || string_kind(word).is_some()
+    matches!(word, b"BOOLEAN" | b"INTEGER" | b"NULL")
+        || string_kind(word).is_some()
+        || contents_kind(word).is_some()
 }
 
 /// The name of the type that begins with this word, and is not taken.

@@ -10,6 +10,9 @@ const BUILT_IN: &[(&[u8], &[u8])] = &[
     (b"BOOL", b"BOOLEAN"),
     (b"BOOLEAN", b"BOOLEAN"),
     (b"CHOICE", b"CHOICE"),
+    (b"DATE", b"DATE"),
+    (b"DATE-TIME", b"DATE-TIME"),
+    (b"DURATION", b"DURATION"),
     (b"ENUMERATED", b"ENUMERATED"),
     (b"GENERALIZEDTIME", b"GeneralizedTime"),
     (b"GENERALSTRING", b"GeneralString"),
@@ -24,11 +27,14 @@ const BUILT_IN: &[(&[u8], &[u8])] = &[
     (b"OBJECT", b"OBJECT IDENTIFIER"),
     (b"OCTET", b"OCTET STRING"),
     (b"PRINTABLESTRING", b"PrintableString"),
+    (b"REAL", b"REAL"),
+    (b"RELATIVE-OID", b"RELATIVE-OID"),
     (b"SEQUENCE", b"SEQUENCE"),
     (b"SET", b"SET"),
     (b"STRING", b"UTF8String"),
     (b"T61STRING", b"T61String"),
     (b"TELETEXSTRING", b"TeletexString"),
+    (b"TIME-OF-DAY", b"TIME-OF-DAY"),
     (b"UNIVERSALSTRING", b"UniversalString"),
     (b"UTCTIME", b"UTCTime"),
     (b"UTF8STRING", b"UTF8String"),
@@ -36,14 +42,22 @@ const BUILT_IN: &[(&[u8], &[u8])] = &[
     (b"VISIBLESTRING", b"VisibleString"),
 ];
 
-/// Whether a name is the word of a type of the language.
+/// Whether a name is the word of a type of the language, or the first of its two words.
 pub(crate) fn is_built_in(name: &[u8]) -> bool {
     for (_, written) in BUILT_IN {
-        if *written == name {
+        if first_word(written) == name {
             return true;
         }
     }
     false
+}
+
+// The word before the first space, or all.
+fn first_word(words: &[u8]) -> &[u8] {
+    match words.iter().position(|octet| *octet == b' ') {
+        Some(end) => words.get(..end).unwrap_or(words),
+        None => words,
+    }
 }
 
 /// The type of the language that a name may mean, without regard to case.

@@ -40,9 +40,7 @@ pub fn used_name<'a>(
 pub fn type_of_open_value(text: &[u8], name: Span) -> Option<Reference> {
     let octets = name.octets(text);
     match octets {
-        [b'A'..=b'Z', ..] if !is_built_in(octets) && !octets.contains(&b' ') => {
-            Some(Reference { module: None, name })
-        }
+        [b'A'..=b'Z', ..] if !is_built_in(octets) => Some(Reference { module: None, name }),
         _ => None,
     }
 }

@@ -10,7 +10,7 @@
 //! | [`Assignment`], [`Definition`] | a definition of a type or a value | 16 |
 //! | [`Class`], [`ClassField`], [`FieldKind`], [`FieldUsage`] | an information object class | X.681, 9 |
 //! | [`Parameter`], [`Argument`] | a parameter of a definition, and an argument | X.683, 8 and 9 |
-//! | [`Type`], [`TypeKind`], [`StringKind`] | a type | 17 |
+//! | [`Type`], [`TypeKind`], [`StringKind`], [`ContentsKind`] | a type | 17 |
 //! | [`ComponentItem`], [`Component`], [`Usage`] | parts of a SEQUENCE, a SET or a CHOICE | 25, 27, 29 |
 //! | [`EnumerationItem`], [`NamedNumber`] | parts of an ENUMERATED, an INTEGER or a BIT STRING | 19, 20, 22 |
 //! | [`Tag`], [`TagClass`], [`TagMode`] | a tag | 31 |
@@ -31,7 +31,7 @@ pub use constraints::{AtPath, Constraint, ConstraintKind, EndPoint, EndValue, Me
 pub use modules::{Assignment, Definition, Exports, Import, Module, Parameter, TagDefault};
 pub use names::{Number, NumberName, Reference, Span};
 pub use types::{
-    Argument, Component, ComponentItem, EnumerationItem, NamedNumber, StringKind, Tag, TagClass,
-    TagMode, Type, TypeKind, Usage,
+    Argument, Component, ComponentItem, ContentsKind, EnumerationItem, NamedNumber, StringKind,
+    Tag, TagClass, TagMode, Type, TypeKind, Usage,
 };
 pub use values::{ListItem, Value, ValueKind};

@@ -33,6 +33,8 @@ pub enum TypeKind {
     ObjectIdentifier,
     /// A string of characters, or a time.
     String(StringKind),
+    /// A type whose values are kept as their contents octets.
+    Contents(ContentsKind),
     /// ENUMERATED.
     Enumerated(Vec<EnumerationItem>),
     /// SEQUENCE.
@@ -102,6 +104,23 @@ pub enum StringKind {
     GeneralizedTime,
     /// ObjectDescriptor.
     ObjectDescriptor,
+}
+
+/// The types whose values are kept as their contents octets (X.680, 21, 33 and 38.4).
+#[derive(Clone, Copy, Debug, PartialEq, Eq)]
+pub enum ContentsKind {
+    /// REAL.
+    Real,
+    /// RELATIVE-OID.
+    RelativeOid,
+    /// DATE.
+    Date,
+    /// TIME-OF-DAY.
+    TimeOfDay,
+    /// DATE-TIME.
+    DateTime,
+    /// DURATION.
+    Duration,
 }
 
 /// A named number of an INTEGER, or a named bit of a BIT STRING.

@@ -16,7 +16,8 @@ pub(crate) fn print_plain_kind(
         | TypeKind::Null
         | TypeKind::OctetString
         | TypeKind::ObjectIdentifier
-        | TypeKind::String(_) => printer.push(type_word(kind)),
+        | TypeKind::String(_)
+        | TypeKind::Contents(_) => printer.push(type_word(kind)),
         TypeKind::Reference(reference) => print_reference(printer, reference),
         TypeKind::Integer(numbers) | TypeKind::BitString(numbers) => {
             printer.push(type_word(kind))?;

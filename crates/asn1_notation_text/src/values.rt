@@ -10,6 +10,7 @@ pub fn print_value(printer: &mut Printer<'_>, value: &Value) -> Result<(), Alloc
     match &value.kind {
         ValueKind::Alternative(name, value) => {
             printer.push_span(*name)?;
+            printer.push_words_behind(*name)?;
             printer.push(b" : ")?;
             print_value(printer, value)
         }

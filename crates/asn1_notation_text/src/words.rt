@@ -1,5 +1,5 @@
 //! The words of X.680 for types.
-use asn1_notation::{StringKind, TypeKind};
+use asn1_notation::{ContentsKind, StringKind, TypeKind};
 
 /// The word for a type.
 pub fn type_word(kind: &TypeKind) -> &'static [u8] {
@@ -11,6 +11,7 @@ pub fn type_word(kind: &TypeKind) -> &'static [u8] {
         TypeKind::OctetString => b"OCTET STRING",
         TypeKind::ObjectIdentifier => b"OBJECT IDENTIFIER",
         TypeKind::String(kind) => string_word(*kind),
+        TypeKind::Contents(kind) => contents_word(*kind),
         TypeKind::Enumerated(_) => b"ENUMERATED",
         TypeKind::Sequence(_) => b"SEQUENCE",
         TypeKind::Set(_) => b"SET",
@@ -26,9 +27,12 @@ pub fn type_word(kind: &TypeKind) -> &'static [u8] {
     }
 }
 
-/// The words behind the first in the name of a type of the language that another defines, with a space in front.
+/// The words behind the first in the name of a type of the language, where a tree has the first alone, with a space in front.
 pub(crate) fn words_behind(first: &[u8]) -> &'static [u8] {
     match first {
+        b"BIT" => b" STRING",
+        b"OCTET" => b" STRING",
+        b"OBJECT" => b" IDENTIFIER",
         b"EMBEDDED" => b" PDV",
         b"CHARACTER" => b" STRING",
         b"INSTANCE" => b" OF",
@@ -53,5 +57,17 @@ fn string_word(kind: StringKind) -> &'static [u8] {
         StringKind::UtcTime => b"UTCTime",
         StringKind::GeneralizedTime => b"GeneralizedTime",
         StringKind::ObjectDescriptor => b"ObjectDescriptor",
+    }
+}
+
+// The word for a type whose values are kept as their contents octets.
+fn contents_word(kind: ContentsKind) -> &'static [u8] {
+    match kind {
+        ContentsKind::Real => b"REAL",
+        ContentsKind::RelativeOid => b"RELATIVE-OID",
+        ContentsKind::Date => b"DATE",
+        ContentsKind::TimeOfDay => b"TIME-OF-DAY",
+        ContentsKind::DateTime => b"DATE-TIME",
+        ContentsKind::Duration => b"DURATION",
     }
 }

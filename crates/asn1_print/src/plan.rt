@@ -95,6 +95,7 @@ const RESERVED: &[&str] = &[
 /// The modules that a crate has beside those of types, and the libraries of each crate.
 const MODULES: &[&str] = &[
     "aliases",
+    "asn1_contents",
     "asn1_schema",
     "asn1_tags",
     "lib",

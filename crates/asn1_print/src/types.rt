@@ -2,7 +2,7 @@
 use crate::integers::{built_in, has_limits, range_of};
 use crate::plan::Plan;
 use asn1_names::Place;
-use asn1_notation::StringKind;
+use asn1_notation::{ContentsKind, StringKind};
 use asn1_resolved::{Constraint, ConstraintKind, Tag, Type, TypeKind};
 use asn1_rust_code::{TagNumber, Tagging, TypeName};
 use asn1_rust_names::camel_case;
@@ -76,6 +76,7 @@ pub(crate) fn plain_name(
         TypeKind::OctetString => plan.library_type("OctetString"),
         TypeKind::ObjectIdentifier => plan.library_type("ObjectIdentifier"),
         TypeKind::String(kind) => string_type(plan, *kind, definition.place),
+        TypeKind::Contents(kind) => contents_type(plan, *kind, definition.place),
         TypeKind::Any => plan.library_type("Any"),
         TypeKind::Reference(index) => plan.referred_type(*index),
         _ => plan.plain_type("()"),
@@ -183,6 +184,47 @@ fn string_type(
         StringKind::ObjectDescriptor => "ObjectDescriptor",
     };
     plan.library_type(name)
+}
+
+// The type whose values are kept as their contents octets. It is named by its path, so that a definition may have the same name.
+fn contents_type(
+    plan: &mut Plan<'_, '_>,
+    kind: ContentsKind,
+    place: Place,
+) -> Result<TypeName, AllocError> {
+    match contents_name(kind) {
+        Some(path) => plan.plain_type(path),
+        None => {
+            let word = contents_word(kind);
+            let text = format!(in plan.alloc; "{word} is not supported")?;
+            plan.error(place, text.as_str())?;
+            plan.plain_type("()")
+        }
+    }
+}
+
+// The type in Rust, if there is one.
+fn contents_name(kind: ContentsKind) -> Option<&'static str> {
+    match kind {
+        ContentsKind::RelativeOid => Some("asn1_contents::RelativeOid"),
+        ContentsKind::Date => Some("asn1_contents::Date"),
+        ContentsKind::TimeOfDay => Some("asn1_contents::TimeOfDay"),
+        ContentsKind::DateTime => Some("asn1_contents::DateTime"),
+        ContentsKind::Real => Some("asn1_contents::Real"),
+        ContentsKind::Duration => None,
+    }
+}
+
+// The word of ASN.1.
+fn contents_word(kind: ContentsKind) -> &'static str {
+    match kind {
+        ContentsKind::Real => "REAL",
+        ContentsKind::RelativeOid => "RELATIVE-OID",
+        ContentsKind::Date => "DATE",
+        ContentsKind::TimeOfDay => "TIME-OF-DAY",
+        ContentsKind::DateTime => "DATE-TIME",
+        ContentsKind::Duration => "DURATION",
+    }
 }
 
 /// Warns of each constraint that the type in Rust does not have.

@@ -57,9 +57,13 @@ pub extern \"C\" fn @crate@_@function@_check(
     ensures no_room { result ≡ FAN_ROOM → LacksRoom (λ _. ⊤) text.old text.new size.new }
     ensures stays { result ≢ FAN_FAULT → text.new ≡ text.old }
 {
-    fan_types::check::<@type@>(alloc, octets, position, text, size)
-}
 ";
+
+/// What it calls.
+pub(crate) const CHECK_CALL: CallTemplates = CallTemplates {
+    function: "fan_types::check::<@type@>",
+    arguments: "alloc, octets, position, text, size",
+};
 
 /// A call that writes the value of octets of BER in another form.
 pub(crate) const CONVERSION: &str = "
@@ -87,6 +91,19 @@ pub extern \"C\" fn @crate@_@function@_@call@(
         ⟦<@type@ as Decode>⟧.refusals as_@call@ octets.now status.Deep }
     ensures stays { result ≢ FAN_OK → output.new ≡ output.old }
 {
-    fan_types::@call@::<@type@>(alloc, octets, output, size)
-}
 ";
+
+/// What it calls.
+pub(crate) const CONVERSION_CALL: CallTemplates = CallTemplates {
+    function: "fan_types::@call@::<@type@>",
+    arguments: "alloc, octets, output, size",
+};
+
+/// A call that is all of a body.
+#[derive(Clone, Copy)]
+pub(crate) struct CallTemplates {
+    /// The function.
+    pub(crate) function: &'static str,
+    /// The arguments.
+    pub(crate) arguments: &'static str,
+}

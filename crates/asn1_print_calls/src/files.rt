@@ -1,4 +1,5 @@
 //! The files of the printed crate.
+use crate::exports::CallTemplates;
 use crate::modules::{ModuleTemplates, push_module};
 use crate::names::{CONVERSIONS, ExportedType, TypeNames, Words, exported_types, push_filled};
 use crate::{exports, header, python, rust};
@@ -75,16 +76,39 @@ fn exports_of(
     push_filled(&mut text, exports::HEAD, words)?;
     push_uses(alloc, &mut text, words)?;
     push_filled(&mut text, exports::CHECK, words)?;
+    push_call(alloc, &mut text, exports::CHECK_CALL, words)?;
     for conversion in CONVERSIONS {
-        push_filled(
-            &mut text,
-            exports::CONVERSION,
-            words.with_conversion(*conversion),
-        )?;
+        let words = words.with_conversion(*conversion);
+        push_filled(&mut text, exports::CONVERSION, words)?;
+        push_call(alloc, &mut text, exports::CONVERSION_CALL, words)?;
     }
     let module = exported.module();
     let path = format!(in alloc; "../{crate_name}_c/src/{module}.rt")?;
     Ok(CallFile { path, text })
+}
+
+/// The greatest length of a line of code.
+const MAX_LINE: usize = 100;
+
+/// Appends a call and the end of the body: in one line, or with the arguments in a line of their own where that would be too long.
+fn push_call(
+    alloc: Global,
+    text: &mut String,
+    call: CallTemplates,
+    words: Words<'_>,
+) -> Result<(), AllocError> {
+    let mut function = String::new(alloc);
+    push_filled(&mut function, call.function, words)?;
+    let function = function.as_str();
+    let arguments = call.arguments;
+    let line = format!(in alloc; "    {function}({arguments})")?;
+    if line.len() <= MAX_LINE {
+        text.push_str(line.as_str())?;
+    } else {
+        let lines = format!(in alloc; "    {function}(\n        {arguments},\n    )")?;
+        text.push_str(lines.as_str())?;
+    }
+    text.push_str("\n}\n")
 }
 
 /// Appends the lines of what the module of a type uses, in their order.

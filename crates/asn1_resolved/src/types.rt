@@ -2,7 +2,7 @@
 use crate::components::{Alternatives, Components};
 use crate::constraints::Constraint;
 use asn1_names::Place;
-use asn1_notation::{StringKind, TagClass};
+use asn1_notation::{ContentsKind, StringKind, TagClass};
 
 /// A type with its place and its constraints.
 #[cycle(types)]
@@ -34,6 +34,8 @@ pub enum TypeKind<'a> {
     ObjectIdentifier,
     /// A string of characters, or a time.
     String(StringKind),
+    /// A type whose values are kept as their contents octets.
+    Contents(ContentsKind),
     /// ENUMERATED.
     Enumerated(Enumeration<'a>),
     /// SEQUENCE.

@@ -3,7 +3,7 @@ ghost use Rattle.std.specs.Prelude.{◌≡◌};
 ghost use Rattle.asn1_resolved.specs.UniversalTags as spec;
 
 use crate::types::TypeKind;
-use asn1_notation::StringKind;
+use asn1_notation::{ContentsKind, StringKind};
 
 impl TypeKind<'_> {
     /// The number of the universal tag of the type, if it has one (X.680, 8.4, table 1).
@@ -21,6 +21,7 @@ impl TypeKind<'_> {
             TypeKind::Sequence(_) | TypeKind::SequenceOf(_) => Some(16),
             TypeKind::Set(_) | TypeKind::SetOf(_) => Some(17),
             TypeKind::String(kind) => Some(string_number(*kind)),
+            TypeKind::Contents(kind) => Some(contents_number(*kind)),
             TypeKind::Choice(_) | TypeKind::Tagged(_, _) | TypeKind::Any | TypeKind::Reference(_) =>
                 None,
         }
@@ -46,5 +47,19 @@ fn string_number(kind: StringKind) -> u32
         StringKind::General => 27,
         StringKind::Universal => 28,
         StringKind::Bmp => 30,
+    }
+}
+
+// The number of the universal tag of a type whose values are kept as their contents octets.
+fn contents_number(kind: ContentsKind) -> u32
+    ensures { result ≡ spec.contents_number kind }
+{
+    match kind {
+        ContentsKind::Real => 9,
+        ContentsKind::RelativeOid => 13,
+        ContentsKind::Date => 31,
+        ContentsKind::TimeOfDay => 32,
+        ContentsKind::DateTime => 33,
+        ContentsKind::Duration => 34,
     }
 }

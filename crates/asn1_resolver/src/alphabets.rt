@@ -115,8 +115,8 @@ impl<'a> Resolver<'_, 'a> {
         }
     }
 
-    // Refuses a character that the type of the string does not have.
-    fn require_character(
+    /// Refuses a character that the type of the string does not have.
+    pub(crate) fn require_character(
         &mut self,
         base: Governed<'a>,
         place: Place,

@@ -226,7 +226,7 @@ impl<'a> Resolver<'_, 'a> {
         let is_instance_of = matches!(named.scope.octets(named.reference.name), b"INSTANCE");
         match named.arguments {
             [Argument::Type(definition)] if is_instance_of => {
-                self.require_known_class(named.scope, definition)
+                self.require_type_identifier(named.scope, definition)
             }
             _ => Ok(()),
         }
@@ -457,7 +457,7 @@ fn wanted_of(scope: Scope<'_>, parameter: &Parameter, argument: &Argument) -> Op
 fn is_plain(kind: &TypeKind) -> bool {
     match kind {
         TypeKind::Boolean | TypeKind::Null | TypeKind::OctetString => true,
-        TypeKind::ObjectIdentifier | TypeKind::String(_) => true,
+        TypeKind::ObjectIdentifier | TypeKind::String(_) | TypeKind::Contents(_) => true,
         TypeKind::Integer(names) | TypeKind::BitString(names) => names.is_empty(),
         _ => false,
     }

@@ -31,8 +31,8 @@ enum Held<'a> {
 // A class.
 #[derive(Clone, Copy)]
 enum Fields<'a> {
-    // One of the language (X.681, annexes A and B).
-    Known,
+    // One of the language (X.681, annexes A and B), by its name.
+    Known(&'a [u8]),
     // One of a module, with its fields.
     Listed(Scope<'a>, &'a [ClassField]),
 }
@@ -84,7 +84,7 @@ impl<'a> Resolver<'_, 'a> {
         name: Span,
     ) -> Result<Held<'a>, Fault> {
         let (found, fields) = match self.find_class(class_scope, *class) {
-            Some(Fields::Known) => return self.known_field(scope, class_scope, class, name),
+            Some(Fields::Known(_)) => return self.known_field(scope, class_scope, class, name),
             Some(Fields::Listed(found, fields)) => (found, fields),
             None => return Err(self.refuse_class(class_scope, class)),
         };
@@ -130,8 +130,9 @@ impl<'a> Resolver<'_, 'a> {
                 reference = *class;
                 continue;
             }
-            if reference.module.is_none() && is_known_class(scope.octets(reference.name)) {
-                return Some(Fields::Known);
+            let name = scope.octets(reference.name);
+            if reference.module.is_none() && is_known_class(name) {
+                return Some(Fields::Known(name));
             }
             let found = self.class_of_name(scope, &reference)?;
             match found.class {
@@ -167,8 +168,8 @@ impl<'a> Resolver<'_, 'a> {
         self.find_class(scope, reference).is_some()
     }
 
-    /// Refuses what is no class of the language, by its own name or another.
-    pub(crate) fn require_known_class(
+    /// Refuses what is not TYPE-IDENTIFIER, by its own name or another.
+    pub(crate) fn require_type_identifier(
         &mut self,
         scope: Scope<'a>,
         definition: &'a Type,
@@ -177,8 +178,8 @@ impl<'a> Resolver<'_, 'a> {
             return Ok(());
         };
         match self.find_class(scope, *class) {
-            Some(Fields::Known) => Ok(()),
-            Some(Fields::Listed(_, _)) => Err(self.refuse(
+            Some(Fields::Known(b"TYPE-IDENTIFIER")) => Ok(()),
+            Some(_) => Err(self.refuse(
                 scope.place(class.name),
                 &[
                     b"INSTANCE OF is of TYPE-IDENTIFIER, and '",
@@ -192,7 +193,7 @@ impl<'a> Resolver<'_, 'a> {
 
     /// Whether a name is one of a class of the language.
     pub(crate) fn is_of_language(&self, scope: Scope<'a>, reference: Reference) -> bool {
-        matches!(self.find_class(scope, reference), Some(Fields::Known))
+        matches!(self.find_class(scope, reference), Some(Fields::Known(_)))
     }
 
     /// The text and the offset of the definition of a class.

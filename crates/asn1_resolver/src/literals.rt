@@ -3,7 +3,7 @@ use crate::bits::{binary_bits, characters, hex_bits, octets_of_bits};
 use crate::fault::Fault;
 use crate::governed::{Governed, Scope, Written};
 use crate::resolver::Resolver;
-use asn1_notation::{ListItem, TypeKind, ValueKind};
+use asn1_notation::{ListItem, Span, TypeKind, ValueKind};
 use asn1_resolved::Value;
 
 impl<'a> Resolver<'_, 'a> {
@@ -50,14 +50,25 @@ impl<'a> Resolver<'_, 'a> {
                 Ok(Value::Octets(octets))
             }
             TypeKind::String(_) => match &written.value.kind {
-                ValueKind::Text(span) => {
-                    let text = characters(self.alloc, written.scope.octets(*span))?;
-                    Ok(Value::Text(text))
-                }
+                ValueKind::Text(span) => self.text_value(base, written, *span),
                 _ => Err(self.refuse_kind(base, written)),
             },
             _ => Err(self.refuse_kind(base, written)),
         }
+    }
+
+    // The characters of a cstring, if the type has each of them.
+    fn text_value(
+        &mut self,
+        base: Governed<'a>,
+        written: Written<'a>,
+        span: Span,
+    ) -> Result<Value<'a>, Fault> {
+        let text = characters(self.alloc, written.scope.octets(span))?;
+        for character in &text {
+            self.require_character(base, written.place(), *character)?;
+        }
+        Ok(Value::Text(text))
     }
 
     /// The code of a character that is written by numbers: a column and a row of the table of ASCII, or the group, plane, row and

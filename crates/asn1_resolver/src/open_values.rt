@@ -8,6 +8,14 @@ use asn1_resolved::Value;
 use std::alloc::Global;
 
 impl<'a> Resolver<'_, 'a> {
+    /// Refuses a value of a type whose values are kept as their contents octets.
+    pub(crate) fn refuse_contents(&mut self, word: &[u8], written: Written<'a>) -> Fault {
+        self.refuse(
+            written.place(),
+            &[b"a value of ", word, b" is not supported"],
+        )
+    }
+
     /// A literal of the type of this word, which holds no other and is no name.
     pub(crate) fn literal_of_word(
         &mut self,
@@ -56,7 +64,7 @@ impl<'a> Resolver<'_, 'a> {
     fn refuse_word(&mut self, word: &[u8], written: Written<'a>) -> Fault {
         self.refuse(
             written.place(),
-            &[b"a value of ", word, b" is expected here"],
+            &[b"a value of ", whole_word(word), b" is expected here"],
         )
     }
 }
@@ -83,6 +91,24 @@ fn suits_word(word: &[u8], value: &Value<'_>) -> bool {
         Value::Text(_) => is_string_word(word),
         _ => false,
     }
+}
+
+// The words of a type, by the first.
+fn whole_word(first: &[u8]) -> &[u8] {
+    match first {
+        b"BIT" => b"BIT STRING",
+        b"OCTET" => b"OCTET STRING",
+        b"OBJECT" => b"OBJECT IDENTIFIER",
+        _ => first,
+    }
+}
+
+/// Whether a word is that of a type whose values are kept as their contents octets.
+pub(crate) fn is_contents_word(word: &[u8]) -> bool {
+    matches!(
+        word,
+        b"REAL" | b"RELATIVE-OID" | b"DATE" | b"TIME-OF-DAY" | b"DATE-TIME" | b"DURATION"
+    )
 }
 
 // Whether a word is that of a string of characters, or of a time.

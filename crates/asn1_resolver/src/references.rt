@@ -83,13 +83,30 @@ impl<'a> Resolver<'_, 'a> {
         if let Some(governor) = self.governor_of(scope, reference) {
             return match self.argument_value(scope, reference) {
                 Some(written) => Ok((governor, written)),
-                None => Err(self.refuse_undefined(scope, reference)),
+                None => Err(self.refuse_braces(scope, reference)),
             };
         }
         match self.index_of_value(scope, reference) {
             Some(index) => self.value_at(scope, reference, index),
             None => Err(self.refuse_undefined(scope, reference)),
         }
+    }
+
+    // Refuses the argument of a parameter that is a value: it is in braces.
+    fn refuse_braces(&mut self, scope: Scope<'a>, reference: &Reference) -> Fault {
+        let place = scope.place(reference.name);
+        if self.is_reported(place, Severity::Error) {
+            return Fault::Refused;
+        }
+        let name = scope.octets(reference.name);
+        self.refuse(
+            place,
+            &[
+                b"an argument in braces for the value '",
+                name,
+                b"' is not supported",
+            ],
+        )
     }
 
     // The type of a parameter that is a value.

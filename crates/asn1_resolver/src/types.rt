@@ -236,6 +236,7 @@ impl<'a> Resolver<'_, 'a> {
             asn1_notation::TypeKind::OctetString => Ok(TypeKind::OctetString),
             asn1_notation::TypeKind::ObjectIdentifier => Ok(TypeKind::ObjectIdentifier),
             asn1_notation::TypeKind::String(kind) => Ok(TypeKind::String(*kind)),
+            asn1_notation::TypeKind::Contents(kind) => Ok(TypeKind::Contents(*kind)),
             asn1_notation::TypeKind::Enumerated(items) => {
                 let enumeration = self.enumeration(scope, items.as_slice())?;
                 Ok(TypeKind::Enumerated(enumeration))

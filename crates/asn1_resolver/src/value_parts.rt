@@ -7,7 +7,7 @@ use crate::resolver::Resolver;
 use asn1_names::Place;
 use asn1_notation::{ListItem, NamedNumber, NumberName, Span, TypeKind, Usage, ValueKind};
 use asn1_notation_text::type_word;
-use asn1_resolved::Value;
+use asn1_resolved::{ComponentValue, Value};
 
 // The greatest number of a bit that a value may name.
 const MAX_BIT: usize = 65535;
@@ -47,6 +47,21 @@ impl<'a> Resolver<'_, 'a> {
             [value, ..] => Err(self.refuse_component(scope, value.start)),
             [] => Err(Fault::Refused),
         }
+    }
+
+    /// Refuses the second value of a component.
+    pub(crate) fn require_first(
+        &mut self,
+        components: &[ComponentValue<'a>],
+        place: Place,
+        name: &[u8],
+    ) -> Result<(), Fault> {
+        for known in components {
+            if known.name == name {
+                return Err(self.refuse(place, &[b"component '", name, b"' has two values"]));
+            }
+        }
+        Ok(())
     }
 
     // Refuses what is no component of a value.

@@ -3,9 +3,11 @@ use crate::component_list::Construct;
 use crate::fault::Fault;
 use crate::followed::Followed;
 use crate::governed::{Governed, Scope, Written};
+use crate::open_values::is_contents_word;
 use crate::resolver::Resolver;
 use asn1_modules::{standard_arc, type_of_open_value};
 use asn1_notation::{ComponentItem, ListItem, Span, Type, TypeKind, ValueKind};
+use asn1_notation_text::type_word;
 use asn1_resolved::{ComponentValue, Value};
 
 /// How many types or values may be inside one another, or values behind names.
@@ -71,6 +73,9 @@ impl<'a> Resolver<'_, 'a> {
         written: Written<'a>,
         depth: usize,
     ) -> Result<Value<'a>, Fault> {
+        if let TypeKind::Contents(_) = &base.definition.kind {
+            return Err(self.refuse_contents(type_word(&base.definition.kind), written));
+        }
         match &written.value.kind {
             ValueKind::List(values) => { self.list_value(base, written, values.as_slice(), depth) }
             ValueKind::Alternative(name, value) => {
@@ -162,6 +167,11 @@ impl<'a> Resolver<'_, 'a> {
         let mut components = Vec::new(self.alloc);
         for item in values {
             let (listed, value) = self.named_component(&list, scope, item)?;
+            self.require_first(
+                components.as_slice(),
+                scope.place_at(value.start),
+                listed.name(),
+            )?;
             let value = self.inner_value(listed.governed(), Written { scope, value }, depth)?;
             components.push(ComponentValue {
                 name: listed.name(),
@@ -241,6 +251,9 @@ impl<'a> Resolver<'_, 'a> {
         written: Written<'a>,
         depth: usize,
     ) -> Result<Value<'a>, Fault> {
+        if is_contents_word(word) {
+            return Err(self.refuse_contents(word, written));
+        }
         let value = match &written.value.kind {
             ValueKind::Reference(reference) => {
                 let (governed, referenced) = self.find_value(written.scope, reference)?;
