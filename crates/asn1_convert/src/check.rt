@@ -137,7 +137,7 @@ fn reading_fault<T: Decode>(
     if let Err(ItemError::Missing(_)) = find_element(octets) {
         return Ok(CheckFault {
             cause: String::from_str(alloc, "the octets end inside the value")?,
-            position: None,
+            position: Some(octets.len()),
         });
     }
     let failure = read_failure::<T>(alloc, CodecForm::Der, octets, error, depth)?;

@@ -23,6 +23,8 @@ pub(crate) enum ContentsFault {
     ConstructedNull,
     /// An OBJECT IDENTIFIER is primitive.
     ConstructedObjectIdentifier,
+    /// A RELATIVE-OID is primitive.
+    ConstructedRelativeOid,
     /// A SEQUENCE, and a SEQUENCE OF, is constructed.
     PrimitiveSequence,
     /// A SET, and a SET OF, is constructed.
@@ -33,6 +35,8 @@ pub(crate) enum ContentsFault {
     Integer,
     /// An ENUMERATED has those of an INTEGER.
     Enumerated,
+    /// A BIT STRING has octets.
+    BitString,
     /// The first octet of a BIT STRING tells how many bits are unused, and none is without an octet of bits.
     UnusedBits,
     /// A NULL has no octets.
@@ -41,6 +45,10 @@ pub(crate) enum ContentsFault {
     ObjectIdentifier,
     /// The last number of an OBJECT IDENTIFIER ends.
     Arc,
+    /// A RELATIVE-OID has numbers.
+    RelativeOid,
+    /// The last number of a RELATIVE-OID ends.
+    RelativeArc,
     /// The characters of a UTF8String are those of ISO 10646.
     Utf8,
     /// Each character of a BMPString has two octets.
@@ -58,6 +66,9 @@ impl ContentsFault {
             ContentsFault::ConstructedObjectIdentifier => {
                 "an OBJECT IDENTIFIER is constructed (X.690, 8.19.1)"
             }
+            ContentsFault::ConstructedRelativeOid => {
+                "a RELATIVE-OID is constructed (X.690, 8.20.1)"
+            }
             ContentsFault::PrimitiveSequence => {
                 "a SEQUENCE is primitive (X.690, 8.9.1 and 8.10.1)"
             }
@@ -65,6 +76,7 @@ impl ContentsFault {
             ContentsFault::Boolean => "the contents of a BOOLEAN are not one octet (X.690, 8.2.1)",
             ContentsFault::Integer => "an INTEGER has no contents (X.690, 8.3.1)",
             ContentsFault::Enumerated => "an ENUMERATED has no contents (X.690, 8.4)",
+            ContentsFault::BitString => "a BIT STRING has no contents (X.690, 8.6.2)",
             ContentsFault::UnusedBits => {
                 "the first octet of a BIT STRING is no number of unused bits (X.690, 8.6.2)"
             }
@@ -73,7 +85,11 @@ impl ContentsFault {
                 "an OBJECT IDENTIFIER has no contents (X.690, 8.19.2)"
             }
             ContentsFault::Arc => "a number of an OBJECT IDENTIFIER does not end (X.690, 8.19.2)",
-            ContentsFault::Utf8 => "the contents of a UTF8String are no UTF-8 (X.690, 8.23.10)",
+            ContentsFault::RelativeOid => "a RELATIVE-OID has no contents (X.690, 8.20.2)",
+            ContentsFault::RelativeArc => {
+                "a number of a RELATIVE-OID does not end (X.690, 8.20.2)"
+            }
+            ContentsFault::Utf8 => "the contents are no UTF-8 (X.690, 8.23.10)",
             ContentsFault::Bmp => {
                 "the contents of a BMPString are an odd number of octets (X.690, 8.23.8)"
             }
@@ -89,6 +105,7 @@ impl ContentsFault {
                 | ContentsFault::ConstructedEnumerated
                 | ContentsFault::ConstructedNull
                 | ContentsFault::ConstructedObjectIdentifier
+                | ContentsFault::ConstructedRelativeOid
                 | ContentsFault::PrimitiveSequence
                 | ContentsFault::PrimitiveSet
         )
@@ -112,6 +129,7 @@ fn constructed_fault(universal: Tag) -> Option<ContentsFault> {
         Tag::ENUMERATED => Some(ContentsFault::ConstructedEnumerated),
         Tag::NULL => Some(ContentsFault::ConstructedNull),
         Tag::OBJECT_IDENTIFIER => Some(ContentsFault::ConstructedObjectIdentifier),
+        Tag::RELATIVE_OID => Some(ContentsFault::ConstructedRelativeOid),
         _ => None,
     }
 }
@@ -122,10 +140,13 @@ fn primitive_fault(tags: ElementTags, contents: &[u8]) -> Option<ContentsFault> 
         Tag::BOOL if contents.len() != 1 => Some(ContentsFault::Boolean),
         Tag::INTEGER if contents.is_empty() => Some(ContentsFault::Integer),
         Tag::ENUMERATED if contents.is_empty() => Some(ContentsFault::Enumerated),
+        Tag::BIT_STRING if contents.is_empty() => Some(ContentsFault::BitString),
         Tag::BIT_STRING if !tells_unused_bits(contents) => Some(ContentsFault::UnusedBits),
         Tag::NULL if !contents.is_empty() => Some(ContentsFault::Null),
         Tag::OBJECT_IDENTIFIER if contents.is_empty() => Some(ContentsFault::ObjectIdentifier),
         Tag::OBJECT_IDENTIFIER if !ends_a_number(contents) => Some(ContentsFault::Arc),
+        Tag::RELATIVE_OID if contents.is_empty() => Some(ContentsFault::RelativeOid),
+        Tag::RELATIVE_OID if !ends_a_number(contents) => Some(ContentsFault::RelativeArc),
         Tag::UTF8_STRING if !is_utf8(tags.own, contents) => Some(ContentsFault::Utf8),
         Tag::BMP_STRING if contents.len() % 2 == 1 => Some(ContentsFault::Bmp),
         Tag::SEQUENCE => Some(ContentsFault::PrimitiveSequence),

@@ -44,6 +44,9 @@ pub(crate) fn read_failure<T: Decode>(
         TypeCheck::Sound if is_number(&place) && is_plain(error) => {
             failure_at(alloc, DecodeError::OutOfRange, &place, found)
         }
+        TypeCheck::Sound if is_object_identifier(&place) && is_plain(error) => {
+            failure_with(alloc, "an arc of 2^32 or more is not read", &place, found)
+        }
         TypeCheck::Sound | TypeCheck::Unknown => failure_at(alloc, error, &place, found),
     }
 }
@@ -87,6 +90,14 @@ fn is_number(place: &Place) -> bool {
     }
 }
 
+/// Whether an OBJECT IDENTIFIER is due at a place.
+fn is_object_identifier(place: &Place) -> bool {
+    match place.tags {
+        Some(tags) => tags.universal == Tag::OBJECT_IDENTIFIER,
+        None => false,
+    }
+}
+
 /// Why octets were not read at a place, for this error.
 fn failure_at(
     alloc: Global,
@@ -94,8 +105,19 @@ fn failure_at(
     place: &Place,
     found: Found,
 ) -> Result<ReadFailure, AllocError> {
+    let cause = cause_text(alloc, error, Some(place.limits))?;
+    failure_with(alloc, cause.as_str(), place, found)
+}
+
+/// The same for a cause in words.
+fn failure_with(
+    alloc: Global,
+    cause: &str,
+    place: &Place,
+    found: Found,
+) -> Result<ReadFailure, AllocError> {
     let mut words = path_text(alloc, place)?;
-    words.push_str(cause_text(alloc, error, Some(place.limits))?.as_str())?;
+    words.push_str(cause)?;
     Ok(ReadFailure {
         words,
         position: Some(found.position),

@@ -39,17 +39,17 @@ pub(crate) struct TypeFault {
 /// A rule of X.690 that the type of an element asks for.
 #[derive(Clone, Copy)]
 pub(crate) enum TypeRule {
-    /// A rule of DER.
-    Der(Rule),
-    /// A rule of BER.
-    Ber(ContentsFault),
+    /// One of those for which DER is looked through.
+    Listed(Rule),
+    /// One on the elements of the type.
+    OfContents(ContentsFault),
 }
 
 impl fmt::Display for TypeRule {
     fn fmt<W: fmt::Write>(&self, f: &mut fmt::Formatter<W>) -> fmt::Result {
         match self {
-            TypeRule::Der(rule) => write!(f, "{rule}"),
-            TypeRule::Ber(fault) => f.write_str(fault.words()),
+            TypeRule::Listed(rule) => write!(f, "{rule}"),
+            TypeRule::OfContents(fault) => f.write_str(fault.words()),
         }
     }
 }
@@ -75,7 +75,7 @@ pub(crate) fn check_type(
     let own = octets.get(position..).unwrap_or(&[]);
     let check = match form {
         CodecForm::Der => check_der_type(alloc, tags, own)?,
-        CodecForm::Ber => check_ber_type(alloc, tags, own),
+        CodecForm::Ber => check_ber_type(alloc, tags, own)?,
         CodecForm::Packed => TypeCheck::Unknown,
     };
     match check {
@@ -99,7 +99,7 @@ fn check_der_type(
     }
     match broken_rule_under(alloc, tags.universal, octets, element)? {
         Some(broken) => Ok(TypeCheck::Broken(TypeFault {
-            rule: TypeRule::Der(broken.rule),
+            rule: TypeRule::Listed(broken.rule),
             position: broken.position,
         })),
         None => Ok(TypeCheck::Sound),
@@ -107,14 +107,37 @@ fn check_der_type(
 }
 
 /// The same of the element with which octets of BER begin.
-fn check_ber_type(alloc: Global, tags: ElementTags, octets: &[u8]) -> TypeCheck {
+fn check_ber_type(
+    alloc: Global,
+    tags: ElementTags,
+    octets: &[u8],
+) -> Result<TypeCheck, AllocError> {
     let Ok(front) = front_element(alloc, octets) else {
-        return TypeCheck::Unknown;
+        return Ok(TypeCheck::Unknown);
     };
-    match find_element(front.normal.as_slice()) {
-        Ok(element) => check_contents(tags, octets, element),
-        Err(_) => TypeCheck::Unknown,
+    let normal = front.normal.as_slice();
+    let Ok(element) = find_element(normal) else {
+        return Ok(TypeCheck::Unknown);
+    };
+    let check = check_contents(tags, octets, element);
+    if !matches!(check, TypeCheck::Sound) {
+        return Ok(check);
     }
+    match broken_rule_under(alloc, tags.universal, normal, element)? {
+        Some(broken) if binds_ber(broken.rule) => {
+            let behind = broken.position.saturating_sub(header_length(normal));
+            Ok(TypeCheck::Broken(TypeFault {
+                rule: TypeRule::Listed(broken.rule),
+                position: header_length(octets).saturating_add(behind),
+            }))
+        }
+        _ => Ok(TypeCheck::Sound),
+    }
+}
+
+/// Whether a rule binds the contents octets of BER too: those of numbers are the fewest (X.690, 8.3.2 and 8.19.2).
+fn binds_ber(rule: Rule) -> bool {
+    matches!(rule, Rule::PaddedInteger | Rule::PaddedArc)
 }
 
 /// What the tag, the form and the contents octets tell of an element, whose own spelling begins the octets.
@@ -124,20 +147,20 @@ fn check_contents(tags: ElementTags, octets: &[u8], element: Element<'_>) -> Typ
     }
     match contents_fault(tags, element) {
         Some(fault) => TypeCheck::Broken(TypeFault {
-            rule: TypeRule::Ber(fault),
-            position: position_of(fault, octets),
+            rule: TypeRule::OfContents(fault),
+            position: position_of(fault, octets, element),
         }),
         None => TypeCheck::Sound,
     }
 }
 
-/// The position at which the element with which octets begin breaks a rule.
-fn position_of(fault: ContentsFault, octets: &[u8]) -> usize {
-    if fault.is_of_identifier() {
-        return 0;
+/// The position at which the element with which octets begin breaks a rule: that of its contents octets, unless it has none.
+fn position_of(fault: ContentsFault, octets: &[u8], element: Element<'_>) -> usize {
+    if fault.is_of_identifier() || element.contents.is_empty() {
+        0
+    } else {
+        header_length(octets)
     }
-    let header = header_length(octets);
-    if header < octets.len() { header } else { 0 }
 }
 
 /// The rule of DER that the element breaks with which octets begin, if it stands under this tag of the universal class, and the
