@@ -1,10 +1,10 @@
 #!/usr/bin/env python3
-"""Compiles the modules of examples/modules but expressions.asn1 with asn1_compile, and compares the crates that are made of them with what it prints.
+"""Compiles the modules of examples/modules with asn1_compile, and compares the crates that are made of them with what it prints.
 
     bench/compile.py [--try] [--prove NAME] [--round-trip NAME] [--layout NUMBER] [--refuse] [--time]
 
 The program is the one that is built (`rt run` in crates/asn1_compile builds it), or with `--try` it is run before its proof, by
-`rt try`. Each module has to compile. Where a crate of the table is in crates/, its src/ and proofs/ have to be the files that are
+`rt try`. Each module has to compile. Where a crate of the table is in crates/, its src/, specs/ and proofs/ have to be the files that are
 printed, and those that the table has as written by hand; its lib.rt then has each line of code that is printed, and more. The
 crates greetings_convert and greetings_c have to be what `--program` and `--exports` print. Then the program is run on wrong arguments,
 on modules with an error, and with `--out` and `--check`.
@@ -57,6 +57,7 @@ TABLE = {
     "cms": ("cms", [*(f"--extern={name}=asn1_x509::{name.split('.')[-1]}" for name in SIGNED),
                     "--extern=GeneralNames=asn1_x509_extensions::GeneralNames"], ["asn1_x509", "asn1_x509_extensions"]),
     "contents": ("contents", [], ["asn1_contents"]),
+    "expressions": ("expressions", [], []),
     "externals": ("externals", [], []),
     "greetings": ("greetings", [], []),
     "ldap": ("asn1_ldap", [f"--extern={name}=asn1_recursive::{name}" for name in FILTERS], ["asn1_recursive"]),
@@ -69,10 +70,10 @@ TABLE = {
     "x509_extensions": ("asn1_x509_extensions", [f"--extern={name}=asn1_x509::{name}" for name in NAMED], ["asn1_x509"]),
 }
 
-# The files of src/ and the folders of proofs/ that are written by hand in crates that are printed otherwise.
+# The files of src/, and the folders of specs and proofs, that are written by hand in crates that are printed otherwise.
 BY_HAND = {
-    "asn1_x509": ("src/laws.rt", "src/signed.rt", "src/valid.rt", "proofs/"),
-    "asn1_x509_extensions": ("src/laws.rt", "src/valid.rt", "proofs/"),
+    "asn1_x509": ("src/laws.rt", "src/signed.rt", "src/valid.rt", "specs/", "proofs/"),
+    "asn1_x509_extensions": ("src/laws.rt", "src/valid.rt", "specs/", "proofs/"),
 }
 
 # As many scopes as a value may nest.
@@ -137,7 +138,7 @@ def compare(crate, files):
     folder = CRATES / crate
     by_hand = BY_HAND.get(crate, ())
     found = {str(path.relative_to(folder)): path.read_text()
-             for part in ("src", "proofs") for path in sorted((folder / part).rglob("*")) if path.is_file()}
+             for part in ("src", "specs", "proofs") for path in sorted((folder / part).rglob("*")) if path.is_file()}
     printed_paths = [path for path in found if path in files or not path.startswith(by_hand)]
     expect(f"the files of {crate}", sorted(printed_paths), sorted(files))
     for path in sorted(found.keys() & files.keys()):
@@ -187,7 +188,8 @@ def clone_with(name, files):
         shutil.rmtree(clone / "crates" / crate, ignore_errors=True)
         lay(clone / "crates" / crate, files)
         lines = [line for line in (clone / "crates.txt").read_text().splitlines() if not line.startswith(f"{crate}:")]
-        lines.append(" ".join([f"{crate}: asn1_schema asn1_tags", *libraries]))
+        circles = ["asn1_circles"] if any(path.startswith("specs/") for path in files) else []
+        lines.append(" ".join([f"{crate}: asn1_schema asn1_tags", *circles, *libraries]))
         (clone / "crates.txt").write_text("\n".join(lines) + "\n")
         yield clone
 
