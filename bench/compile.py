@@ -54,6 +54,7 @@ ASKED = [*NAMED, "AlgorithmIdentifier", "Certificate", "Extensions"]
 # A file of examples/modules: the crate, what the program is told of types that exist already, and the crates of these.
 TABLE = {
     "certificates": ("certificates", [], []),
+    "circles": ("circles", [], []),
     "cms": ("cms", [*(f"--extern={name}=asn1_x509::{name.split('.')[-1]}" for name in SIGNED),
                     "--extern=GeneralNames=asn1_x509_extensions::GeneralNames"], ["asn1_x509", "asn1_x509_extensions"]),
     "contents": ("contents", [], ["asn1_contents"]),
@@ -77,7 +78,7 @@ BY_HAND = {
 }
 
 # As many scopes as a value may nest.
-DEPTH = 64
+DEPTH = 512
 
 faults = 0
 
