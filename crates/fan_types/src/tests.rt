@@ -7,6 +7,12 @@ const TRUE: &[u8] = &[1, 1, 0xff];
 
 const OTHER_TRUE: &[u8] = &[1, 1, 1];
 
+/// TRUE as in DER and another one, in a list.
+const OTHER_LIST: &[u8] = &[0x30, 6, 1, 1, 0xff, 1, 1, 1];
+
+/// The rule that the second breaks.
+const RULE: &[u8] = b"the octet of a TRUE is not ff (X.690, 11.1)";
+
 #[test]
 fn octets_are_checked(rt: HostRuntime) {
     let mut out = [0u8; 200];
@@ -15,6 +21,26 @@ fn octets_are_checked(rt: HostRuntime) {
     assert!(&rt; whole == Status::Ok.number());
     let other = check::<bool>(rt.alloc(), OTHER_TRUE, &mut position, &mut out, &mut size);
     assert!(&rt; other == Status::Fault.number() && size > 0);
+}
+
+#[test]
+fn faults_have_a_position_and_a_text(rt: HostRuntime) {
+    let mut out = [0u8; 200];
+    let (mut position, mut size) = (0usize, 0usize);
+    let status = check::<bool>(rt.alloc(), OTHER_TRUE, &mut position, &mut out, &mut size);
+    assert!(&rt; status == Status::Fault.number() && position == 2);
+    assert!(&rt; out.get(..size).unwrap_or(&[]) == RULE);
+    let listed = check::<Vec<bool>>(rt.alloc(), OTHER_LIST, &mut position, &mut out, &mut size);
+    assert!(&rt; listed == Status::Fault.number() && position == 7);
+    let mut little = [0u8; 5];
+    let status = check::<bool>(
+        rt.alloc(),
+        OTHER_TRUE,
+        &mut position,
+        &mut little,
+        &mut size,
+    );
+    assert!(&rt; status == Status::Room.number() && position == 2 && size == RULE.len());
 }
 
 #[test]
