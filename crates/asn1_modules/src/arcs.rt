@@ -35,6 +35,15 @@ pub fn standard_arc(arcs: &[u32], name: &[u8]) -> Option<u32> {
         [] => find_arc(&ROOTS, name),
         [0] => find_arc(&ITU_ARCS, name),
         [1] => find_arc(&ISO_ARCS, name),
+        [0, 0] => series_arc(name),
+        _ => None,
+    }
+}
+
+// The number of a series of Recommendations, which is named by its letter: a is 1, and z is 26.
+fn series_arc(name: &[u8]) -> Option<u32> {
+    match name {
+        [letter] if *letter >= b'a' && *letter <= b'z' => Some(u32::from(*letter - b'a') + 1),
         _ => None,
     }
 }
