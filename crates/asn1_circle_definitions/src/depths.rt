@@ -85,7 +85,7 @@ fn equations(alloc: Global, file: &TypeFile, property: Property) -> Result<Strin
     }
 }
 
-// Those for a CHOICE, one for each alternative.
+// The equations for a CHOICE, one for each alternative.
 fn choice_equations(
     alloc: Global,
     file: &TypeFile,
@@ -100,7 +100,7 @@ fn choice_equations(
     Ok(text)
 }
 
-// That for an alternative.
+// The equation for an alternative.
 fn alternative_equation(
     alloc: Global,
     file: &TypeFile,
@@ -120,7 +120,7 @@ fn alternative_equation(
     format!(in alloc; "{module}_{lemma} {argument}({own} v) = {proof}\n")
 }
 
-// That for a SEQUENCE.
+// The equation for a SEQUENCE.
 fn sequence_equation(
     alloc: Global,
     file: &TypeFile,

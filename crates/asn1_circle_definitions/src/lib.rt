@@ -19,6 +19,7 @@
 
 mod circle;
 mod depths;
+mod elements;
 mod lists;
 mod meaning;
 mod parts;

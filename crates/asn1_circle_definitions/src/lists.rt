@@ -227,7 +227,7 @@ fn add_definition_names(
     Ok(())
 }
 
-// What follows the module in the names of the definitions of a type.
+// The names of the definitions of a type, behind its module.
 fn suffixes_of(file: &TypeFile) -> &'static [&'static str] {
     match &file.body {
         TypeBody::Choice(_) => &["alternatives", "pick", "meaning"],
