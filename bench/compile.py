@@ -1,10 +1,10 @@
 #!/usr/bin/env python3
-"""Compiles the modules of examples/modules but expressions.asn1 with asn1_compile, and compares the crates that are made of them with what it prints.
+"""Compiles the modules of examples/modules with asn1_compile, and compares the crates that are made of them with what it prints.
 
     bench/compile.py [--try] [--prove NAME] [--round-trip NAME] [--layout NUMBER] [--refuse] [--time]
 
 The program is the one that is built (`rt run` in crates/asn1_compile builds it), or with `--try` it is run before its proof, by
-`rt try`. Each module has to compile. Where a crate of the table is in crates/, its src/ and proofs/ have to be the files that are
+`rt try`. Each module has to compile. Where a crate of the table is in crates/, its src/, specs/ and proofs/ have to be the files that are
 printed, and those that the table has as written by hand; its lib.rt then has each line of code that is printed, and more. The
 crates greetings_convert and greetings_c have to be what `--program` and `--exports` print. Then the program is run on wrong arguments,
 on modules with an error, and with `--out` and `--check`.
@@ -54,9 +54,11 @@ ASKED = [*NAMED, "AlgorithmIdentifier", "Certificate", "Extensions"]
 # A file of examples/modules: the crate, what the program is told of types that exist already, and the crates of these.
 TABLE = {
     "certificates": ("certificates", [], []),
+    "circles": ("circles", [], []),
     "cms": ("cms", [*(f"--extern={name}=asn1_x509::{name.split('.')[-1]}" for name in SIGNED),
                     "--extern=GeneralNames=asn1_x509_extensions::GeneralNames"], ["asn1_x509", "asn1_x509_extensions"]),
     "contents": ("contents", [], ["asn1_contents"]),
+    "expressions": ("expressions", [], []),
     "externals": ("externals", [], []),
     "greetings": ("greetings", [], []),
     "ldap": ("asn1_ldap", [f"--extern={name}=asn1_recursive::{name}" for name in FILTERS], ["asn1_recursive"]),
@@ -69,14 +71,14 @@ TABLE = {
     "x509_extensions": ("asn1_x509_extensions", [f"--extern={name}=asn1_x509::{name}" for name in NAMED], ["asn1_x509"]),
 }
 
-# The files of src/ and the folders of proofs/ that are written by hand in crates that are printed otherwise.
+# The files of src/, and the folders of specs and proofs, that are written by hand in crates that are printed otherwise.
 BY_HAND = {
-    "asn1_x509": ("src/laws.rt", "src/signed.rt", "src/valid.rt", "proofs/"),
-    "asn1_x509_extensions": ("src/laws.rt", "src/valid.rt", "proofs/"),
+    "asn1_x509": ("src/laws.rt", "src/signed.rt", "src/valid.rt", "specs/", "proofs/"),
+    "asn1_x509_extensions": ("src/laws.rt", "src/valid.rt", "specs/", "proofs/"),
 }
 
 # As many scopes as a value may nest.
-DEPTH = 64
+DEPTH = 512
 
 faults = 0
 
@@ -137,7 +139,7 @@ def compare(crate, files):
     folder = CRATES / crate
     by_hand = BY_HAND.get(crate, ())
     found = {str(path.relative_to(folder)): path.read_text()
-             for part in ("src", "proofs") for path in sorted((folder / part).rglob("*")) if path.is_file()}
+             for part in ("src", "specs", "proofs") for path in sorted((folder / part).rglob("*")) if path.is_file()}
     printed_paths = [path for path in found if path in files or not path.startswith(by_hand)]
     expect(f"the files of {crate}", sorted(printed_paths), sorted(files))
     for path in sorted(found.keys() & files.keys()):
@@ -187,7 +189,8 @@ def clone_with(name, files):
         shutil.rmtree(clone / "crates" / crate, ignore_errors=True)
         lay(clone / "crates" / crate, files)
         lines = [line for line in (clone / "crates.txt").read_text().splitlines() if not line.startswith(f"{crate}:")]
-        lines.append(" ".join([f"{crate}: asn1_schema asn1_tags", *libraries]))
+        circles = ["asn1_circles"] if any(path.startswith("specs/") for path in files) else []
+        lines.append(" ".join([f"{crate}: asn1_schema asn1_tags", *circles, *libraries]))
         (clone / "crates.txt").write_text("\n".join(lines) + "\n")
         yield clone
 
@@ -413,6 +416,10 @@ TOGETHER = ("M DEFINITIONS ::= BEGIN\nA ::= SEQUENCE { a NULL b NULL }\nB ::= SE
             "C ::= SEQUENCE { a NULL OPTIONAL, b NULL }\nD ::= CHOICE { a A, b A }\nE ::= CHOICE { a B, b B }\nF ::= VideotexString\n"
             "G ::= SEQUENCE { a INTEGER (0..many) }\nmany INTEGER ::= TRUE\nH {T} ::= SEQUENCE { a T OPTIONAL, b T }\nI ::= H {B}\nEND\n")
 FRONT = "M DEFINITIONS ::= BEGIN\nA ::= SEQUENCE { a NULL OPTIONAL, b NULL, c B }\nC ::= SEQUENCE { a NULL OPTIONAL, b NULL }\nD ::= $\nB ::= A\n"
+CIRCLES = ("M DEFINITIONS AUTOMATIC TAGS ::= BEGIN\nA ::= SEQUENCE { b B }\nB ::= SEQUENCE { a A }\nC ::= SET { c C OPTIONAL }\n"
+           "D ::= CHOICE { d D, e SEQUENCE OF E }\nE ::= CHOICE { d D, e SEQUENCE OF E, f NULL }\nEND\n")
+BESIDE = ("M DEFINITIONS AUTOMATIC TAGS ::= BEGIN\nTree ::= CHOICE { leaf NULL, trees SEQUENCE OF Tree }\nTreeReader ::= SEQUENCE { a NULL }\n"
+          "TreeOf ::= SEQUENCE { a NULL }\nEND\n")
 CLASH = "M DEFINITIONS ::= BEGIN\nA ::= SEQUENCE { a NULL OPTIONAL, b NULL }\nEND\n"
 
 
@@ -452,6 +459,12 @@ def try_arguments():
     expect("types without a name in a template", [text in files.get(f"src/{name}.rt", "") for name, text in
                                                   (("x", "inner: XInner,"), ("x_inner", "a: Integer,"), ("y", "inner: YInner,"), ("y_inner", "a: (),"))],
            [True] * 4)
+    written, told, status = run(["x"], CIRCLES)
+    expect("circles that are not printed", (written, [line.split("; ")[0] for line in told.splitlines()], status),
+           ("", ["-:2:1: no value of the types 'A', 'B' ends: each holds another", "-:4:1: no CHOICE or SEQUENCE is in each circle of the types 'C'",
+                 "-:5:1: no CHOICE or SEQUENCE is in each circle of the types 'D', 'E'"], 1))
+    expect("types with the names of files of a circle", sorted(path for path in files_of(run(["x"], BESIDE)[0]) if path.startswith("src/tree")),
+           ["src/tree.rt", "src/tree_of.rt", "src/tree_of2.rt", "src/tree_parts.rt", "src/tree_reader.rt", "src/tree_reader2.rt"])
     expect("--check", run(["x", "--check"], RIGHT), ("", "", 0))
     written, told, status = run(["x", "--help"])
     expect("--help", ("--extern" in written, told, status), (True, "", 0))

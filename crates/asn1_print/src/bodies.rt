@@ -1,11 +1,12 @@
 //! The files of types.
+use crate::circle_files::{push_files, push_generic};
 use crate::lowering::FileNames;
 use crate::notation::definition_lines;
+use crate::parameters::has_parameter;
 use crate::plan::Plan;
-use crate::request::PrintedFile;
 use crate::types::Owner;
 use asn1_rust_components::{TypeBody, TypeFile};
-use asn1_rust_types::{ProofFile, proof_files, type_file};
+use asn1_rust_types::{proof_files, type_file};
 use std::alloc::AllocError;
 
 /// Adds a file.
@@ -16,14 +17,21 @@ pub(crate) fn push_file(
     owner: Owner<'_>,
 ) -> Result<(), AllocError> {
     let file = type_file_of(plan, body, names, owner)?;
-    let text = type_file(plan.alloc, &file)?;
-    plan.add_source(names.module, text)?;
-    for proof in proof_files(plan.alloc, &file)? {
-        let ProofFile { path, text } = proof;
-        plan.files.push(PrintedFile { path, text })?;
+    let proofs = proof_files(plan.alloc, &file)?;
+    let exported = exported_names(plan, &file, names)?;
+    plan.add_module(names.module, false, exported)?;
+    push_source(plan, file)?;
+    push_files(plan, proofs)
+}
+
+// Adds the source of a file: that of a type with the parameter of a circle, if it holds it.
+fn push_source(plan: &mut Plan<'_, '_>, file: TypeFile) -> Result<(), AllocError> {
+    if file.lists.is_some() {
+        push_generic(plan, file)
+    } else {
+        let text = type_file(plan.alloc, &file)?;
+        plan.add_source(file.module.as_str(), text)
     }
-    let exported = exported_names(plan, &file.body, names)?;
-    plan.add_module(names.module, false, exported)
 }
 
 // A file that was not printed.
@@ -33,28 +41,55 @@ fn type_file_of(
     names: FileNames<'_>,
     owner: Owner<'_>,
 ) -> Result<TypeFile, AllocError> {
+    let lists = lists_of(plan, &body)?;
+    let name = file_name(plan, names, lists.is_some())?;
     Ok(TypeFile {
         crate_name: plan.text(plan.request.crate_name)?,
         page: definition_lines(plan.alloc, owner.summary, owner.notation)?,
         module: plan.text(names.module)?,
-        name: plan.text(names.name)?,
+        name,
         asn1_name: plan.text(owner.asn1_name)?,
         summary: plan.text(owner.summary)?,
         body,
-        lists: None,
+        lists,
     })
+}
+
+// The name of a type in Rust, with the parameter of a circle if it holds it.
+fn file_name(
+    plan: &Plan<'_, '_>,
+    names: FileNames<'_>,
+    has_parameter: bool,
+) -> Result<String, AllocError> {
+    match plan.generic_in(names.module) {
+        Some(name) if has_parameter => format!(in plan.alloc; "{name}<T>"),
+        _ => plan.text(names.name),
+    }
+}
+
+// The module with the lists of a type, if it holds the parameter of a circle.
+fn lists_of(plan: &Plan<'_, '_>, body: &TypeBody) -> Result<Option<String>, AllocError> {
+    match current_name(plan) {
+        Some(name) if has_parameter(body) => Ok(Some(format!(in plan.alloc; "{name}Lists")?)),
+        _ => Ok(None),
+    }
+}
+
+// The name of the knot of the circle of which a type is printed.
+fn current_name<'p>(plan: &'p Plan<'_, '_>) -> Option<&'p str> {
+    Some(plan.circles.get(plan.current_circle?.index)?.name.as_str())
 }
 
 // The names that the crate passes on of a file.
 fn exported_names(
     plan: &Plan<'_, '_>,
-    body: &TypeBody,
+    file: &TypeFile,
     names: FileNames<'_>,
 ) -> Result<Vec<String>, AllocError> {
     let mut exported = Vec::new(plan.alloc);
-    let name = plan.text(names.name)?;
+    let name = plan.text(file.plain_name())?;
     exported.push(name)?;
-    if !is_group(body) {
+    if !is_group(&file.body) && file.lists.is_none() {
         let module = names.module;
         let tagging = format!(in plan.alloc; "{module}_is_well_tagged")?;
         exported.push(tagging)?;

@@ -2,6 +2,7 @@
 use crate::components::{steps_of, tree_of};
 use crate::defaults::last_index;
 use crate::notation::quoted_part;
+use crate::parameters::held_by;
 use crate::plan::Plan;
 use crate::types::PartTexts;
 use asn1_names::Place;
@@ -50,6 +51,7 @@ pub(crate) fn alternative_with(
         alternative.place,
     )?;
     let is_null = is_null(plan, &alternative.definition);
+    let held = held_by(plan.alloc, &definition)?;
     Ok(asn1_rust_components::Alternative {
         name: plan.text(texts.name.as_str())?,
         variant: new_variant(plan.alloc, alternative.name, variants)?,
@@ -58,7 +60,7 @@ pub(crate) fn alternative_with(
         tagging,
         tree,
         is_null,
-        held: None,
+        held,
     })
 }
 

@@ -1,6 +1,7 @@
 //! The components of SEQUENCE and SET types.
 use crate::defaults::default_of;
 use crate::notation::{component_text, quoted_part};
+use crate::parameters::held_by;
 use crate::plan::Plan;
 use crate::tags::{Beginning, first_tags, least_rank, universal};
 use crate::types::{PartTexts, push_imports};
@@ -121,6 +122,7 @@ pub(crate) fn component_with(
     is_addition: bool,
 ) -> Result<asn1_rust_components::Component, AllocError> {
     let usage = usage_of(plan, component, &definition, is_addition)?;
+    let held = held_by(plan.alloc, &definition)?;
     Ok(asn1_rust_components::Component {
         name: plan.text(texts.name.as_str())?,
         field: field_name(plan.alloc, component, fields)?,
@@ -129,7 +131,7 @@ pub(crate) fn component_with(
         tagging,
         usage,
         is_addition,
-        held: None,
+        held,
     })
 }
 
@@ -256,6 +258,9 @@ fn defined_choice_tree(
     index: usize,
     place: Place,
 ) -> Result<Tree, AllocError> {
+    if let Some(generic) = plan.generic_of(index) {
+        return choice_tree(plan, generic.module.as_str());
+    }
     match plan.types.get(index) {
         Some(planned) if planned.external.is_none() => choice_tree(plan, planned.module.as_str()),
         _ => {

@@ -19,12 +19,15 @@
 
 mod bodies;
 mod choices;
+mod circle_files;
+mod circles;
 mod components;
 mod defaults;
 mod enumerations;
 mod integers;
 mod lowering;
 mod notation;
+mod parameters;
 mod plan;
 mod printing;
 mod program;

@@ -1,6 +1,7 @@
 //! Types and their parts as Rust has them. A type without a name gets a file where it is used.
 use crate::bodies::push_file;
 use crate::choices::{alternative_with, choice_with};
+use crate::circle_files::{name_generic, unnamed_generic};
 use crate::components::{
     component_with, constructed_with, group_component, group_text, group_with, require_few, tree_of,
 };
@@ -91,8 +92,12 @@ fn new_type(
         module: module.as_str(),
         tag: None,
     };
+    name_generic(plan, module.as_str(), name.as_str())?;
     add_file(plan, definition, names, owner)?;
-    plan.keep_unnamed_type(definition.place, name, module)
+    match unnamed_generic(plan, module.as_str(), name.as_str(), owner)? {
+        Some(generic) => Ok(generic),
+        None => plan.keep_unnamed_type(definition.place, name, module),
+    }
 }
 
 /// Adds the file of a SEQUENCE, a SET, a CHOICE or an ENUMERATED.

@@ -1,4 +1,5 @@
 //! The names of the definitions of a schema, and the files as far as they were made.
+use crate::circles::{CurrentCircle, GenericType, PlannedCircle, plan_circles};
 use crate::request::{Extern, PrintedFile, Request};
 use crate::strings::is_restricted_string;
 use crate::templates::Templates;
@@ -30,11 +31,14 @@ const RESERVED: &[&str] = &[
     "Debug",
     "Decode",
     "DecodeByIndex",
+    "DecodeByIndexWith",
     "DecodeChoice",
     "DecodeChoiceByIndex",
+    "DecodeChoiceWith",
     "DecodeError",
     "DecodeFields",
     "DecodeSetByIndex",
+    "DecodeWith",
     "Decoded",
     "Decoder",
     "Drop",
@@ -50,35 +54,47 @@ const RESERVED: &[&str] = &[
     "Eq",
     "Err",
     "Explicit",
+    "F",
     "Field",
     "FieldTable",
     "GeneralString",
     "GeneralizedTime",
     "Global",
     "GraphicString",
+    "HoldsItself",
     "Ia5String",
     "Identifier",
     "Implicit",
     "Integer",
+    "IsMadeOf",
     "IsWellTagged",
+    "Itself",
+    "Knot",
+    "KnotOf",
     "Lib",
+    "ListOf",
+    "Meant",
     "None",
     "NumericString",
     "ObjectDescriptor",
     "ObjectIdentifier",
     "OctetString",
     "Ok",
+    "OneOf",
     "Option",
     "PartialEq",
     "Prim",
     "PrintableString",
     "Rattle",
+    "ReadError",
     "Result",
     "SetOf",
+    "SetOfEach",
     "Size",
     "Some",
     "String",
     "Syntax",
+    "T",
     "Tag",
     "TagTree",
     "Tagging",
@@ -90,11 +106,13 @@ const RESERVED: &[&str] = &[
     "Utf8String",
     "Vec",
     "VisibleString",
+    "Whole",
 ];
 
 /// The modules that a crate has beside those of types, and the libraries of each crate.
 const MODULES: &[&str] = &[
     "aliases",
+    "asn1_circles",
     "asn1_contents",
     "asn1_schema",
     "asn1_tags",
@@ -144,6 +162,13 @@ pub(crate) struct Plan<'r, 'a> {
     pub(crate) markers: Vec<Marker>,
     pub(crate) constants: Vec<Constant>,
     pub(crate) problems: Vec<Problem>,
+    /// The circles of the schema, and that of which a type is printed.
+    pub(crate) circles: Vec<PlannedCircle>,
+    pub(crate) current_circle: Option<CurrentCircle>,
+    // The circle of each type, with its type with a parameter.
+    generics: Vec<Option<GenericType>>,
+    // The names of the types with a parameter that have no name in ASN.1, by their modules.
+    unnamed_generics: Vec<(String, String)>,
 }
 
 /// Whether a type has a file of its own.
@@ -222,6 +247,7 @@ pub(crate) fn plan_of<'r, 'a>(
     let mut plan = empty_plan(alloc, request, templates);
     plan.reserve_names()?;
     plan.name_types()?;
+    plan_circles(&mut plan)?;
     plan.find_explicit_tags()?;
     Ok(plan)
 }
@@ -247,6 +273,10 @@ fn empty_plan<'r, 'a>(
         markers: Vec::new(alloc),
         constants: Vec::new(alloc),
         problems: Vec::new(alloc),
+        circles: Vec::new(alloc),
+        current_circle: None,
+        generics: Vec::new(alloc),
+        unnamed_generics: Vec::new(alloc),
     }
 }
 
@@ -269,6 +299,7 @@ impl Plan<'_, '_> {
         for (index, definition) in schema.types.iter().enumerate() {
             let planned = self.planned(definition, index < schema.defined)?;
             self.types.push(planned)?;
+            self.generics.push(None)?;
         }
         Ok(())
     }
@@ -307,6 +338,98 @@ impl Plan<'_, '_> {
             module,
             external: None,
         })
+    }
+
+    /// The circle of a type, if it is of one.
+    pub(crate) fn circle_of(&self, index: usize) -> Option<usize> {
+        Some(self.generic_of(index)?.circle)
+    }
+
+    /// The type at which a circle is cut.
+    pub(crate) fn knot_of(&self, circle: usize) -> Option<usize> {
+        Some(self.circles.get(circle)?.knot)
+    }
+
+    /// The type with a parameter that a definition of a circle is.
+    pub(crate) fn generic_of(&self, index: usize) -> Option<&GenericType> {
+        match self.generics.get(index) {
+            Some(Some(generic)) => Some(generic),
+            _ => None,
+        }
+    }
+
+    /// Keeps the type with a parameter that a definition is, which is a name for it, unless it is the knot.
+    pub(crate) fn set_generic(
+        &mut self,
+        index: usize,
+        generic: GenericType,
+        is_alias: bool,
+    ) -> Result<(), AllocError> {
+        if let Some(known) = self.generics.get_mut(index) {
+            *known = Some(generic);
+        }
+        if is_alias {
+            self.set_alias(index)
+        } else {
+            Ok(())
+        }
+    }
+
+    // Makes a definition a name for another type.
+    fn set_alias(&mut self, index: usize) -> Result<(), AllocError> {
+        let aliases = self.text("aliases")?;
+        if let Some(planned) = self.types.get_mut(index) {
+            planned.module = aliases;
+        }
+        Ok(())
+    }
+
+    /// The module of what the knot of a circle is made of.
+    pub(crate) fn body_module(&self, circle: usize) -> Option<&str> {
+        Some(self.generic_of(self.knot_of(circle)?)?.module.as_str())
+    }
+
+    /// The name of the type with a parameter of a module.
+    pub(crate) fn generic_in(&self, module: &str) -> Option<&str> {
+        match self.defined_generic(module) {
+            Some(name) => Some(name),
+            None => self.unnamed_generic(module),
+        }
+    }
+
+    // The name of the type with a parameter of the module of a definition.
+    fn defined_generic(&self, module: &str) -> Option<&str> {
+        for known in &self.generics {
+            if let Some(generic) = known {
+                if generic.module.as_str() == module {
+                    return Some(generic.name.as_str());
+                }
+            }
+        }
+        None
+    }
+
+    // The name of the type with a parameter of the module of a type without a name in ASN.1.
+    fn unnamed_generic(&self, module: &str) -> Option<&str> {
+        for (known, name) in &self.unnamed_generics {
+            if known.as_str() == module {
+                return Some(name.as_str());
+            }
+        }
+        None
+    }
+
+    /// Names the type with a parameter that a type without a name in ASN.1 may be.
+    pub(crate) fn name_unnamed_generic(
+        &mut self,
+        module: &str,
+        name: &str,
+    ) -> Result<(), AllocError> {
+        let wanted = format!(in self.alloc; "{name}Of")?;
+        let generic = self.new_name(wanted.as_str())?;
+        let module = self.text(module)?;
+        self.unnamed_generics.push((module, generic))?;
+        Ok(())
     }
 
     /// A text of its own.

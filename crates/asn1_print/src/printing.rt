@@ -1,9 +1,10 @@
 //! A schema as the files of a crate.
 use crate::bodies::push_file;
+use crate::circle_files::{add_circles, add_generic_alias, keep_knot};
+use crate::circles::CurrentCircle;
 use crate::lowering::{FileNames, add_file, type_name};
 use crate::notation::text_of;
 use crate::plan::{Plan, has_file, plan_of};
-use crate::recursion::report_cycles;
 use crate::request::{Extern, Printed, PrintedFile, Request};
 use crate::strings::{is_restricted_string, restricted_string};
 use crate::types::{Owner, PartTexts, tag_number, warn_of_constraints};
@@ -21,7 +22,6 @@ use std::alloc::{AllocError, Global};
 /// The error of this call is that of memory. If a problem is an error, the files are incomplete.
 pub fn print_crate(alloc: Global, request: Request<'_, '_>) -> Result<Printed, AllocError> {
     let mut plan = plan_of(alloc, request)?;
-    report_cycles(&mut plan)?;
     for (index, definition) in request.schema.types.iter().enumerate() {
         add_definition(&mut plan, index, definition)?;
     }
@@ -29,6 +29,7 @@ pub fn print_crate(alloc: Global, request: Request<'_, '_>) -> Result<Printed, A
     for definition in &request.schema.values {
         add_value(&mut plan, definition, &mut names)?;
     }
+    add_circles(&mut plan)?;
     add_aliases(&mut plan)?;
     add_markers(&mut plan)?;
     add_constants(&mut plan)?;
@@ -51,7 +52,7 @@ fn add_definition(
         Some(planned) if planned.external.is_none() => {
             let name = plan.text(planned.name.as_str())?;
             let module = plan.text(planned.module.as_str())?;
-            add_named(plan, definition, name, module.as_str())
+            add_named(plan, index, definition, name, module.as_str())
         }
         _ => Ok(()),
     }
@@ -60,6 +61,7 @@ fn add_definition(
 // Adds a definition under its name in Rust: as a file of its own in a module, or as a name for another type.
 fn add_named(
     plan: &mut Plan<'_, '_>,
+    index: usize,
     definition: &TypeDefinition<'_>,
     name: String,
     module: &str,
@@ -68,12 +70,72 @@ fn add_named(
     if !has_file(&definition.definition) {
         return add_alias(plan, &definition.definition, name, texts.owner());
     }
+    if let Some(circle) = plan.circle_of(index) {
+        return add_member(
+            plan,
+            circle,
+            index,
+            definition,
+            name.as_str(),
+            texts.owner(),
+        );
+    }
     let names = FileNames {
         name: name.as_str(),
         module,
         tag: None,
     };
     add_own_file(plan, &definition.definition, names, texts.owner())
+}
+
+// Adds a definition of a circle: a file of a type with a parameter, and the knot, or a name for this type at the knot.
+fn add_member(
+    plan: &mut Plan<'_, '_>,
+    circle: usize,
+    index: usize,
+    definition: &TypeDefinition<'_>,
+    name: &str,
+    owner: Owner<'_>,
+) -> Result<(), AllocError> {
+    let (generic, module) = match plan.generic_of(index) {
+        Some(known) => (
+            plan.text(known.name.as_str())?,
+            plan.text(known.module.as_str())?,
+        ),
+        None => return Ok(()),
+    };
+    let module = module.as_str();
+    let names = FileNames {
+        name,
+        module,
+        tag: None,
+    };
+    plan.current_circle = Some(CurrentCircle {
+        index: circle,
+        place: definition.place,
+    });
+    add_own_file(plan, &definition.definition, names, owner)?;
+    plan.current_circle = None;
+    if plan.knot_of(circle) == Some(index) {
+        add_knot(plan, circle, index, name, owner)
+    } else {
+        add_generic_alias(plan, circle, name, module, generic.as_str(), owner)
+    }
+}
+
+// Keeps a knot for its own file.
+fn add_knot(
+    plan: &mut Plan<'_, '_>,
+    circle: usize,
+    index: usize,
+    name: &str,
+    owner: Owner<'_>,
+) -> Result<(), AllocError> {
+    let module = match plan.types.get(index) {
+        Some(planned) => plan.text(planned.module.as_str())?,
+        None => return Ok(()),
+    };
+    keep_knot(plan, circle, name, module.as_str(), owner)
 }
 
 // The texts for a definition with a name in Rust.

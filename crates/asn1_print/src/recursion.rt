@@ -1,33 +1,96 @@
 //! Types that hold themselves.
-use crate::notation::text_of;
 use crate::plan::Plan;
 use asn1_resolved::{Addition, Alternative, Component, Type, TypeKind};
 use std::alloc::{AllocError, Global};
 
-/// Reports each type that holds itself, by a reference to a type that does not exist already.
-pub(crate) fn report_cycles(plan: &mut Plan<'_, '_>) -> Result<(), AllocError> {
+/// The circles of a schema, by references to types that do not exist already: the types of each hold one another.
+pub(crate) fn circle_groups(plan: &Plan<'_, '_>) -> Result<Vec<Vec<usize>>, AllocError> {
     let references = list_references(plan)?;
     let groups = groups_of(plan.alloc, references.as_slice())?;
+    let groups = groups.as_slice();
+    let mut circles: Vec<Vec<usize>> = Vec::new(plan.alloc);
     for (index, referred) in references.iter().enumerate() {
-        if is_in_cycle(groups.as_slice(), index, referred.as_slice()) {
-            report_cycle(plan, index)?;
+        if is_in_cycle(groups, index, referred.as_slice()) && is_first(groups, index) {
+            let members = members_of(plan.alloc, groups, index)?;
+            circles.push(members)?;
         }
     }
-    Ok(())
+    Ok(circles)
 }
 
-// Reports that the type with an index holds itself.
-fn report_cycle(plan: &mut Plan<'_, '_>, index: usize) -> Result<(), AllocError> {
-    let schema = plan.request.schema;
-    if let Some(definition) = schema.types.get(index) {
-        let name = text_of(plan.alloc, definition.name)?;
-        let name = name.as_str();
-        let text = format!(in plan.alloc;
-            "'{name}' holds itself; name a type that exists by --extern {name}=crate::Type"
-        )?;
-        plan.error(definition.place, text.as_str())?;
+// Whether a type is the first of its group.
+fn is_first(groups: &[usize], index: usize) -> bool {
+    let group = groups.get(index);
+    for (other, known) in groups.iter().enumerate() {
+        if Some(known) == group {
+            return other == index;
+        }
     }
-    Ok(())
+    false
+}
+
+// The types of the group of a type.
+fn members_of(alloc: Global, groups: &[usize], index: usize) -> Result<Vec<usize>, AllocError> {
+    let group = groups.get(index);
+    let mut members: Vec<usize> = Vec::new(alloc);
+    for (other, known) in groups.iter().enumerate() {
+        if Some(known) == group {
+            members.push(other)?;
+        }
+    }
+    Ok(members)
+}
+
+/// Whether the types of a circle but this one hold one another no more.
+pub(crate) fn is_acyclic_without(
+    plan: &Plan<'_, '_>,
+    members: &[usize],
+    cut: usize,
+) -> Result<bool, AllocError> {
+    let all = list_references(plan)?;
+    let references = references_without(plan.alloc, all.as_slice(), members, cut)?;
+    let groups = groups_of(plan.alloc, references.as_slice())?;
+    Ok(is_acyclic(groups.as_slice(), references.as_slice()))
+}
+
+// Whether no type refers to one of its own group.
+fn is_acyclic(groups: &[usize], references: &[Vec<usize>]) -> bool {
+    for (index, referred) in references.iter().enumerate() {
+        if is_in_cycle(groups, index, referred.as_slice()) {
+            return false;
+        }
+    }
+    true
+}
+
+// The references of these types but one, to others than that.
+fn references_without(
+    alloc: Global,
+    all: &[Vec<usize>],
+    members: &[usize],
+    cut: usize,
+) -> Result<Vec<Vec<usize>>, AllocError> {
+    let mut references: Vec<Vec<usize>> = Vec::new(alloc);
+    for (index, referred) in all.iter().enumerate() {
+        let kept = if index != cut && members.contains(&index) {
+            others_than(alloc, referred.as_slice(), cut)?
+        } else {
+            Vec::new(alloc)
+        };
+        references.push(kept)?;
+    }
+    Ok(references)
+}
+
+// Those of these indices that are not this one.
+fn others_than(alloc: Global, indices: &[usize], cut: usize) -> Result<Vec<usize>, AllocError> {
+    let mut others: Vec<usize> = Vec::new(alloc);
+    for index in indices {
+        if *index != cut {
+            others.push(*index)?;
+        }
+    }
+    Ok(others)
 }
 
 // The references of each type to types that do not exist already.

@@ -1,5 +1,6 @@
 //! Types as code names them.
 use crate::integers::{built_in, has_limits, range_of};
+use crate::parameters::name_in_circle;
 use crate::plan::Plan;
 use asn1_names::Place;
 use asn1_notation::{ContentsKind, StringKind};
@@ -78,7 +79,10 @@ pub(crate) fn plain_name(
         TypeKind::String(kind) => string_type(plan, *kind, definition.place),
         TypeKind::Contents(kind) => contents_type(plan, *kind, definition.place),
         TypeKind::Any => plan.library_type("Any"),
-        TypeKind::Reference(index) => plan.referred_type(*index),
+        TypeKind::Reference(index) => match name_in_circle(plan, *index)? {
+            Some(name) => Ok(name),
+            None => plan.referred_type(*index),
+        },
         _ => plan.plain_type("()"),
     }
 }

@@ -1,7 +1,6 @@
-//! Types that hold themselves, of the module `Expressions` (examples/modules/expressions.asn1), in the form that `asn1_circles` is for.
+//! The types of these modules of ASN.1, in files made by `asn1_compile`:
 //!
-//! `Expr` is one circle with `Call` and `Terms`, cut at `Expr`; `Category` holds itself in a list, `Chain` in a box. Each circle has one
-//! recursive type, a box of an ordinary type with a parameter. `asn1_compile` does not print such types yet, so these files are kept by hand.
+//! - `Expressions`
 #![tactic(auto, using(asn1_schema::proofs::Trees::tree_shapes))]
 
 mod aliases;
