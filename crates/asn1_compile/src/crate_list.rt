@@ -10,6 +10,9 @@ use std::fs;
 // The library of the types whose values are kept as their contents octets.
 const CONTENTS: &str = "asn1_contents";
 
+// The library of the types that hold themselves.
+const CIRCLES: &str = "asn1_circles";
+
 /// Adds the lines of the crate that was written as these files, of its program and of its exports, to crates.txt, if the folder is
 /// crates/CRATE beside that file.
 pub(crate) fn list_crates<'a>(
@@ -72,6 +75,9 @@ fn missing_lines<'a>(
         if files.iter().any(names_contents) {
             push_library(&mut lines, CONTENTS)?;
         }
+        if files.iter().any(is_definition) {
+            push_library(&mut lines, CIRCLES)?;
+        }
         push_externs(rt, &mut lines, matches)?;
         lines.push('\n')?;
     }
@@ -92,6 +98,11 @@ fn missing_lines<'a>(
 // Whether a file names the library of the types whose values are kept as their contents octets.
 fn names_contents(file: &PrintedFile) -> bool {
     file.text.as_str().contains("asn1_contents::")
+}
+
+// Whether a file has definitions: a crate has them for types that hold themselves.
+fn is_definition(file: &PrintedFile) -> bool {
+    file.path.as_str().starts_with("specs/")
 }
 
 // Appends the crates of types that exist already, each once.
