@@ -1,4 +1,4 @@
--- What a walk through elements finds, from what it finds at their front and inside them.
+-- The findings of a walk through elements, from those at their front and inside them.
 use Rattle.std.specs.Bool.{◌==◌}
 use Rattle.std.proofs.Common.{◌≡◌, ◌≢◌, ◌<◌, ◌≤◌, ◌+◌, ◌-◌, ℕ, zero, suc, List, [], ◌∷◌, Option, None, Some, arith, false, length, refl, subst, sym, true}
 use Rattle.std.proofs.lemmas.Bool.{eqb-true}

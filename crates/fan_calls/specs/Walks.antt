@@ -1,4 +1,4 @@
--- What a walk through elements of DER (X.690, 8.1.1) finds, down to a depth.
+-- The findings of a walk through elements of DER (X.690, 8.1.1), down to a depth.
 use Rattle.std.specs.Prelude.{ℕ, List}
 use Rattle.asn1_der_items.specs.Elements.{Element}
 use Rattle.asn1_der_items.specs.Faults.{AreElementsDownTo, HoldsElements, IsFaultInside, IsFirstFault}

@@ -4,7 +4,7 @@ ghost use Rattle.fan_calls.specs.Walks.{Finds, FindsInside};
 
 use asn1_der_items::{Element, find_element};
 
-/// What a walk through elements of DER finds.
+/// The finding of a walk through elements of DER.
 #[derive(Clone, Copy, Debug, Drop, PartialEq, Eq)]
 pub enum Finding {
     /// The octets are elements, and so is all that is inside them.
