@@ -77,6 +77,13 @@ rust_tests() {
     return "${PIPESTATUS[0]}"
 }
 
+# A length that is not in its shortest form, and octets that end inside the outermost element.
+damaged_certificates() {
+    local departures=../examples/departures
+    "$build/damaged.c.out" $departures/long-length-inside.der | grep "^rule 3 of fanughespu.h is broken at byte 14$" &&
+        "$build/damaged.c.out" $departures/cut-off.der | grep "^no element begins at byte 0$"
+}
+
 fanughespu() {
     step "libfanughespu.a" build_library fanughespu
     step "certificates of the machine" make_certificates
@@ -86,6 +93,7 @@ fanughespu() {
     tests "rows in C" "$build/rows.c.out" rows.txt
     tests "no memory in C" "$build/no_memory.c.out"
     step "example" "$build/example.c.out" "${certificates[0]}"
+    step "damaged certificates" damaged_certificates
     tests "texts in C" "$build/texts.c.out" 1 "${texts[@]}"
     tests "certificates in C" "$build/certificates.c.out" 3 "${certificates[@]}"
     step "rows under valgrind" valgrind -q --error-exitcode=9 "$build/rows.c.out" rows.txt

@@ -25,5 +25,7 @@ int main(int count, char **words) {
     free(text);
     if (fan_certificate_broken_rule(octets, length, &rule, &at) == FAN_FAULT)
         printf("rule %u of fanughespu.h is broken at byte %zu\n", rule, at);
+    else if (fan_der_check(octets, length, &at) == FAN_FAULT)
+        printf("no element begins at byte %zu\n", at);
     return status == FAN_OK ? 0 : 1;
 }

@@ -51,7 +51,7 @@ class Fault(ValueError):
 
 
 class Deep(ValueError):
-    """Octets lie inside more than 64 elements."""
+    """Octets lie inside more than 64 constructed elements."""
 
 
 class Part(IntEnum):

@@ -32,7 +32,7 @@ pub enum Error {
     Malformed,
     /// There was no memory.
     Memory,
-    /// Octets lie inside more than 64 elements.
+    /// Octets lie inside more than 64 constructed elements.
     Deep,
 }
 

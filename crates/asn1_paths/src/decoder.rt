@@ -45,6 +45,12 @@ impl<D: Decoder> PathDecoder<D> {
         let place = self.path.place();
         (self.inner, place)
     }
+
+    /// The decoder that reads, and the place of the first component of a SET that came before; if none did, where it came to.
+    pub fn into_repeated(self) -> (D, Result<Place, AllocError>) {
+        let place = self.path.into_repeated();
+        (self.inner, place)
+    }
 }
 
 #[tactic(auto, using(crate::proofs::PathReaders::opens_nothing, crate::proofs::PathReaders::takes_depth, crate::proofs::PathReaders::gives_depth_back))]

@@ -37,6 +37,8 @@ struct Scope {
     kind: ScopeKind,
     /// The index of its first name among those of all scopes.
     names: usize,
+    /// The index of the first component of a SET that came in it, among those of all scopes.
+    came: usize,
     /// The index of the component or element that is next.
     next: usize,
     /// The index of the one that is read, or was read last.
@@ -53,6 +55,10 @@ pub(crate) struct Path {
     alloc: Global,
     scopes: Vec<Scope>,
     names: Vec<String>,
+    /// The indices of the components of SETs that came.
+    came: Vec<usize>,
+    /// The place of the first component of a SET that came before.
+    repeated: Option<Place>,
     /// The tags of the element that was begun last, if its type is known.
     tags: Option<ElementTags>,
     /// Its limits.
@@ -70,6 +76,8 @@ impl Path {
             alloc,
             scopes: Vec::new(alloc),
             names: Vec::new(alloc),
+            came: Vec::new(alloc),
+            repeated: None,
             tags: None,
             limits: Limits::NONE,
             wanted: None,
@@ -171,10 +179,40 @@ impl Path {
 
     /// Goes to a component of a SET by its index; without one, to an element that is none.
     pub(crate) fn begin_component(&mut self, index: Option<usize>) {
-        match index {
-            None => self.reach_end(),
-            Some(_) => self.set_current(index),
+        let Some(own) = index else {
+            self.reach_end();
+            return;
+        };
+        self.set_current(index);
+        if self.has_come(own) {
+            self.note_repeated();
+        } else {
+            let _ = self.came.push(own);
         }
+    }
+
+    /// Whether the component of that index came before in the innermost scope.
+    fn has_come(&self, index: usize) -> bool {
+        let first = match self.scopes.last() {
+            Some(scope) => scope.came,
+            None => 0,
+        };
+        self.came
+            .get(first..)
+            .is_some_and(|own| own.contains(&index))
+    }
+
+    /// Notes the place of the next element of the innermost scope, unless one was noted before.
+    fn note_repeated(&mut self) {
+        if self.repeated.is_none() {
+            self.repeated = self.next_place().ok();
+        }
+    }
+
+    /// The place of the component of a SET that came before, if there was one, or else that of the reader.
+    pub(crate) fn into_repeated(self) -> Result<Place, AllocError> {
+        let here = self.place()?;
+        Ok(self.repeated.unwrap_or(here))
     }
 
     fn set_current(&mut self, index: Option<usize>) {
@@ -198,9 +236,11 @@ impl Path {
     /// Goes into a scope that has no names.
     pub(crate) fn open_scope(&mut self, kind: ScopeKind) {
         let names = self.names.len();
+        let came = self.came.len();
         let _ = self.scopes.push(Scope {
             kind,
             names,
+            came,
             next: 0,
             current: None,
             elements: 0,
@@ -247,6 +287,7 @@ impl Path {
     pub(crate) fn close_scope(&mut self) {
         if let Some(scope) = self.scopes.pop() {
             self.names.truncate(scope.names);
+            self.came.truncate(scope.came);
         }
     }
 
@@ -257,6 +298,16 @@ impl Path {
             element_numbers: self.element_numbers()?,
             tags: self.tags,
             limits: self.limits,
+        })
+    }
+
+    /// The place of the next element of the innermost scope, whose type is not looked at.
+    fn next_place(&self) -> Result<Place, AllocError> {
+        Ok(Place {
+            path: self.text()?,
+            element_numbers: self.next_element_numbers()?,
+            tags: None,
+            limits: Limits::NONE,
         })
     }
 
@@ -321,6 +372,18 @@ impl Path {
             if scope.kind.is_element() && scope.elements > 0 {
                 numbers.push(scope.elements - 1)?;
             }
+        }
+        Ok(numbers)
+    }
+
+    /// The same of the next element of the innermost scope, which is an element of its own.
+    fn next_element_numbers(&self) -> Result<Vec<usize>, AllocError> {
+        let mut numbers = self.element_numbers()?;
+        if let Some(scope) = self.scopes.last() {
+            if scope.elements > 0 {
+                numbers.pop();
+            }
+            numbers.push(scope.elements)?;
         }
         Ok(numbers)
     }

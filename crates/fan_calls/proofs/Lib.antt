@@ -1,1 +1,2 @@
 mod Deeper
+mod Walking

@@ -12,6 +12,6 @@ abbrev pub HoldsDeeper : ℕ → Element → Type 0
 HoldsDeeper zero e = (e.constructed ≡ true) × (0 < length e.contents)
 HoldsDeeper (suc depth) e = (e.constructed ≡ true) × HasElement (HoldsDeeper depth) e.contents
 
--- Octets lie inside more elements of the bytes than the depth.
+-- Octets lie inside more constructed elements of the bytes than the depth.
 abbrev pub LiesDeeper : ℕ → List ℕ → Type 0
 LiesDeeper depth bytes = HasElement (HoldsDeeper depth) bytes

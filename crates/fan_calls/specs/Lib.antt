@@ -1,3 +1,4 @@
 pub mod Depths
 pub mod Results
 pub mod Statuses
+pub mod Walks

@@ -19,7 +19,7 @@ FAN_ROOM = pos 2
 abbrev pub FAN_MEMORY : ℤ
 FAN_MEMORY = pos 3
 
--- elements are nested deeper than the call looks
+-- constructed elements, or scopes of a value, are nested deeper than the call looks
 abbrev pub FAN_DEEP : ℤ
 FAN_DEEP = pos 4
 

@@ -5,11 +5,11 @@ ghost use Rattle.fan_calls.specs.Depths.{HoldsDeeper, LiesDeeper};
 
 use asn1_der_items::{Element, find_element};
 
-/// How many elements may lie around those that a call looks at.
+/// How many constructed elements may lie around the octets that a call looks at.
 pub const DEPTH: usize = 64;
 
-/// Whether elements of DER hold octets that lie inside more elements than this depth. It looks no further than the first octet at
-/// which an element is due and none begins.
+/// Whether elements of DER hold octets that lie inside more constructed elements than this depth. It looks no further than the first
+/// octet at which an element is due and none begins.
 #[cycle(depths)]
 pub fn lies_deeper(bytes: &[u8], depth: usize) -> bool
     ensures { Decides result (LiesDeeper depth bytes.now) }

@@ -13,7 +13,7 @@ pub enum Status {
     Room,
     /// Memory ran out.
     Memory,
-    /// Elements are nested deeper than the call looks.
+    /// Constructed elements, or scopes of a value, are nested deeper than the call looks.
     Deep,
 }
 

@@ -3,13 +3,13 @@ use Rattle.std.specs.Prelude.{ℕ, List, []}
 use Rattle.asn1_ber_items.specs.Spellings.{Spells}
 use Rattle.fan_calls.specs.Depths.{LiesDeeper}
 
--- The second octets are the elements of the first with definite lengths of the fewest octets, and none lies inside more elements than
--- the depth.
+-- The second octets are the elements of the first with definite lengths of the fewest octets, and none lies inside more constructed
+-- elements than the depth.
 pub record IsNormal (depth : ℕ) (octets normal : List ℕ) : Type 0 where
   pub spells : Spells octets normal []
   pub shallow : ¬ LiesDeeper depth normal
 
--- The octets are elements, of which some octets lie inside more elements than the depth.
+-- The octets are elements, of which some octets lie inside more constructed elements than the depth.
 pub record HasDeepNormal (depth : ℕ) (octets : List ℕ) : Type 0 where
   pub normal : List ℕ
   pub spells : Spells octets normal []

@@ -6,7 +6,7 @@ use Rattle.asn1_tags.specs.Tags.{class_number}
 use Rattle.fan_calls.specs.Depths.{LiesDeeper}
 use Rattle.fanughespu.specs.declared.elements.FanElement.{FanElement}
 
--- The octets are elements, and so is what is inside those that are constructed, with at most this many elements around it.
+-- The octets are elements, and so is what is inside those that are constructed, with at most this many constructed elements around it.
 pub record AreElements (depth : ℕ) (octets : List ℕ) : Type 0 where
   pub elements : AreElementsDownTo depth octets
   pub all : ¬ LiesDeeper depth octets

@@ -14,7 +14,7 @@ use std::alloc::Global;
 
 /// Writes the elements of BER that the octets are, each with a definite length of the fewest octets. Contents octets of primitive
 /// elements stay, since without a type they have no DER. `FAN_FAULT` if the octets are no elements of BER; `FAN_DEEP` if octets lie
-/// inside more than 64 elements.
+/// inside more than 64 constructed elements.
 #[unsafe(no_mangle)]
 pub extern "C" fn fan_ber_normal(
     alloc: Global,

@@ -13,7 +13,8 @@ use fan_calls::{DEPTH, Status, lies_deeper, put};
 use std::alloc::Global;
 
 /// `FAN_OK`, and the lines of the report of the certificate whose DER the octets are. `FAN_FAULT` if they are refused, and a message
-/// that says why in the place of the report. `FAN_DEEP` if octets lie inside more than 64 elements.
+/// that says why in the place of the report. `FAN_DEEP` if octets lie inside more than 64
+/// constructed elements.
 ///
 /// A certificate whose octets break a rule of DER and can be read has a report:
 /// [`fan_certificate_broken_rule`](crate::fan_certificate_broken_rule) tells the rule.

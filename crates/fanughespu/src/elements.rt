@@ -1,5 +1,5 @@
 //! Elements of DER.
-ghost use Rattle.std.specs.Prelude.{◌≡◌, ◌⊎◌, ◌↔◌, None, ℕ};
+ghost use Rattle.std.specs.Prelude.{◌≡◌, ◌≢◌, ◌⊎◌, ◌↔◌, None, ℕ};
 ghost use Rattle.asn1_der_items.specs.Elements.{element_at};
 ghost use Rattle.asn1_der_items.specs.Faults.{AreElementsDownTo, IsFirstFault};
 ghost use Rattle.fan_calls.specs.Depths.{LiesDeeper};
@@ -7,12 +7,12 @@ ghost use Rattle.fan_calls.specs.Statuses.{FAN_DEEP, FAN_FAULT, FAN_OK};
 ghost use Rattle.fanughespu.specs.Parts.{AreElements, BeginsWith};
 
 use asn1_der_items::fault_laws::bytes_with_a_fault_are_no_elements;
-use asn1_der_items::{find_element, first_fault};
-use fan_calls::{DEPTH, Status, lies_deeper};
+use asn1_der_items::find_element;
+use fan_calls::{DEPTH, Finding, Status, walk_through};
 
 /// `FAN_OK` if the octets are elements of DER, one after another, and so is what is inside those that are constructed. `FAN_FAULT`, and
 /// the position of the first octet, from 0, at which an element is due and none begins. `FAN_DEEP` if they are elements as far as the
-/// call looks, and octets lie inside more than 64 elements.
+/// call looks, and octets lie inside more than 64 constructed elements.
 #[unsafe(no_mangle)]
 pub extern "C" fn fan_der_check(octets: &[u8], position: &mut usize) -> i32
     ensures statuses { (result ≡ FAN_OK) ⊎ ((result ≡ FAN_FAULT) ⊎ (result ≡ FAN_DEEP)) }
@@ -21,16 +21,17 @@ pub extern "C" fn fan_der_check(octets: &[u8], position: &mut usize) -> i32
     ensures found { (at : ℕ) → IsFirstFault 64 octets.now at → result ≡ FAN_FAULT }
     ensures deep { (result ≡ FAN_DEEP) ↔
         (AreElementsDownTo 64 octets.now × LiesDeeper 64 octets.now) }
+    ensures no_position { result ≢ FAN_FAULT → position.new ≡ position.old }
 {
     bytes_with_a_fault_are_no_elements();
-    if let Some(first) = first_fault(octets, DEPTH) {
-        *position = first;
-        return Status::Fault.number();
+    match walk_through(octets, DEPTH) {
+        Finding::Elements => Status::Ok.number(),
+        Finding::Deeper => Status::Deep.number(),
+        Finding::Fault(first) => {
+            *position = first;
+            Status::Fault.number()
+        }
     }
-    if lies_deeper(octets, DEPTH) {
-        return Status::Deep.number();
-    }
-    Status::Ok.number()
 }
 
 /// The parts of an element.

@@ -1,7 +1,7 @@
-//! `Audience ::= CHOICE { everybody NULL, person UTF8String }`
+//! `Audience ::= CHOICE { everybody NULL, person UTF8String, ..., group UTF8String }`
 ghost use Rattle.std.specs.Prelude.{[], codes, refl, ◌∷◌};
-ghost use Rattle.asn1_schema.specs.Words.{IsWellTagged, choice_agrees, choice_of, choice_of_cases, context, inl, inr, tagged, variant};
-ghost use Rattle.greetings.specs.declared.audience.Audience.TheVariants.{Everybody, Person};
+ghost use Rattle.asn1_schema.specs.Words.{IsWellTagged, choice_agrees, choice_of, context, extensible_choice_after, inl, inr, tagged, variant};
+ghost use Rattle.greetings.specs.declared.audience.Audience.TheVariants.{Everybody, Person, Group};
 
 use asn1_schema::{
     AsnType, Choice, ChoiceType, Constraints, Decode, DecodeChoice, DecodeChoiceByIndex,
@@ -17,46 +17,51 @@ pub enum Audience {
     Everybody(()),
     /// `person UTF8String`
     Person(Utf8String),
+    /// `group UTF8String`
+    Group(Utf8String),
 }
 
 /// The trees of the alternatives.
 pub(crate) const AUDIENCE: &[TagTree<'static>] = &[
     TagTree::Leaf(tag!(context 0)),
     TagTree::Leaf(tag!(context 1)),
+    TagTree::Leaf(tag!(context 2)),
 ];
 
 impl DecodeChoiceByIndex for Audience {
     ghost cases = { variant (codes "everybody") Everybody (tagged (context 0) ⟦<() as AsnType>⟧.meaning) ⟦<() as PartialEq>⟧.eq ∷
-        variant (codes "person") Person (tagged (context 1) ⟦<Utf8String as AsnType>⟧.meaning) ⟦<Utf8String as PartialEq>⟧.eq ∷ [] };
+        variant (codes "person") Person (tagged (context 1) ⟦<Utf8String as AsnType>⟧.meaning) ⟦<Utf8String as PartialEq>⟧.eq ∷
+        variant (codes "group") Group (tagged (context 2) ⟦<Utf8String as AsnType>⟧.meaning) ⟦<Utf8String as PartialEq>⟧.eq ∷ [] };
 
-    ghost case_of = { elim [ Everybody x ↦ inl x | Person x ↦ inr (inl x) ] };
+    ghost case_of = { elim [ Everybody x ↦ inl x | Person x ↦ inr (inl x) | Group x ↦ inr (inr (inl x)) ] };
 
     fn decode_alternative<D: Decoder>(index: usize, decoder: &mut D) -> Result<Self, DecodeError> {
         match index {
             0 => Ok(Self::Everybody(alternative(decoder, Tagging::Tagged(tag!(context 0)))?)),
             1 => Ok(Self::Person(alternative(decoder, Tagging::Tagged(tag!(context 1)))?)),
+            2 => Ok(Self::Group(alternative(decoder, Tagging::Tagged(tag!(context 2)))?)),
             _ => Err(DecodeError::NoValidChoice("Audience")),
         }
     }
 
-    ghost made = { elim [ Everybody x ↦ (refl, λ _. refl) | Person x ↦ (refl, λ _. refl) ] };
+    ghost made = { elim [ Everybody x ↦ (refl, λ _. refl) | Person x ↦ (refl, λ _. refl) | Group x ↦ (refl, λ _. refl) ] };
 }
 
 impl Choice for Audience {
-    ghost alternatives = { choice_of_cases ⟦<Audience as DecodeChoiceByIndex>⟧.cases };
+    ghost alternatives = { extensible_choice_after 2 ⟦<Audience as DecodeChoiceByIndex>⟧.cases };
 
     ghost pick = { ⟦<Audience as DecodeChoiceByIndex>⟧.case_of };
 
     fn variants() -> &'static [TagTree<'static>] {
-        AUDIENCE
+        &AUDIENCE[..2]
     }
 
     fn extended_variants() -> Option<&'static [TagTree<'static>]> {
-        None
+        Some(&AUDIENCE[2..])
     }
 
     fn identifiers() -> &'static [&'static str] {
-        &["everybody", "person"]
+        &["everybody", "person", "group"]
     }
 }
 
@@ -98,6 +103,7 @@ impl EncodeChoice for Audience {
         match self {
             Self::Everybody(_) => tag!(context 0),
             Self::Person(_) => tag!(context 1),
+            Self::Group(_) => tag!(context 2),
         }
     }
 
@@ -105,6 +111,7 @@ impl EncodeChoice for Audience {
         match self {
             Self::Everybody(value) => value.encode_with_tag(encoder, tag!(context 0)),
             Self::Person(value) => value.encode_with_tag(encoder, tag!(context 1)),
+            Self::Group(value) => value.encode_with_tag(encoder, tag!(context 2)),
         }
     }
 }
