@@ -1,13 +1,13 @@
 -- The conversions of the values of an input.
-use Rattle.std.specs.Prelude.{◌≡◌, ◌+◌, ℕ, suc, ⊤, Bool, List, [], ◌∷◌, ◌++◌, length, IfErr, IfSome, IsSomeAnd, MatchResult, Result, Ok, Err, Vec}
+use Rattle.std.specs.Prelude.{◌≡◌, ◌+◌, ℕ, suc, ⊤, Bool, List, [], ◌∷◌, ◌++◌, length, IfSome, IsSomeAnd, MatchResult, Result, Ok, Err, Vec}
 use Rattle.std.specs.declared.alloc.Global.{Global}
 use Rattle.asn1_items.specs.declared.error.ItemError.{ItemError}
 use Rattle.asn1_items.specs.declared.error.ItemError.TheVariants as item_error
 use Rattle.asn1_laws.specs.Refusals.{Refusals}
+use Rattle.asn1_laws.specs.declared.decode_error.DecodeError.{DecodeError}
 use Rattle.asn1_model.specs.Meaning.{Meaning, own_records}
 use Rattle.asn1_rules.specs.CanonicalReading.{MayAnswer}
-use Rattle.asn1_rules.specs.Recoding.{Recodes, WritingFailsAsItMay}
-use Rattle.asn1_rules.specs.Rules.{IsNotWritten}
+use Rattle.asn1_rules.specs.Rules.{Format, IsNotWritten, IsWritten}
 use Rattle.asn1_rules.specs.declared.recoding.RecodeError.{RecodeError}
 use Rattle.asn1_rules.specs.declared.recoding.RecodeError.TheVariants.{Read, Write}
 use Rattle.asn1_value_text.specs.Texts.{text_format}
@@ -22,11 +22,21 @@ use Rattle.asn1_convert.specs.declared.stream.Cause.TheVariants.{NoFront, NotRec
 use Rattle.asn1_convert.specs.declared.stream.Stop.{Stop}
 
 module _ {V : Type 0} (m : Meaning V) (eq : V → V → Bool) (refusals : Refusals) (depth : ℕ) where
-  -- Why no text was made of octets: reading them may answer this error; or a value, of which a text is refused so.
-  abbrev pub IsNoText : Type 0 → CodecForm → List ℕ → RecodeError → Type 0
-  IsNoText MayRefuse from octets (Read e) = (input : Vec ℕ Global) → input.items ≡ octets → MayAnswer (format_of from) m eq refusals depth input (Err e)
-  IsNoText MayRefuse from octets (Write e) = (v : V) × IsNotWritten (text_format {O = Vec ℕ Global} MayRefuse) (own_records m v) depth e ×
-      ((input : Vec ℕ Global) → input.items ≡ octets → MayAnswer (format_of from) m eq refusals depth input (Ok v))
+  -- Reading these octets may give this answer. If they carry a valid value of a well-tagged type it is an equal one, and if they carry
+  -- records that the type refuses it is no value.
+  abbrev pub MayBeRead : CodecForm → List ℕ → Result V DecodeError → Type 0
+  MayBeRead from octets answer = (input : Vec ℕ Global) → input.items ≡ octets → MayAnswer (format_of from) m eq refusals depth input answer
+
+  -- A value that reading the octets may answer was written as this output.
+  pub record IsOfValue {O : Type 0} (to : Format O) (from : CodecForm) (octets : List ℕ) (output : O) : Type 0 where
+    pub value : V
+    pub may_be_read : MayBeRead from octets (Ok value)
+    pub written : IsWritten to (own_records m value) (m.IsOfType value) depth output
+
+  -- Why there is no output: reading the octets may answer this error; or a value, which may not be written for this error.
+  abbrev pub IsOfNoValue : {O : Type 0} → Format O → CodecForm → List ℕ → RecodeError → Type 0
+  IsOfNoValue to from octets (Read e) = MayBeRead from octets (Err e)
+  IsOfNoValue to from octets (Write e) = (v : V) × IsNotWritten to (own_records m v) depth e × MayBeRead from octets (Ok v)
 
   -- The line of a text of JSON, which is one document.
   pub record IsLineOfDocument (line : List ℕ) : Type 0 where
@@ -34,13 +44,19 @@ module _ {V : Type 0} (m : Meaning V) (eq : V → V → Bool) (refusals : Refusa
     pub ended : line ≡ text ++ 10 ∷ []
     pub one_document : IsSomeAnd (document text) HasUniqueKeys
 
-  -- A call that writes in one form the value that octets are in another. A text in X.680's notation may be any.
+  -- A text of the value was written, as a line of octets.
+  abbrev pub IsLineOfValue : Type 0 → CodecForm → List ℕ → Vec ℕ Global → Type 0
+  IsLineOfValue MayRefuse from octets line = IsOfValue (text_format {O = Vec ℕ Global} MayRefuse) from octets line
+
+  -- Why there is no line.
+  abbrev pub IsNoLine : Type 0 → CodecForm → List ℕ → RecodeError → Type 0
+  IsNoLine MayRefuse from octets e = IsOfNoValue (text_format {O = Vec ℕ Global} MayRefuse) from octets e
+
+  -- A call that writes in one form the value that octets are in another. Of a text in X.680's notation nothing else is said.
   abbrev pub Converts : CodecForm → List ℕ → OutputForm → Result (Vec ℕ Global) RecodeError → Type 0
-  Converts from octets (Codec to) result =
-      ((input : Vec ℕ Global) → input.items ≡ octets → Recodes (format_of to) m (format_of from) input eq depth result) ×
-      IfErr result (WritingFailsAsItMay (format_of to) m depth)
-  Converts from octets Notation result = IfErr result (IsNoText ⊥ from octets)
-  Converts from octets Json result = MatchResult result (λ line. IsLineOfDocument line.items) (IsNoText ⊤ from octets)
+  Converts from octets (Codec to) result = MatchResult result (IsOfValue (format_of to) from octets) (IsOfNoValue (format_of to) from octets)
+  Converts from octets Notation result = MatchResult result (IsLineOfValue ⊥ from octets) (IsNoLine ⊥ from octets)
+  Converts from octets Json result = MatchResult result (λ line. IsLineOfValue ⊤ from octets line × IsLineOfDocument line.items) (IsNoLine ⊤ from octets)
 
   -- The conversion of the value whose octets these are was appended.
   pub record HasAppended (from : CodecForm) (to : OutputForm) (octets old new : List ℕ) : Type 0 where

@@ -2,10 +2,11 @@
 ghost use Rattle.asn1_certificate_rules.specs.Departures.{KeepsRules};
 ghost use Rattle.asn1_certificate_rules.specs.declared.notation.Part.TheVariants as part;
 ghost use Rattle.asn1_certificate_rules.specs.declared.rule.RuleSet.TheVariants as rules;
-ghost use Rattle.asn1_convert.specs.Checks.{IsCheckError};
+ghost use Rattle.asn1_convert.specs.Checks.{AreRefusedFor, IsCheckError};
 ghost use Rattle.asn1_der.specs.Format.{der_format};
-ghost use Rattle.asn1_rules.specs.CanonicalReading.{IsWrittenAs};
-ghost use Rattle.std.specs.Prelude.{IfErr, IfOk, OnOk};
+ghost use Rattle.asn1_model.specs.Meaning.{IsWellTagged, own_records};
+ghost use Rattle.asn1_rules.specs.CanonicalReading.{HasOneSpelling, IsWrittenAs, MayAnswer};
+ghost use Rattle.std.specs.Prelude.{◌≡◌, true, IfErr, IfOk, MatchResult, Ok, OnOk};
 
 use crate::differences::differing_element;
 use crate::failing_place::place_at;
@@ -31,21 +32,34 @@ pub enum CheckError {
 }
 
 /// The value of which octets are the DER, with at most this many nested scopes: they break none of the rules of X.690 that reading
-/// asks for, and are what writing the value makes.
+/// asks for (`keeps`), and are what writing the value makes (`canonical`), as which they may be read (`answered`).
+///
+/// Octets that are the only DER of a valid value of a well-tagged type, and break none of these rules, are read as an equal value, unless
+/// memory runs out, elements lie inside more others than the depth, or its records are nested deeper (`read`).
 ///
 /// # Errors
 /// [`CheckError::Broken`] with a rule that they break and the position, or the position of elements that lie too deep;
 /// [`CheckError::NotCanonical`] with the error of [`read_canonical`].
+#[tactic(auto, using(crate::proofs::Checking::deeper_alone))]
 pub fn check_der<T: Encode + Decode>(
     alloc: Global,
     octets: &Vec<u8>,
     depth: usize,
 ) -> Result<T, CheckError>
+    ensures answered { IfOk result (λ w.
+        MayAnswer der_format T.meaning T.eq T.refusals depth octets.now (Ok w)) }
     ensures canonical { IfOk result (λ w.
         IsWrittenAs der_format T.meaning depth w octets.now.items) }
     ensures keeps { OnOk result (KeepsRules rules.OfReading part.Other octets.now.items) }
     ensures departs { IfErr result
         (IsCheckError T.meaning T.eq T.refusals depth octets.now) }
+    ensures read { (v : T) → IsWellTagged T.meaning → T.meaning.IsOfType v →
+        T.meaning.IsValid der_format.accepts v →
+        der_format.carries octets.now (own_records T.meaning v) →
+        HasOneSpelling der_format T.meaning T.eq v octets.now.items →
+        KeepsRules rules.OfReading part.Other octets.now.items →
+        MatchResult result (λ w. T.eq w v ≡ true)
+        (AreRefusedFor T.meaning depth v octets.now.items) }
 {
     if let Some(finding) = find_broken_rule(octets, Part::Other, RuleSet::OfReading, depth) {
         return Err(CheckError::Broken(finding));

@@ -4,7 +4,7 @@ use crate::elements::element_numbers;
 use crate::form::CodecForm;
 use asn1_ber::BerDecoder;
 use asn1_ber_items::normal_form;
-use asn1_dec::{Decode, Decoder};
+use asn1_dec::{Decode, DecodeError, Decoder};
 use asn1_der::DerDecoder;
 use asn1_paths::{PathDecoder, Place};
 use std::alloc::Global;
@@ -26,11 +26,14 @@ pub(crate) fn failing_place<T: Decode>(
     }
 }
 
-/// The place of a decoder after it has read a value or failed.
+/// The place of a decoder after it has read a value or failed: of a SET with a component that comes twice, that of the second one.
 fn place_in<T: Decode, D: Decoder + Drop>(decoder: D) -> Option<Place> {
     let mut noting = PathDecoder::new(decoder);
-    let _ = T::decode(&mut noting);
-    let (_decoder, place) = noting.into_parts();
+    let read = T::decode(&mut noting);
+    let (_decoder, place) = match read {
+        Err(DecodeError::DuplicateField(_)) => noting.into_repeated(),
+        _ => noting.into_parts(),
+    };
     place.ok()
 }
 

@@ -19,8 +19,11 @@
 //!   a stop names how many these are, the position of its first octet and its cause (`IsStop` of `specs/Conversions.antt`).
 //! - From codec to codec a value is converted as `recode` does, whose contract holds of each of the nine pairs ([`recode_between`]):
 //!   if the octets carry a valid value of a well-tagged type, the output carries one that is equal. JSON is a line with one document.
+//!   The output is always that of a value which reading the octets may answer (`IsOfValue`); of octets with records that the type
+//!   refuses there is none.
 //! - A value that [`check_der`] answers is written as the very octets (`canonical`), which break no rule that reading asks for
-//!   (`keeps`). An error is a true reason (`departs`).
+//!   (`keeps`). An error is a true reason (`departs`). Octets that keep these rules and are the only DER of a valid value are read, unless
+//!   memory or depth refuses (`read`).
 //!
 //! No contract covers texts in X.680's notation (`asn1_value_text`), nor the words of a line on standard error, nor the place that it
 //! names (`asn1_paths`); the stored run of test_converters shows them. A program converts its input as it comes

@@ -32,6 +32,9 @@ pub(crate) fn read_failure<T: Decode>(
         return failure_without_place(alloc, error);
     };
     let found = find_position(alloc, octets, place.element_numbers.as_slice());
+    if let DecodeError::DuplicateField(_) = error {
+        return failure_with(alloc, "the component is there twice", &place, found);
+    }
     match check_place(alloc, form, octets, &place, found)? {
         TypeCheck::Broken(fault) => {
             let mut words = path_text(alloc, &place)?;

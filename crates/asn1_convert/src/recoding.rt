@@ -1,10 +1,13 @@
 //! The octets of a value by one codec, of those by another.
 ghost use Rattle.asn1_convert.specs.Conversions.{Converts};
 ghost use Rattle.asn1_convert.specs.Forms.{format_of};
+ghost use Rattle.asn1_convert.specs.declared.form.OutputForm.TheVariants.{Codec};
+ghost use Rattle.asn1_model.specs.Meaning.{own_records};
 ghost use Rattle.asn1_rules.specs.CanonicalReading.{MayAnswer};
-ghost use Rattle.asn1_rules.specs.Recoding.{Recodes, WritingFailsAsItMay};
+ghost use Rattle.asn1_rules.specs.Recoding.{Recodes};
+ghost use Rattle.asn1_rules.specs.Rules.{WritesWhole};
 ghost use Rattle.asn1_laws.specs.declared.encode_error.EncodeError.TheVariants.{Memory};
-ghost use Rattle.std.specs.Prelude.{◌≡◌, ◌++◌, ◌∷◌, [], IfErr, MatchResult};
+ghost use Rattle.std.specs.Prelude.{◌≡◌, ◌++◌, ◌∷◌, [], MatchResult};
 ghost use Rattle.std.specs.String.{string_bytes};
 
 use crate::form::{CodecForm, OutputForm};
@@ -13,11 +16,13 @@ use asn1_ber::BerRules;
 use asn1_dec::{Decode, DecodeError};
 use asn1_der::DerRules;
 use asn1_enc::{Encode, EncodeError};
-use asn1_rules::{RecodeError, Rules, recode};
+use asn1_rules::{RecodeError, Rules};
 use asn1_value_text::{json_text, value_text};
 use std::alloc::Global;
 
 /// The octets of a value by one codec, of those by another, as [`recode`] answers them.
+///
+/// [`recode`]: asn1_rules::recode
 pub fn recode_between<T: Encode + Decode>(
     alloc: Global,
     from: CodecForm,
@@ -27,25 +32,16 @@ pub fn recode_between<T: Encode + Decode>(
 ) -> Result<Vec<u8>, RecodeError>
     ensures recoded { Recodes (format_of to) T.meaning (format_of from) octets.now T.eq depth
         result }
-    ensures writing { IfErr result (WritingFailsAsItMay (format_of to) T.meaning depth) }
+    ensures converted { Converts T.meaning T.eq T.refusals depth from octets.now.items (Codec to)
+        result }
 {
-    let (der, ber, packed) = (
-        DerRules::new(alloc),
-        BerRules::new(alloc),
-        BenchRules::new(alloc),
-    );
-    match (from, to) {
-        (CodecForm::Der, CodecForm::Der) => recode::<T, _, _>(&der, octets, &der, depth),
-        (CodecForm::Der, CodecForm::Ber) => recode::<T, _, _>(&der, octets, &ber, depth),
-        (CodecForm::Der, CodecForm::Packed) => recode::<T, _, _>(&der, octets, &packed, depth),
-        (CodecForm::Ber, CodecForm::Der) => recode::<T, _, _>(&ber, octets, &der, depth),
-        (CodecForm::Ber, CodecForm::Ber) => recode::<T, _, _>(&ber, octets, &ber, depth),
-        (CodecForm::Ber, CodecForm::Packed) => recode::<T, _, _>(&ber, octets, &packed, depth),
-        (CodecForm::Packed, CodecForm::Der) => recode::<T, _, _>(&packed, octets, &der, depth),
-        (CodecForm::Packed, CodecForm::Ber) => recode::<T, _, _>(&packed, octets, &ber, depth),
-        (CodecForm::Packed, CodecForm::Packed) => {
-            recode::<T, _, _>(&packed, octets, &packed, depth)
-        }
+    let value: T = match read_by(alloc, from, octets, depth) {
+        Ok(value) => value,
+        Err(error) => return Err(RecodeError::Read(error)),
+    };
+    match write_by(alloc, to, &value, depth) {
+        Ok(output) => Ok(output),
+        Err(error) => Err(RecodeError::Write(error)),
     }
 }
 
@@ -65,7 +61,24 @@ fn read_by<T: Decode>(
     }
 }
 
-/// The conversion of the value whose octets these are.
+/// The octets of a value by a codec.
+fn write_by<T: Encode>(
+    alloc: Global,
+    form: CodecForm,
+    value: &T,
+    depth: usize,
+) -> Result<Vec<u8>, EncodeError>
+    ensures { WritesWhole (format_of form) (own_records T.meaning value.now)
+        (T.meaning.IsOfType value.now) depth result }
+{
+    match form {
+        CodecForm::Der => DerRules::new(alloc).write_value(value, depth),
+        CodecForm::Ber => BerRules::new(alloc).write_value(value, depth),
+        CodecForm::Packed => BenchRules::new(alloc).write_value(value, depth),
+    }
+}
+
+/// The conversion of the value whose octets these are. No contract covers which value octets are read as that carry none.
 pub fn convert_value<T: Encode + Decode>(
     alloc: Global,
     from: CodecForm,

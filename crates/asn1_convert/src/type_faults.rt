@@ -163,7 +163,7 @@ fn position_of(fault: ContentsFault, octets: &[u8], element: Element<'_>) -> usi
     }
 }
 
-/// The rule of DER that the element breaks with which octets begin, if it stands under this tag of the universal class, and the
+/// The rule of DER that the element breaks with which octets begin, if it has this tag of the universal class in place of its own, and the
 /// position in these octets. An implicit tag changes the identifier octets alone (X.690, 8.14.4).
 fn broken_rule_under(
     alloc: Global,
