@@ -1,8 +1,8 @@
 """Octets of values of the types of greetings, by proved code: libgreetings_c.so beside this file.
 
 For each type `TYPE_check` raises `Fault` unless octets are the DER of a value. `TYPE_der`, `TYPE_text` and `TYPE_json` answer the value whose
-BER octets are as DER, in X.680's notation and as JSON, and raise `Fault` of others. Each raises `Deep` if the scopes of the value are
-nested more than 64 deep. ctypes lets other threads run during a call, and calls share nothing.
+BER octets are as DER, in X.680's notation and as JSON, and raise `Fault` of others. Each raises `Deep` if the value is nested
+more than 64 deep. ctypes lets other threads run during a call, and calls share nothing.
 """
 
 import ctypes
@@ -23,7 +23,7 @@ class Fault(ValueError):
 
 
 class Deep(ValueError):
-    """The scopes of the value are nested more than 64 deep."""
+    """The value is nested more than 64 deep."""
 
 
 def _call(name, *arguments):
@@ -39,7 +39,7 @@ def _written(call, octets, room, *arguments):
         if status == _MEMORY:
             raise MemoryError
         if status == _DEEP:
-            raise Deep("the scopes of the value are nested more than 64 deep")
+            raise Deep("the value is nested more than 64 deep")
         if status != _ROOM:
             return status, out.raw[: size.value]
         room = size.value

@@ -17,7 +17,7 @@ ghost use Rattle.std.specs.Prelude.{◌≡◌, ◌≢◌, ◌⊎◌, ◌≤◌, 
 ghost use Rattle.fan_calls.specs.Results.{LacksRoom, Puts};
 ghost use Rattle.fan_calls.specs.Statuses.{FAN_DEEP, FAN_FAULT, FAN_MEMORY, FAN_OK, FAN_ROOM};
 ghost use Rattle.fan_calls.specs.declared.status.Status.TheVariants as status;
-ghost use Rattle.fan_types.specs.Checks.{AcceptsOnlyDer, AreRefusedAs, IsDerOf};
+ghost use Rattle.fan_types.specs.Checks.{AcceptsOnlyDer, AreRefusedAs, IsDerOf, KeepRules};
 ghost use Rattle.fan_types.specs.Conversions.{IsConversion, IsNotConverted, as_der, as_json, as_text};
 
 ";
@@ -43,6 +43,7 @@ pub extern \"C\" fn @crate@_@function@_check(
     ensures statuses { (result ≡ FAN_OK) ⊎ ((result ≡ FAN_FAULT) ⊎
         ((result ≡ FAN_ROOM) ⊎ ((result ≡ FAN_MEMORY) ⊎ (result ≡ FAN_DEEP)))) }
     ensures der { result ≡ FAN_OK → IsDerOf ⟦<@type@ as AsnType>⟧.meaning octets.now }
+    ensures keeps { result ≡ FAN_OK → KeepRules octets.now }
     ensures found { AcceptsOnlyDer ⟦<@type@ as AsnType>⟧.meaning
         ⟦<@type@ as PartialEq>⟧.eq octets.now result }
     ensures refused { (result ≡ FAN_FAULT) ⊎ (result ≡ FAN_ROOM) →
@@ -56,6 +57,8 @@ pub extern \"C\" fn @crate@_@function@_check(
     ensures message { result ≡ FAN_FAULT → Puts (λ _. ⊤) text.old text.new size.new }
     ensures no_room { result ≡ FAN_ROOM → LacksRoom (λ _. ⊤) text.old text.new size.new }
     ensures stays { result ≢ FAN_FAULT → text.new ≡ text.old }
+    ensures no_position { result ≢ FAN_FAULT → result ≢ FAN_ROOM → position.new ≡ position.old }
+    ensures no_size { result ≢ FAN_FAULT → result ≢ FAN_ROOM → size.new ≡ size.old }
 {
 ";
 
@@ -90,6 +93,7 @@ pub extern \"C\" fn @crate@_@function@_@call@(
         IsNotConverted ⟦<@type@ as AsnType>⟧.meaning ⟦<@type@ as PartialEq>⟧.eq
         ⟦<@type@ as Decode>⟧.refusals as_@call@ octets.now status.Deep }
     ensures stays { result ≢ FAN_OK → output.new ≡ output.old }
+    ensures no_size { result ≢ FAN_OK → result ≢ FAN_ROOM → size.new ≡ size.old }
 {
 ";
 

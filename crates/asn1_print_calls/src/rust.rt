@@ -23,7 +23,7 @@ pub enum Error {
     Malformed,
     /// There was no memory.
     Memory,
-    /// The scopes of the value are nested more than 64 deep.
+    /// The value is nested more than 64 deep.
     Deep,
 }
 
@@ -33,7 +33,7 @@ impl fmt::Display for Error {
             Error::Fault(position, cause) => write!(f, \"{cause}, at octet {position}\"),
             Error::Malformed => f.write_str(\"the octets are not what is read\"),
             Error::Memory => f.write_str(\"no memory\"),
-            Error::Deep => f.write_str(\"the scopes of the value are nested more than 64 deep\"),
+            Error::Deep => f.write_str(\"the value is nested more than 64 deep\"),
         }
     }
 }

@@ -24,6 +24,14 @@ kept_back Room = refl
 kept_back Memory = refl
 kept_back Deep = refl
 
+-- 32 bits hold the number of a status
+pub kept_number : (s : Status) → kept (number_of s) ≡ number_of s
+kept_number Ok = refl
+kept_number Fault = refl
+kept_number Room = refl
+kept_number Memory = refl
+kept_number Deep = refl
+
 back : (s : Status) → status_of (number_of s) ≡ s
 back Ok = refl
 back Fault = refl

@@ -1,4 +1,7 @@
 -- The statuses of octets that were refused, by the error.
+use Rattle.asn1_certificate_rules.specs.declared.finding.Finding.TheVariants as finding
+use Rattle.asn1_convert.specs.declared.check.CheckError.{CheckError}
+use Rattle.asn1_convert.specs.declared.check.CheckError.TheVariants as check
 use Rattle.asn1_laws.specs.declared.decode_error.DecodeError.{DecodeError}
 use Rattle.asn1_laws.specs.declared.decode_error.DecodeError.TheVariants as reading
 use Rattle.asn1_laws.specs.declared.encode_error.EncodeError.{EncodeError}
@@ -28,6 +31,12 @@ abbrev pub status_of_canonical : CanonicalError → Status
 status_of_canonical (canonical.Read e) = status_of_reading e
 status_of_canonical (canonical.Write e) = status_of_writing e
 status_of_canonical (canonical.NotCanonical at) = Fault
+
+-- the status of octets that are looked through, read and written again
+abbrev pub status_of_check : CheckError → Status
+status_of_check (check.Broken (finding.Broken broken)) = Fault
+status_of_check (check.Broken (finding.Deeper position)) = Deep
+status_of_check (check.NotCanonical e) = status_of_canonical e
 
 -- the status of octets that are read by one codec and written by another
 abbrev pub status_of_recoding : RecodeError → Status

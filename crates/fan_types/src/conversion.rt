@@ -31,6 +31,7 @@ pub fn der<T: Encode + Decode>(
     ensures deep { result ≡ FAN_DEEP →
         IsNotConverted T.meaning T.eq T.refusals as_der octets.now status.Deep }
     ensures stays { result ≢ FAN_OK → out.new ≡ out.old }
+    ensures no_size { result ≢ FAN_OK → result ≢ FAN_ROOM → size.new ≡ size.old }
 {
     convert::<T>(alloc, octets, OutputForm::Codec(CodecForm::Der), out, size)
 }
@@ -54,6 +55,7 @@ pub fn text<T: Encode + Decode>(
     ensures deep { result ≡ FAN_DEEP →
         IsNotConverted T.meaning T.eq T.refusals as_text octets.now status.Deep }
     ensures stays { result ≢ FAN_OK → out.new ≡ out.old }
+    ensures no_size { result ≢ FAN_OK → result ≢ FAN_ROOM → size.new ≡ size.old }
 {
     convert::<T>(alloc, octets, OutputForm::Notation, out, size)
 }
@@ -77,6 +79,7 @@ pub fn json<T: Encode + Decode>(
     ensures deep { result ≡ FAN_DEEP →
         IsNotConverted T.meaning T.eq T.refusals as_json octets.now status.Deep }
     ensures stays { result ≢ FAN_OK → out.new ≡ out.old }
+    ensures no_size { result ≢ FAN_OK → result ≢ FAN_ROOM → size.new ≡ size.old }
 {
     convert::<T>(alloc, octets, OutputForm::Json, out, size)
 }
@@ -101,6 +104,7 @@ fn convert<T: Encode + Decode>(
     ensures deep { result ≡ FAN_DEEP →
         IsNotConverted T.meaning T.eq T.refusals to octets.now status.Deep }
     ensures stays { result ≢ FAN_OK → out.new ≡ out.old }
+    ensures no_size { result ≢ FAN_OK → result ≢ FAN_ROOM → size.new ≡ size.old }
 {
     let Ok(own) = Vec::from_slice(alloc, octets) else {
         return Status::Memory.number();

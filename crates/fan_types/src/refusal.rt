@@ -1,14 +1,27 @@
 //! The statuses of octets that were refused.
 ghost use Rattle.std.specs.Prelude.{◌≡◌};
-ghost use Rattle.fan_types.specs.Refusals.{status_of_canonical, status_of_recoding, status_of_reading, status_of_writing};
+ghost use Rattle.fan_types.specs.Refusals.{status_of_canonical, status_of_check, status_of_recoding, status_of_reading, status_of_writing};
 
+use asn1_certificate_rules::Finding;
+use asn1_convert::CheckError;
 use asn1_dec::DecodeError;
 use asn1_enc::EncodeError;
 use asn1_rules::{CanonicalError, RecodeError};
 use fan_calls::Status;
 
+/// The status of octets that [`asn1_convert::check_der`] refuses for this error.
+pub(crate) fn status_of_check(error: CheckError) -> Status
+    ensures { result ≡ status_of_check error }
+{
+    match error {
+        CheckError::Broken(Finding::Broken(_)) => Status::Fault,
+        CheckError::Broken(Finding::Deeper(_)) => Status::Deep,
+        CheckError::NotCanonical(error) => status_of_canonical(error),
+    }
+}
+
 /// The status of octets that [`asn1_rules::read_canonical`] refuses for this error.
-pub(crate) fn status_of_canonical(error: CanonicalError) -> Status
+fn status_of_canonical(error: CanonicalError) -> Status
     ensures { result ≡ status_of_canonical error }
 {
     match error {

@@ -1,5 +1,6 @@
 //! Each call succeeds: a contract lets one that always runs out of memory through.
 use super::{check, der, json, text};
+use asn1_types::Any;
 use fan_calls::Status;
 
 /// The DER of TRUE, and other octets that BER has for it (X.690, 8.2.2 and 11.1).
@@ -10,7 +11,10 @@ const OTHER_TRUE: &[u8] = &[1, 1, 1];
 /// TRUE as in DER and another one, in a list.
 const OTHER_LIST: &[u8] = &[0x30, 6, 1, 1, 0xff, 1, 1, 1];
 
-/// The rule that the second breaks.
+/// A SEQUENCE with an INTEGER of one octet too many (X.690, 8.3.2).
+const PADDED_INSIDE: &[u8] = &[0x30, 4, 2, 2, 0, 1];
+
+/// The rule that OTHER_TRUE breaks.
 const RULE: &[u8] = b"the octet of a TRUE is not ff (X.690, 11.1)";
 
 #[test]
@@ -41,6 +45,20 @@ fn faults_have_a_position_and_a_text(rt: HostRuntime) {
         &mut size,
     );
     assert!(&rt; status == Status::Room.number() && position == 2 && size == RULE.len());
+}
+
+#[test]
+fn open_types_are_looked_into(rt: HostRuntime) {
+    let mut out = [0u8; 200];
+    let (mut position, mut size) = (0usize, 0usize);
+    let padded = check::<Any>(
+        rt.alloc(),
+        PADDED_INSIDE,
+        &mut position,
+        &mut out,
+        &mut size,
+    );
+    assert!(&rt; padded == Status::Fault.number() && position == 4);
 }
 
 #[test]

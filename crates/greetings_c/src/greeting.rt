@@ -3,7 +3,7 @@ ghost use Rattle.std.specs.Prelude.{◌≡◌, ◌≢◌, ◌⊎◌, ◌≤◌, 
 ghost use Rattle.fan_calls.specs.Results.{LacksRoom, Puts};
 ghost use Rattle.fan_calls.specs.Statuses.{FAN_DEEP, FAN_FAULT, FAN_MEMORY, FAN_OK, FAN_ROOM};
 ghost use Rattle.fan_calls.specs.declared.status.Status.TheVariants as status;
-ghost use Rattle.fan_types.specs.Checks.{AcceptsOnlyDer, AreRefusedAs, IsDerOf};
+ghost use Rattle.fan_types.specs.Checks.{AcceptsOnlyDer, AreRefusedAs, IsDerOf, KeepRules};
 ghost use Rattle.fan_types.specs.Conversions.{IsConversion, IsNotConverted, as_der, as_json, as_text};
 
 use asn1_schema::{AsnType, Decode};
@@ -22,6 +22,7 @@ pub extern "C" fn greetings_greeting_check(
     ensures statuses { (result ≡ FAN_OK) ⊎ ((result ≡ FAN_FAULT) ⊎
         ((result ≡ FAN_ROOM) ⊎ ((result ≡ FAN_MEMORY) ⊎ (result ≡ FAN_DEEP)))) }
     ensures der { result ≡ FAN_OK → IsDerOf ⟦<Greeting as AsnType>⟧.meaning octets.now }
+    ensures keeps { result ≡ FAN_OK → KeepRules octets.now }
     ensures found { AcceptsOnlyDer ⟦<Greeting as AsnType>⟧.meaning
         ⟦<Greeting as PartialEq>⟧.eq octets.now result }
     ensures refused { (result ≡ FAN_FAULT) ⊎ (result ≡ FAN_ROOM) →
@@ -35,6 +36,8 @@ pub extern "C" fn greetings_greeting_check(
     ensures message { result ≡ FAN_FAULT → Puts (λ _. ⊤) text.old text.new size.new }
     ensures no_room { result ≡ FAN_ROOM → LacksRoom (λ _. ⊤) text.old text.new size.new }
     ensures stays { result ≢ FAN_FAULT → text.new ≡ text.old }
+    ensures no_position { result ≢ FAN_FAULT → result ≢ FAN_ROOM → position.new ≡ position.old }
+    ensures no_size { result ≢ FAN_FAULT → result ≢ FAN_ROOM → size.new ≡ size.old }
 {
     fan_types::check::<Greeting>(alloc, octets, position, text, size)
 }
@@ -62,6 +65,7 @@ pub extern "C" fn greetings_greeting_der(
         IsNotConverted ⟦<Greeting as AsnType>⟧.meaning ⟦<Greeting as PartialEq>⟧.eq
         ⟦<Greeting as Decode>⟧.refusals as_der octets.now status.Deep }
     ensures stays { result ≢ FAN_OK → output.new ≡ output.old }
+    ensures no_size { result ≢ FAN_OK → result ≢ FAN_ROOM → size.new ≡ size.old }
 {
     fan_types::der::<Greeting>(alloc, octets, output, size)
 }
@@ -89,6 +93,7 @@ pub extern "C" fn greetings_greeting_text(
         IsNotConverted ⟦<Greeting as AsnType>⟧.meaning ⟦<Greeting as PartialEq>⟧.eq
         ⟦<Greeting as Decode>⟧.refusals as_text octets.now status.Deep }
     ensures stays { result ≢ FAN_OK → output.new ≡ output.old }
+    ensures no_size { result ≢ FAN_OK → result ≢ FAN_ROOM → size.new ≡ size.old }
 {
     fan_types::text::<Greeting>(alloc, octets, output, size)
 }
@@ -116,6 +121,7 @@ pub extern "C" fn greetings_greeting_json(
         IsNotConverted ⟦<Greeting as AsnType>⟧.meaning ⟦<Greeting as PartialEq>⟧.eq
         ⟦<Greeting as Decode>⟧.refusals as_json octets.now status.Deep }
     ensures stays { result ≢ FAN_OK → output.new ≡ output.old }
+    ensures no_size { result ≢ FAN_OK → result ≢ FAN_ROOM → size.new ≡ size.old }
 {
     fan_types::json::<Greeting>(alloc, octets, output, size)
 }

@@ -1,8 +1,16 @@
-use Rattle.std.proofs.Common.{inl, inr}
-use Rattle.fan_types.proofs.Numbers.{same_status}
+use Rattle.std.proofs.Common.{◌∙◌, ℤ, ap, inl, inr, subst, sym}
+use Rattle.fan_types.proofs.Numbers.{kept, kept_number, same_status}
 use Rattle.fan_calls.specs.declared.status.Status.TheVariants as status
-use Rattle.fan_types.proofs.Accepting.{are_refused}
+use Rattle.fan_types.proofs.Accepting.{are_refused, refused}
+use Rattle.fan_types.specs.Checks.{AcceptsOnlyDer}
 use Rattle.fan_types.proofs.checking.check.Goals as goal
+
+pub returns-clause-found : goal.returns-clause-found
+returns-clause-found g c =
+    let m = g.T.AsnType.meaning in
+    let eq = g.T.PartialEq.eq in
+    subst (λ (n : ℤ). AcceptsOnlyDer m eq c.args.octets.now n) (sym (ap kept c.number-in-Err.ensures ∙ kept_number c.put_refusal.result))
+    (refused m eq c.in-Ok.own c.args.octets.now c.in-Ok.ensures.items c.in-Err.error c.in-Err.ensures.read c.put_refusal.result c.put_refusal.ensures.others)
 
 pub returns-clause-refused : goal.returns-clause-refused
 returns-clause-refused g c = λ told.
