@@ -16,7 +16,8 @@ use crate::message::{Message, messages_of};
 use crate::problems::syntax_problems;
 use asn1_grammar::{AssociatedModule, Parsed, associated_modules, parse};
 use asn1_module_check::{check_extensible_choices, check_tags};
-use asn1_modules::Source;
+use asn1_modules::{Source, collect_names};
+use asn1_objects::objects_of;
 use asn1_print::{Extern, Printed, Request, print_crate, print_program};
 use asn1_resolved::{Problem, Schema, Severity};
 use asn1_resolver::{Resolution, resolve};
@@ -33,7 +34,9 @@ pub fn compile(alloc: Global, job: Job<'_>) -> Result<Compiled, AllocError>
     let parsed = parse_all(alloc, job.inputs)?;
     let associated = associated_modules(alloc, parsed.as_slice())?;
     let sources = sources_of(alloc, job.inputs, parsed.as_slice(), associated.as_slice())?;
-    let resolution = resolve(alloc, sources.as_slice())?;
+    let names = collect_names(alloc, sources.as_slice())?;
+    let objects = objects_of(alloc, sources.as_slice(), &names)?;
+    let resolution = resolve(alloc, sources.as_slice(), &objects)?;
     let problems = syntax_problems(alloc, job.inputs, parsed.as_slice())?;
     if problems.is_empty() {
         compile_resolved(alloc, job, sources.as_slice(), resolution)

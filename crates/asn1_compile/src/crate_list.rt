@@ -7,8 +7,9 @@ use std::alloc::AllocError;
 use std::fmt::Write;
 use std::fs;
 
-// The library of the types whose values are kept as their contents octets.
-const CONTENTS: &str = "asn1_contents";
+// The libraries that a crate may name: that of the types whose values are kept as their contents octets, and that of the values of
+// open types.
+const LIBRARIES: &[&str] = &["asn1_contents", "asn1_tables"];
 
 /// Adds the lines of the crate that was written as these files, of its program and of its exports, to crates.txt, if the folder is
 /// crates/CRATE beside that file.
@@ -69,8 +70,10 @@ fn missing_lines<'a>(
     let mut lines = String::new(rt.alloc());
     if !is_listed(list, crate_name) {
         write!(&mut lines, "{crate_name}: asn1_schema asn1_tags")?;
-        if files.iter().any(names_contents) {
-            push_library(&mut lines, CONTENTS)?;
+        for library in LIBRARIES {
+            if files.iter().any(|file| names_library(file, library)) {
+                push_library(&mut lines, library)?;
+            }
         }
         push_externs(rt, &mut lines, matches)?;
         lines.push('\n')?;
@@ -89,9 +92,12 @@ fn missing_lines<'a>(
     Ok(lines)
 }
 
-// Whether a file names the library of the types whose values are kept as their contents octets.
-fn names_contents(file: &PrintedFile) -> bool {
-    file.text.as_str().contains("asn1_contents::")
+// Whether a file names this library, which ends in front of two colons.
+fn names_library(file: &PrintedFile, library: &str) -> bool {
+    match file.text.as_str().split_once(library) {
+        Some((_, rest)) => rest.starts_with("::"),
+        None => false,
+    }
 }
 
 // Appends the crates of types that exist already, each once.

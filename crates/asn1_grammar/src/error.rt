@@ -35,6 +35,10 @@ pub enum Expected {
     AnyName,
     /// The name of a field, behind '&'.
     FieldName,
+    /// The name of an object or an object set, or an object in braces.
+    ObjectName,
+    /// A word of the syntax of a class.
+    SyntaxWord,
     /// A definition, or END.
     Definition,
     /// '::='.
@@ -113,6 +117,8 @@ impl Expected {
             Expected::NumberName => "the name of a number",
             Expected::AnyName => "the name of a type or of a value",
             Expected::FieldName => "the name of a field, behind '&'",
+            Expected::ObjectName => "an object or an object set",
+            Expected::SyntaxWord => "a word, a comma or the name of a field",
             Expected::Definition => "a definition, or END",
             Expected::Assignment => "'::='",
             Expected::OpenBrace => "'{'",

@@ -4,6 +4,9 @@
 //! |---|---|
 //! | [`parse`], [`Parsed`] | reads a text: its modules (`asn1_notation`) and its errors, in the order of the text |
 //! | [`associated_modules`], [`AssociatedModule`], [`AssociatedType`] | the definitions of EXTERNAL and its like, if texts name them |
+//! | [`parse_object`], [`ObjectNotation`], [`Setting`] | reads an object by the notation of its class (X.681, 10 and 11) |
+//! | [`parse_syntax`], [`parse_default`] | reads the braces behind WITH SYNTAX, and the DEFAULT of a field |
+//! | [`parse_object_set`], [`ObjectSet`] | reads the elements of an object set (X.681, 12) |
 //! | [`MAX_DEPTH`] | how many types, values or constraints may be inside one another |
 //! | [`SyntaxError`], [`Cause`] | a place of the text, and why it was not read |
 //! | [`Expected`], [`Owner`] | the item that was expected, and the name before it |
@@ -39,11 +42,15 @@ mod macros;
 mod messages;
 mod modules;
 mod named_types;
+mod object_sets;
+mod object_syntax;
+mod objects;
 mod parameters;
 mod parsed;
 mod plain_constraints;
 mod plain_types;
 mod slips;
+mod spans;
 mod tables;
 mod types;
 mod values;
@@ -52,4 +59,10 @@ mod words;
 pub use associated::{AssociatedModule, AssociatedType, associated_modules};
 pub use error::{Cause, Construct, Expected, Owner, Slip, SyntaxError};
 pub use messages::append_cause;
+pub use object_sets::{ObjectElement, ObjectSet, SetOperation, parse_object_set};
+pub use object_syntax::{SyntaxStep, parse_syntax};
+pub use objects::{
+    FieldForm, FieldNotation, Held, ObjectFault, ObjectNotation, Setting, parse_default,
+    parse_object,
+};
 pub use parsed::{MAX_DEPTH, Parsed, parse};

@@ -31,6 +31,7 @@ mod program;
 mod recursion;
 mod request;
 mod strings;
+mod tables;
 mod tags;
 mod templates;
 mod types;

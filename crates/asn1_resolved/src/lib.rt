@@ -15,6 +15,7 @@
 //! | [`Alternatives`], [`Alternative`] | a CHOICE | 29 |
 //! | [`Enumeration`], [`EnumerationItem`], [`NamedNumber`] | an ENUMERATED; the names of an INTEGER or a BIT STRING | 19, 20, 22 |
 //! | [`Tag`] | a tag | 31 |
+//! | [`Table`], [`Row`] | a column of an object set: for each key a type | X.682, 10 |
 //! | [`Constraint`], [`ConstraintKind`], [`Range`], [`CharacterRange`] | a constraint | 49 to 51 |
 //! | [`Value`], [`ComponentValue`] | a value | 17 |
 //! | [`Problem`], [`Severity`] | what is wrong with a module | |
@@ -27,6 +28,7 @@ mod components;
 mod constraints;
 mod problem;
 mod schema;
+mod tables;
 mod types;
 mod universal;
 mod values;
@@ -35,5 +37,6 @@ pub use components::{Addition, Alternative, Alternatives, Component, Components,
 pub use constraints::{CharacterRange, Constraint, ConstraintKind, Range};
 pub use problem::{Problem, Severity};
 pub use schema::{Origin, Schema, TypeDefinition, ValueDefinition};
+pub use tables::{Row, Table};
 pub use types::{Enumeration, EnumerationItem, NamedNumber, Tag, Type, TypeKind};
 pub use values::{ComponentValue, Value};

@@ -1,4 +1,5 @@
 //! Definitions.
+use crate::tables::Table;
 use crate::types::Type;
 use crate::values::Value;
 use asn1_names::Place;
@@ -12,6 +13,8 @@ pub struct Schema<'a> {
     pub defined: usize,
     /// The definitions of values.
     pub values: Vec<ValueDefinition<'a>>,
+    /// The tables of the object sets that types name.
+    pub tables: Vec<Table<'a>>,
 }
 
 /// A definition of a type, or a type that arguments complete (X.683, 9.1). Such a one has the name and the place of its template.

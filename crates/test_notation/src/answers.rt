@@ -1,5 +1,6 @@
 //! The answers to a text.
 use crate::errors::{append_errors, append_position, append_problems};
+use crate::objects::append_objects;
 use crate::rust_names::{append_forms, append_taken};
 use crate::work::{Text, Work};
 use asn1_grammar::{AssociatedModule, Parsed, associated_modules, parse};
@@ -7,6 +8,7 @@ use asn1_module_check::{check_extensible_choices, check_tags};
 use asn1_modules::{NameMessages, Source, collect_names};
 use asn1_names::check_names;
 use asn1_notation_text::{Printer, print_module};
+use asn1_objects::objects_of;
 use asn1_resolver::resolve;
 use asn1_tokens::{TokenError, tokens};
 use std::alloc::{AllocError, Global};
@@ -21,6 +23,7 @@ pub(crate) fn answer(alloc: Global, out: &mut Vec<u8>, text: &Text<'_>) -> io::R
         Work::Module => answer_module(alloc, out, text.text),
         Work::Names => answer_names(alloc, out, text.text),
         Work::Schema => answer_schema(alloc, out, text.text),
+        Work::Objects => answer_objects(alloc, out, text.text),
         Work::Rust => append_forms(alloc, out, text.text),
         Work::Taken => append_taken(alloc, out, text.text),
     }
@@ -121,7 +124,10 @@ fn answer_schema(alloc: Global, out: &mut Vec<u8>, text: &[u8]) -> io::Result<()
     append_errors(alloc, out, text, &parsed.errors)?;
     let parsed = [parsed];
     let associated = associated_modules(alloc, &parsed)?;
-    let resolution = resolve(alloc, &sources_of(alloc, text, &parsed, &associated)?)?;
+    let sources = sources_of(alloc, text, &parsed, &associated)?;
+    let names = collect_names(alloc, &sources)?;
+    let objects = objects_of(alloc, &sources, &names)?;
+    let resolution = resolve(alloc, &sources, &objects)?;
     append_problems(out, text, &resolution.problems)?;
     if !resolution.is_accepted() {
         return Ok(());
@@ -133,4 +139,16 @@ fn answer_schema(alloc: Global, out: &mut Vec<u8>, text: &[u8]) -> io::Result<()
         writeln!(out, "accepted")?;
     }
     Ok(())
+}
+
+// Appends the errors of a text, and its objects with what is wrong with them.
+fn answer_objects(alloc: Global, out: &mut Vec<u8>, text: &[u8]) -> io::Result<()> {
+    let parsed = parse(alloc, text)?;
+    append_errors(alloc, out, text, &parsed.errors)?;
+    let parsed = [parsed];
+    let sources = sources_of(alloc, text, &parsed, &[])?;
+    let names = collect_names(alloc, &sources)?;
+    let objects = objects_of(alloc, &sources, &names)?;
+    append_objects(out, &objects)?;
+    append_problems(out, text, &objects.warnings)
 }

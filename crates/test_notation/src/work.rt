@@ -12,6 +12,8 @@ pub(crate) enum Work {
     Names,
     /// Its types and values.
     Schema,
+    /// Its objects.
+    Objects,
     /// Its names in Rust.
     Rust,
     /// Its names in Rust, in one scope.
@@ -29,6 +31,8 @@ impl Work {
             Some(Work::Names)
         } else if line.starts_with(b"# schema: ") {
             Some(Work::Schema)
+        } else if line.starts_with(b"# objects: ") {
+            Some(Work::Objects)
         } else if line.starts_with(b"# rust: ") {
             Some(Work::Rust)
         } else if line.starts_with(b"# taken: ") {

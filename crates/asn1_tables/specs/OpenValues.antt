@@ -1,0 +1,26 @@
+-- Octets of open types: what reading them as a value may answer.
+use Rattle.std.specs.Prelude.{◌≡◌, ◌⊎◌, ℕ, Bool, Err, List, Result, Vec}
+use Rattle.std.specs.declared.alloc.Global.{Global}
+use Rattle.asn1_laws.specs.Refusals.{Refusals}
+use Rattle.asn1_laws.specs.declared.decode_error.DecodeError.{DecodeError}
+use Rattle.asn1_laws.specs.declared.decode_error.DecodeError.TheVariants.{Memory}
+use Rattle.asn1_model.specs.Meaning.{Meaning}
+use Rattle.asn1_model.specs.Records.{Record}
+use Rattle.asn1_rules.specs.CanonicalReading.{MayAnswer}
+use Rattle.asn1_rules.specs.Rules.{Format}
+
+module _ (F : Format (Vec ℕ Global)) where
+  -- The bytes of an output tell what it carries.
+  abbrev pub BytesTellAll : Type 0
+  BytesTellAll = (output other : Vec ℕ Global) (rs : List Record) → output.items ≡ other.items → F.carries output rs → F.carries other rs
+
+  module _ {V : Type 0} (m : Meaning V) (eq : V → V → Bool) (refusals : Refusals) (depth : ℕ) (octets : List ℕ) (answer : Result V DecodeError) where
+    -- An answer that reading an output of these octets may give.
+    pub record IsAnswerOf : Type 0 where
+      pub output : Vec ℕ Global
+      pub has_octets : output.items ≡ octets
+      pub may_answer : MayAnswer F m eq refusals depth output answer
+
+    -- The same, or memory ran out.
+    abbrev pub MayAnswerOf : Type 0
+    MayAnswerOf = IsAnswerOf ⊎ (answer ≡ Err Memory)
