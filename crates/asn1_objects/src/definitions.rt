@@ -21,7 +21,7 @@ pub enum ReadDefinition {
     Object(ReadObject),
     /// An object set.
     Set(ReadSet),
-    /// What was not read: its class is not among the files, or it is not written as its class asks.
+    /// What was not read: it has parameters, its class is not among the files, or it is not written as its class asks.
     Unread,
 }
 

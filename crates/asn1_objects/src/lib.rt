@@ -9,6 +9,10 @@
 //! | [`ReadObject`], [`ReadSet`], [`ReadElement`] | an object, a set and its elements |
 //! | [`Home`] | the module that a part of a tree is in |
 //!
+//! The contract of [`objects_of`] promises that there is one definition for each object and each set that a module defines, in the order
+//! of the texts (`defined` by `object_places`), and that of `parse_object` of `asn1_grammar` that an object has no field twice. No clause
+//! says what an object has for a field, or which warnings there are: stored lines of test_notation show both.
+//!
 //! Whatever is wrong with an object is a warning, since no type needs one. An object with a warning is left out.
 #![tactic(auto)]
 

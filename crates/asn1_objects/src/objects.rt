@@ -1,12 +1,14 @@
 //! All objects of a run.
-use crate::class_list::ClassList;
+ghost use Rattle.std.specs.Prelude.{◌≡◌, ◌++◌, IfOk, OnOk, map};
+ghost use Rattle.std.specs.List.{flat_map};
+ghost use Rattle.asn1_objects.specs.ObjectPlaces.{object_defined_by, object_places, objects_defined_in, place_of};
+
 use crate::classes::{Home, ObjectClass};
 use crate::definitions::ObjectDefinition;
-use crate::reader::read_definition;
-use crate::warnings::Warnings;
+use crate::reader::ObjectReader;
 use asn1_modules::{ClassIndex, Source};
 use asn1_names::{ImportedName, Names};
-use asn1_notation::{Definition, Reference, Type, TypeKind};
+use asn1_notation::{Assignment, Definition, Reference, Type, TypeKind};
 use asn1_resolved::Problem;
 use std::alloc::{AllocError, Global};
 use std::collections::HashMap;
@@ -55,30 +57,31 @@ impl<'a> Objects<'a> {
     }
 }
 
-/// The objects and the object sets of these modules, of which these are the names. Those with parameters are left out.
+/// The objects and the object sets of these modules, of which these are the names.
 ///
 /// The error of this call is that of memory.
 pub fn objects_of<'a>(
     alloc: Global,
     sources: &[Source<'a>],
     names: &Names<'a>,
-) -> Result<Objects<'a>, AllocError> {
+) -> Result<Objects<'a>, AllocError>
+    // There is one for each object and each set that a module defines, in the order of the texts.
+    ensures defined { IfOk result (λ objects.
+        map place_of objects.definitions.items ≡ object_places sources.now) }
+{
     let index = ClassIndex::of(alloc, sources)?;
-    let mut classes = ClassList::new(alloc, index);
-    let mut warnings = Warnings::new(alloc);
+    let mut reader = ObjectReader::new(alloc, index);
     let mut definitions = Vec::new(alloc);
-    for (source, read) in sources.iter().enumerate() {
-        for module in read.modules {
-            let home = Home {
-                text: read.text,
-                source,
-                module,
-            };
-            add_module(alloc, &mut classes, &mut warnings, &mut definitions, home)?;
-        }
+    for (index, source) in sources.iter().enumerate() {
+        add_source(&mut reader, &mut definitions, *source, index)?;
     }
     let own = index_of(alloc, definitions.as_slice())?;
     let imported = imports(alloc, names.imported.as_slice(), &own)?;
+    let ObjectReader {
+        classes,
+        warnings,
+        ..
+    } = reader;
     Ok(Objects {
         classes: classes.into_classes(),
         definitions,
@@ -93,24 +96,64 @@ pub fn objects_of<'a>(
     })
 }
 
-// Adds the definitions of a module.
-fn add_module<'a>(
-    alloc: Global,
-    classes: &mut ClassList<'a>,
-    warnings: &mut Warnings,
+// Adds the definitions of the modules of a text.
+fn add_source<'a>(
+    reader: &mut ObjectReader<'a>,
     definitions: &mut Vec<ObjectDefinition<'a>>,
-    home: Home<'a>,
-) -> Result<(), AllocError> {
-    for assignment in &home.module.assignments {
-        if let Definition::Object(class, braces) = &assignment.definition {
-            if assignment.parameters.is_empty() {
-                let name = assignment.name;
-                let read = read_definition(alloc, classes, warnings, home, name, class, *braces)?;
-                definitions.push(read)?;
-            }
-        }
+    source: Source<'a>,
+    index: usize,
+) -> Result<(), AllocError>
+    ensures { OnOk result (map place_of definitions.new.items ≡ map place_of definitions.old.items
+        ++ flat_map (objects_defined_in index) source.entry.modules.now) }
+{
+    for module in source.modules {
+        let home = Home {
+            text: source.text,
+            source: index,
+            module,
+        };
+        add_module(reader, definitions, home)?;
     }
     Ok(())
+}
+
+// Adds the definitions of a module.
+fn add_module<'a>(
+    reader: &mut ObjectReader<'a>,
+    definitions: &mut Vec<ObjectDefinition<'a>>,
+    home: Home<'a>,
+) -> Result<(), AllocError>
+    ensures { OnOk result (map place_of definitions.new.items ≡ map place_of definitions.old.items
+        ++ objects_defined_in home.entry.source home.entry.«module».now) }
+{
+    for assignment in &home.module.assignments {
+        add_assignment(reader, definitions, home, assignment)?;
+    }
+    Ok(())
+}
+
+// Adds a definition, if it is of an object or a set.
+fn add_assignment<'a>(
+    reader: &mut ObjectReader<'a>,
+    definitions: &mut Vec<ObjectDefinition<'a>>,
+    home: Home<'a>,
+    assignment: &Assignment,
+) -> Result<(), AllocError>
+    ensures { OnOk result (map place_of definitions.new.items ≡ map place_of definitions.old.items
+        ++ object_defined_by home.entry.source assignment.now) }
+{
+    match &assignment.definition {
+        Definition::Object(class, braces) => {
+            let contents = reader.contents(home, assignment, class, *braces)?;
+            definitions.push(ObjectDefinition {
+                home,
+                name: assignment.name,
+                contents,
+            })?;
+            Ok(())
+        }
+        _ => Ok(()),
+    }
 }
 
 // The definitions, by their modules and names.

@@ -1,42 +1,59 @@
 //! Reads definitions of objects and object sets.
 use crate::class_list::ClassList;
 use crate::classes::{Home, ObjectClass};
-use crate::definitions::{ObjectDefinition, ReadDefinition, ReadElement, ReadObject, ReadSet};
+use crate::definitions::{ReadDefinition, ReadElement, ReadObject, ReadSet};
 use crate::warnings::Warnings;
 use asn1_grammar::{ObjectElement, Setting, parse_object, parse_object_set};
-use asn1_notation::{FieldUsage, Reference, Span};
+use asn1_modules::ClassIndex;
+use asn1_notation::{Assignment, FieldUsage, Reference, Span};
 use std::alloc::{AllocError, Global};
 
-/// Reads a definition of the objects of a class.
-pub(crate) fn read_definition<'a>(
+/// The reader of the definitions of a run, with the classes that were met and what is wrong.
+#[derive(Drop)]
+pub(crate) struct ObjectReader<'a> {
     alloc: Global,
-    classes: &mut ClassList<'a>,
-    warnings: &mut Warnings,
-    home: Home<'a>,
-    name: Span,
-    class: &Reference,
-    braces: Span,
-) -> Result<ObjectDefinition<'a>, AllocError> {
-    let contents = match classes.class_of(warnings, home, class)? {
-        None => ReadDefinition::Unread,
-        Some(index) => match classes.get(index) {
-            None => ReadDefinition::Unread,
-            Some(class) => {
-                let reader = Reader {
-                    alloc,
-                    home,
-                    index,
-                    class,
-                };
-                reader.definition(warnings, name, braces)?
-            }
-        },
-    };
-    Ok(ObjectDefinition {
-        home,
-        name,
-        contents,
-    })
+    /// The classes.
+    pub(crate) classes: ClassList<'a>,
+    /// The warnings.
+    pub(crate) warnings: Warnings,
+}
+
+impl<'a> ObjectReader<'a> {
+    /// A reader that has read nothing, over the classes that modules define.
+    pub(crate) fn new(alloc: Global, defined: ClassIndex<'a>) -> ObjectReader<'a> {
+        ObjectReader {
+            alloc,
+            classes: ClassList::new(alloc, defined),
+            warnings: Warnings::new(alloc),
+        }
+    }
+
+    /// What a definition of an object or a set defines. One with parameters is not read.
+    pub(crate) fn contents(
+        &mut self,
+        home: Home<'a>,
+        assignment: &Assignment,
+        class: &Reference,
+        braces: Span,
+    ) -> Result<ReadDefinition, AllocError> {
+        if !assignment.parameters.is_empty() {
+            return Ok(ReadDefinition::Unread);
+        }
+        let alloc = self.alloc;
+        let Some(index) = self.classes.class_of(&mut self.warnings, home, class)? else {
+            return Ok(ReadDefinition::Unread);
+        };
+        let Some(class) = self.classes.get(index) else {
+            return Ok(ReadDefinition::Unread);
+        };
+        let reader = Reader {
+            alloc,
+            home,
+            index,
+            class,
+        };
+        reader.definition(&mut self.warnings, assignment.name, braces)
+    }
 }
 
 // The reader of the objects of a class in a module.

@@ -36,6 +36,7 @@ mod tags;
 mod templates;
 mod types;
 mod values;
+mod written;
 
 pub use plan::rust_name;
 pub use printing::print_crate;

@@ -4,6 +4,7 @@ use crate::lowering::type_name;
 use crate::notation::{quoted_part, text_of};
 use crate::plan::Plan;
 use crate::types::part_texts;
+use crate::written::in_one_line;
 use asn1_names::Place;
 use asn1_resolved::{Row, Table, Type, TypeKind, Value};
 use asn1_rust_names::{TakenNames, camel_case, snake_case};
@@ -177,13 +178,5 @@ fn written(plan: &Plan<'_, '_>, place: Place) -> Result<String, AllocError> {
         Some(source) => place.span.octets(source.text),
         None => &[],
     };
-    let text = text_of(plan.alloc, octets)?;
-    let mut line = String::new(plan.alloc);
-    for word in text.as_str().split_ascii_whitespace() {
-        if !line.is_empty() {
-            line.push_str(" ")?;
-        }
-        line.push_str(word)?;
-    }
-    Ok(line)
+    in_one_line(plan.alloc, octets)
 }
