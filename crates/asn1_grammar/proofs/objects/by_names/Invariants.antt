@@ -1,5 +1,5 @@
 use Rattle.asn1_grammar.specs.Settings.{AreDistinct}
 use Rattle.asn1_grammar.proofs.objects.by_names.Given as goal
 
-abbrev pub invariant-loop-0 : goal.invariant-loop-0
-invariant-loop-0 l = AreDistinct l.initial.settings.items → AreDistinct l.settings.items
+abbrev pub invariant-loop : goal.invariant-loop
+invariant-loop l = AreDistinct l.initial.settings.items → AreDistinct l.settings.items

@@ -1,0 +1,71 @@
+//! A value of `PART.&Content`, by the objects of `AnswerParts` of the module `Signals`.
+
+use crate::cause::Cause;
+use asn1_schema::{Any, DecodeError, EncodeError, Rules};
+use asn1_tables::read_open;
+use std::alloc::Global;
+
+/// A value of `PART.&Content`, by the objects of `AnswerParts` of the module `Signals`.
+#[derive(PartialEq, Eq, Debug, Drop)]
+pub enum AnswerParts {
+    /// `{ PART cause IF UNKNOWN pass HOLDS Cause }`
+    Cause(Cause),
+    /// `{ PART 300 IF UNKNOWN report HOLDS INTEGER (0..255) }`
+    Speed(u8),
+    /// `{ PART 301 IF UNKNOWN pass HOLDS BOOLEAN }`
+    Object3(bool),
+    /// The octets of a value under another `&number`.
+    Other(u16, Any),
+}
+
+impl AnswerParts {
+    /// Reads the octets of a value under this `&number`, with at most `depth` nested scopes.
+    ///
+    /// # Errors
+    /// Those of the type of the row; and [`DecodeError::Memory`], which alone other octets have.
+    pub fn read<R: Rules<Output = Vec<u8>>>(
+        rules: &R,
+        alloc: Global,
+        number: u16,
+        octets: &[u8],
+        depth: usize,
+    ) -> Result<Self, DecodeError> {
+        match number {
+            4 => Ok(Self::Cause(read_open(rules, alloc, octets, depth)?)),
+            300 => Ok(Self::Speed(read_open(rules, alloc, octets, depth)?)),
+            301 => Ok(Self::Object3(read_open(rules, alloc, octets, depth)?)),
+            _ => {
+                let octets = Any::new(Vec::from_slice(alloc, octets)?);
+                Ok(Self::Other(number, octets))
+            }
+        }
+    }
+
+    /// Writes the octets of the value, with at most `depth` nested scopes.
+    ///
+    /// # Errors
+    /// Those of [`Rules::write_value`].
+    pub fn write<R: Rules<Output = Vec<u8>>>(
+        &self,
+        rules: &R,
+        alloc: Global,
+        depth: usize,
+    ) -> Result<Vec<u8>, EncodeError> {
+        match self {
+            Self::Cause(value) => rules.write_value(value, depth),
+            Self::Speed(value) => rules.write_value(value, depth),
+            Self::Object3(value) => rules.write_value(value, depth),
+            Self::Other(_, octets) => Ok(Vec::from_slice(alloc, octets.as_bytes())?),
+        }
+    }
+
+    /// The `&number` of the value.
+    pub fn number(&self) -> u16 {
+        match self {
+            Self::Cause(_) => 4,
+            Self::Speed(_) => 300,
+            Self::Object3(_) => 301,
+            Self::Other(number, _) => *number,
+        }
+    }
+}

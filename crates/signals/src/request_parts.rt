@@ -1,0 +1,73 @@
+//! A value of `PART.&Content`, by the objects of `RequestParts` of the module `Signals`.
+
+use crate::aliases::Route;
+use crate::cause::Cause;
+use crate::request_parts_object3::RequestPartsObject3;
+use asn1_schema::{Any, DecodeError, EncodeError, Rules};
+use asn1_tables::read_open;
+use std::alloc::Global;
+
+/// A value of `PART.&Content`, by the objects of `RequestParts` of the module `Signals`.
+#[derive(PartialEq, Eq, Debug, Drop)]
+pub enum RequestParts {
+    /// `{ PART cause IF UNKNOWN pass HOLDS Cause }`
+    Cause(Cause),
+    /// `{ PART route IF UNKNOWN refuse HOLDS Route }`
+    Route(Route),
+    /// `{ PART 12 IF UNKNOWN pass HOLDS SEQUENCE { from UTF8String, until [0] INTEGER OPTIONAL } }`
+    Object3(RequestPartsObject3),
+    /// The octets of a value under another `&number`.
+    Other(u16, Any),
+}
+
+impl RequestParts {
+    /// Reads the octets of a value under this `&number`, with at most `depth` nested scopes.
+    ///
+    /// # Errors
+    /// Those of the type of the row; and [`DecodeError::Memory`], which alone other octets have.
+    pub fn read<R: Rules<Output = Vec<u8>>>(
+        rules: &R,
+        alloc: Global,
+        number: u16,
+        octets: &[u8],
+        depth: usize,
+    ) -> Result<Self, DecodeError> {
+        match number {
+            4 => Ok(Self::Cause(read_open(rules, alloc, octets, depth)?)),
+            9 => Ok(Self::Route(read_open(rules, alloc, octets, depth)?)),
+            12 => Ok(Self::Object3(read_open(rules, alloc, octets, depth)?)),
+            _ => {
+                let octets = Any::new(Vec::from_slice(alloc, octets)?);
+                Ok(Self::Other(number, octets))
+            }
+        }
+    }
+
+    /// Writes the octets of the value, with at most `depth` nested scopes.
+    ///
+    /// # Errors
+    /// Those of [`Rules::write_value`].
+    pub fn write<R: Rules<Output = Vec<u8>>>(
+        &self,
+        rules: &R,
+        alloc: Global,
+        depth: usize,
+    ) -> Result<Vec<u8>, EncodeError> {
+        match self {
+            Self::Cause(value) => rules.write_value(value, depth),
+            Self::Route(value) => rules.write_value(value, depth),
+            Self::Object3(value) => rules.write_value(value, depth),
+            Self::Other(_, octets) => Ok(Vec::from_slice(alloc, octets.as_bytes())?),
+        }
+    }
+
+    /// The `&number` of the value.
+    pub fn number(&self) -> u16 {
+        match self {
+            Self::Cause(_) => 4,
+            Self::Route(_) => 9,
+            Self::Object3(_) => 12,
+            Self::Other(number, _) => *number,
+        }
+    }
+}
