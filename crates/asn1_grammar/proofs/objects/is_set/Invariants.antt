@@ -1,4 +1,4 @@
-use Rattle.std.proofs.Common.{◌≡◌, ◌≢◌, ℕ, ◌<◌, get_or}
+use Rattle.std.proofs.Common.{◌≢◌, ℕ, ◌<◌, get_or}
 use Rattle.asn1_grammar.specs.declared.objects.Setting.{Setting}
 use Rattle.asn1_grammar.proofs.objects.is_set.Given as goal
 
