@@ -12,7 +12,7 @@ use std::alloc::{AllocError, Global};
 pub struct ObjectSet {
     /// The elements, in the order of the text, those behind an ellipsis too.
     pub elements: Vec<ObjectElement>,
-    /// What an element is that is no object and no set, if there is one, and where it begins.
+    /// The offset and the kind of an element that is neither an object nor a set, if there is one.
     pub unread: Option<(usize, SetOperation)>,
 }
 
@@ -83,7 +83,7 @@ fn separator(cursor: &mut Cursor<'_>) -> Result<(), Fault> {
     }
 }
 
-// What is next, if it combines sets otherwise than by their union, or is behind the name of a set.
+// The kind of what is next, if it combines sets otherwise than by their union, or is behind the name of a set.
 fn operation(cursor: &Cursor<'_>) -> Option<SetOperation> {
     if cursor.sees_symbol(b"{") {
         Some(SetOperation::Arguments)

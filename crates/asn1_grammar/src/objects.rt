@@ -14,7 +14,7 @@ use crate::values::parse_value;
 use asn1_notation::{Span, Type, Value};
 use std::alloc::{AllocError, AllocFailed, Global};
 
-/// What an object has for a field.
+/// A field that an object has, with its setting.
 #[derive(Drop)]
 pub struct Setting {
     /// The index of the field in its class.
@@ -25,7 +25,7 @@ pub struct Setting {
     pub held: Held,
 }
 
-/// What is written for a field.
+/// The setting of a field.
 #[derive(Drop)]
 pub enum Held {
     /// A type.
@@ -36,7 +36,7 @@ pub enum Held {
     Other(Span),
 }
 
-/// What a field holds, as far as its notation needs it.
+/// The contents of a field, as far as the notation needs them.
 #[derive(Clone, Copy, Debug, PartialEq, Eq)]
 pub enum FieldForm {
     /// A type.
@@ -61,7 +61,7 @@ pub struct FieldNotation<'a> {
 pub struct ObjectNotation<'c, 'a> {
     /// The fields.
     pub fields: &'c [FieldNotation<'a>],
-    /// What is behind WITH SYNTAX, if the class has it.
+    /// The parts behind WITH SYNTAX, if the class has it.
     pub syntax: Option<&'c [SyntaxStep<'a>]>,
 }
 

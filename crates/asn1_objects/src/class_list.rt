@@ -21,7 +21,7 @@ pub(crate) struct ClassList<'a> {
     known: HashMap<&'a [u8], usize>,
 }
 
-// What a name of a class stands for, behind other names.
+// A class, behind other names.
 #[derive(Clone, Copy)]
 enum Named<'a> {
     // A class of the language.
@@ -53,7 +53,7 @@ impl<'a> ClassList<'a> {
         classes
     }
 
-    /// The index of the class that a name in a module stands for.
+    /// The index of the class of this name in a module, behind other names.
     pub(crate) fn class_of(
         &mut self,
         warnings: &mut Warnings,
@@ -70,7 +70,7 @@ impl<'a> ClassList<'a> {
         }
     }
 
-    // What a name of a class stands for.
+    // The class of a name.
     fn named(&self, home: Home<'a>, reference: &Reference) -> Option<Named<'a>> {
         let mut home = home;
         let mut reference = *reference;

@@ -36,7 +36,7 @@ pub struct ObjectClass<'a> {
     pub fields: Vec<ObjectField<'a>>,
     /// The fields, as objects are written with them.
     pub(crate) notations: Vec<FieldNotation<'a>>,
-    /// What is behind WITH SYNTAX.
+    /// The parts behind WITH SYNTAX.
     pub(crate) syntax: Option<Vec<SyntaxStep<'a>>>,
 }
 
@@ -51,11 +51,11 @@ pub struct ObjectField<'a> {
     pub is_unique: bool,
     /// Whether an object may lack it.
     pub usage: FieldUsage,
-    /// What an object has that lacks it, if it was read.
+    /// The DEFAULT, if it was read.
     pub default: Option<Held>,
 }
 
-/// What a field holds.
+/// The contents of a field.
 #[derive(Clone, Copy)]
 pub enum FieldContents<'a> {
     /// A type.
@@ -138,7 +138,7 @@ fn listed_field<'a>(
     })
 }
 
-// What the notation of a field needs to know of what it holds.
+// The form of a field with these contents.
 fn form_of(contents: FieldContents<'_>) -> FieldForm {
     match contents {
         FieldContents::Type => FieldForm::Type,
@@ -147,7 +147,7 @@ fn form_of(contents: FieldContents<'_>) -> FieldForm {
     }
 }
 
-// What a field holds. The case of its name tells a value from values.
+// The contents of a field. The case of its name tells a value from values.
 fn contents<'a>(
     index: &ClassIndex<'a>,
     home: Home<'a>,

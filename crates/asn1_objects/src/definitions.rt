@@ -10,18 +10,18 @@ pub struct ObjectDefinition<'a> {
     pub home: Home<'a>,
     /// The name.
     pub name: Span,
-    /// What it defines.
+    /// The object or the set.
     pub contents: ReadDefinition,
 }
 
-/// What a definition defines.
+/// The object or the set of a definition.
 #[derive(Drop)]
 pub enum ReadDefinition {
     /// An object.
     Object(ReadObject),
     /// An object set.
     Set(ReadSet),
-    /// What was not read: it has parameters, its class is not among the files, or it is not written as its class asks.
+    /// Neither was read: the definition has parameters, its class is not among the files, or it is not written as its class asks.
     Unread,
 }
 
@@ -32,12 +32,12 @@ pub struct ReadObject {
     pub class: usize,
     /// The braces in which it is written.
     pub braces: Span,
-    /// What it has for its fields, in the order of the text, each field once.
+    /// The settings of its fields, in the order of the text, each field once.
     pub settings: Vec<Setting>,
 }
 
 impl ReadObject {
-    /// What it has for the field of this index.
+    /// The setting of the field of this index.
     pub fn setting(&self, field: usize) -> Option<&Setting> {
         for setting in &self.settings {
             if setting.field == field {
@@ -55,7 +55,7 @@ pub struct ReadSet {
     pub class: usize,
     /// The elements, in the order of the text.
     pub elements: Vec<ReadElement>,
-    /// What an element is that is not read, if there is one, and where it begins.
+    /// The offset and the kind of an element that is not read, if there is one.
     pub unread: Option<(usize, SetOperation)>,
 }
 

@@ -20,7 +20,7 @@ pub struct Objects<'a> {
     pub classes: Vec<ObjectClass<'a>>,
     /// The definitions, in the order of the texts.
     pub definitions: Vec<ObjectDefinition<'a>>,
-    /// What is wrong with them.
+    /// The warnings of what is wrong with them.
     pub warnings: Vec<Problem>,
     /// OBJECT IDENTIFIER, the type of a field of the classes of the language.
     pub identifier: Type,

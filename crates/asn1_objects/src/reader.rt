@@ -28,7 +28,7 @@ impl<'a> ObjectReader<'a> {
         }
     }
 
-    /// What a definition of an object or a set defines. One with parameters is not read.
+    /// The object or the set of a definition. One with parameters is not read.
     pub(crate) fn contents(
         &mut self,
         home: Home<'a>,

@@ -57,50 +57,44 @@ impl Warnings {
         class: &ObjectClass<'_>,
         fault: ObjectFault<'_>,
     ) -> Result<(), AllocError> {
-        let (span, parts) = match fault {
+        let alloc = self.alloc;
+        let (span, text) = match fault {
             ObjectFault::Memory => return Err(AllocError),
             ObjectFault::Syntax(error) => return self.syntax(home.text, home.source, error),
             ObjectFault::Word(span, word) => {
+                let front = joined(alloc, &[b"expected ", word])?;
                 (
                     span,
-                    [
-                        &b"expected "[..],
-                        word,
-                        b" in an object of class '",
-                        class.name,
-                        b"'",
-                    ],
+                    joined(
+                        alloc,
+                        &[&front, b" in an object of class '", class.name, b"'"],
+                    )?,
                 )
             }
-            ObjectFault::More(span) => (
-                span,
-                [
-                    &b"expected '}' in an object of class '"[..],
-                    class.name,
-                    b"'",
-                    b"",
-                    b"",
-                ],
-            ),
-            ObjectFault::NoField(span) => (
-                span,
-                [
-                    &b"class '"[..],
-                    class.name,
-                    b"' has no field '&",
-                    span.octets(home.text),
-                    b"'",
-                ],
-            ),
+            ObjectFault::More(span) => {
+                (
+                    span,
+                    joined(
+                        alloc,
+                        &[b"expected '}' in an object of class '", class.name, b"'"],
+                    )?,
+                )
+            }
+            ObjectFault::NoField(span) => {
+                let name = span.octets(home.text);
+                let front = joined(alloc, &[b"class '", class.name])?;
+                (
+                    span,
+                    joined(alloc, &[&front, b"' has no field '&", name, b"'"])?,
+                )
+            }
             ObjectFault::Twice(span, field) => {
-                let name: &[u8] = match class.fields.get(field) {
-                    Some(field) => field.name,
-                    None => b"",
-                };
-                (span, [&b"&"[..], name, b" stands twice", b"", b""])
+                (
+                    span,
+                    joined(alloc, &[b"&", field_name(class, field), b" stands twice"])?,
+                )
             }
         };
-        let text = joined(self.alloc, &parts)?;
         self.add(home.source, span, text)
     }
 
@@ -117,6 +111,14 @@ impl Warnings {
             None => joined(self.alloc, &[b"the object lacks &", field])?,
         };
         self.add(home.source, span, text)
+    }
+}
+
+// The name of a field.
+fn field_name<'a>(class: &ObjectClass<'a>, field: usize) -> &'a [u8] {
+    match class.fields.get(field) {
+        Some(field) => field.name,
+        None => &[],
     }
 }
 

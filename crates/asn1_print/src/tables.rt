@@ -1,4 +1,5 @@
 //! Enums for the tables of object sets.
+use crate::choices::new_variant;
 use crate::integers::{built_in, range_of};
 use crate::lowering::type_name;
 use crate::notation::{quoted_part, text_of};
@@ -35,6 +36,8 @@ fn add_table(plan: &mut Plan<'_, '_>, table: &Table<'_>) -> Result<(), AllocErro
     let summary = summary_of(plan, table)?;
     let open = OpenTable {
         page: page_of(plan, summary.as_str())?,
+        crate_name: plan.text(plan.request.crate_name)?,
+        module: plan.text(module.as_str())?,
         summary,
         key_field: text_of(plan.alloc, table.key)?,
         key_name: snake_case(plan.alloc, table.key)?,
@@ -135,7 +138,7 @@ fn rows_of(
     for (index, row) in table.rows.iter().enumerate() {
         if let Some(key) = row_key(plan, &row.key)? {
             let wanted = row_name(plan, row, index)?;
-            let wanted = names.take(wanted.as_str())?;
+            let wanted = new_variant(plan.alloc, wanted.as_bytes(), &mut names)?;
             let written = written(plan, row.place)?;
             let texts = part_texts(plan, name, wanted.as_str(), written.as_str())?;
             let definition = type_name(plan, &row.cell, texts.owner())?;

@@ -6,6 +6,10 @@ use asn1_rust_code::TypeName;
 pub struct OpenTable {
     /// The lines of the page at the head of the file.
     pub page: Vec<String>,
+    /// The name of the crate.
+    pub crate_name: String,
+    /// The module.
+    pub module: String,
     /// What the enum is.
     pub summary: String,
     /// The name of the enum.

@@ -6,9 +6,11 @@
 //! | [`OpenTable`], [`OpenRow`] | a table with its rows |
 //! | [`KeyKind`], [`RowKey`] | what tells the row: a number, or the arcs of an object identifier |
 //!
-//! The check of the printed crate proves its calls. Calls fail only if memory runs out.
+//! A printed call that reads has a clause: under the key of a row the value is one of its type, which `read_open` may answer of the
+//! octets, and under no other key it is these octets. The check of the printed crate proves it. Calls fail only if memory runs out.
 #![tactic(auto)]
 
+mod clause;
 mod definitions;
 mod keys;
 mod reader;

@@ -1,4 +1,5 @@
 //! The call that reads a value of a table.
+use crate::clause::append_clause;
 use crate::definitions::{KeyKind, OpenTable};
 use crate::keys::{argument_type, key_code};
 use asn1_rust_code::Draft;
@@ -24,10 +25,12 @@ pub(crate) fn append_reader(draft: &mut Draft, table: &OpenTable) -> Result<(), 
         {key}: {argument},
         octets: &[u8],
         depth: usize,
-    ) -> Result<Self, DecodeError> {{
-        match {key} {{
+    ) -> Result<Self, DecodeError>
 "
     )?)?;
+    append_clause(draft, table)?;
+    draft.line(1, "{")?;
+    draft.line(2, format!(in alloc; "match {key} {{")?.as_str())?;
     for row in &table.rows {
         let pattern = key_code(draft, &row.key)?;
         let pattern = pattern.as_str();

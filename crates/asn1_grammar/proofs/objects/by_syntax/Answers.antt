@@ -13,9 +13,9 @@ loop-preserved c = λ before.
     let D = λ (settings : Vec Setting Global). AreDistinct settings.items in
     let kept : AreDistinct c.loop.settings.items = c.loop.invariant before in
     elim c.match-step.branch [
-      in-Close w ↦ subst D (sym w.settings-is) kept
-    | in-Open+then-not-enters w ↦ subst D (sym w.settings-is) kept
-    | in-Open+else-not-enters w ↦ subst D (sym w.settings-is) kept
-    | in-Word+else-not-sees_text w ↦ subst D (sym w.settings-is) kept
-    | in-Field+in_ok-set_field-in-Field w ↦ subst D (sym w.settings-is) (w.set_field.ensures.distinct kept)
+      | in-Close w ↦ subst D (sym w.settings-is) kept
+      | in-Open+then-not-enters w ↦ subst D (sym w.settings-is) kept
+      | in-Open+else-not-enters w ↦ subst D (sym w.settings-is) kept
+      | in-Word+else-not-sees_text w ↦ subst D (sym w.settings-is) kept
+      | in-Field+in_ok-set_field-in-Field w ↦ subst D (sym w.settings-is) (w.set_field.ensures.distinct kept)
     ]
