@@ -17,47 +17,34 @@ pub(crate) fn append_clause(draft: &mut Draft, table: &OpenTable) -> Result<(), 
         2,
         "ensures row { IfOk result (λ value. elim value as (λ _. Type 0) [",
     )?;
-    for (index, row) in table.rows.iter().enumerate() {
-        append_row(draft, table, row, index == 0)?;
+    for row in &table.rows {
+        append_row(draft, table, row)?;
     }
     append_other(draft, table)
 }
 
-// Brings in the variants.
+// Brings in the variants, under a name of their own: a type of a row may have the name of its variant.
 fn use_variants(draft: &mut Draft, table: &OpenTable) -> Result<(), AllocError> {
-    let alloc = draft.alloc();
-    let mut variants = Vec::new(alloc);
-    for row in &table.rows {
-        variants.push(row.name.as_str())?;
-    }
-    variants.push("Other")?;
-    let variants = joined(alloc, variants.as_slice(), ", ")?;
     let crate_name = table.crate_name.as_str();
     let module = table.module.as_str();
     let name = table.name.as_str();
-    let line = format!(in alloc;
-        "ghost use Rattle.{crate_name}.specs.declared.{module}.{name}.TheVariants.{{{variants}}};"
+    let line = format!(in draft.alloc();
+        "ghost use Rattle.{crate_name}.specs.declared.{module}.{name}.TheVariants as variants;"
     )?;
     draft.use_ghost(line.as_str())
 }
 
 // Appends the fact of a variant.
-fn append_row(
-    draft: &mut Draft,
-    table: &OpenTable,
-    row: &OpenRow,
-    is_first: bool,
-) -> Result<(), AllocError> {
-    let sign = if is_first { "" } else { "| " };
+fn append_row(draft: &mut Draft, table: &OpenTable, row: &OpenRow) -> Result<(), AllocError> {
     let variant = row.name.as_str();
     let key = key_value(draft, table)?;
     let key = key.as_str();
     let own = key_term(draft, table, &row.key)?;
     let definition = row.definition.text.as_str();
     let line = format!(in draft.alloc();
-        "{sign}{variant} x ↦ ({key} ≡ {own}) × MayAnswerOf R.format ⟦<{definition} as AsnType>⟧.meaning ⟦<{definition} as PartialEq>⟧.eq ⟦<{definition} as Decode>⟧.refusals depth octets.now (Ok x)"
+        "  | variants.{variant} x ↦ ({key} ≡ {own}) × MayAnswerOf R.format ⟦<{definition} as AsnType>⟧.meaning ⟦<{definition} as PartialEq>⟧.eq ⟦<{definition} as Decode>⟧.refusals depth octets.now (Ok x)"
     )?;
-    draft.line(3, line.as_str())
+    draft.line(2, line.as_str())
 }
 
 // Appends the fact of other octets, and closes the clause.
@@ -78,9 +65,10 @@ fn append_other(draft: &mut Draft, table: &OpenTable) -> Result<(), AllocError> 
     let others = joined(alloc, parts.as_slice(), "")?;
     let others = others.as_str();
     let line = format!(in alloc;
-        "| Other other kept ↦ (other ≡ {key}) × (kept ≡ octets.now){others} ]) }}"
+        "  | variants.Other other kept ↦ (other ≡ {key}) × (kept ≡ octets.now){others}"
     )?;
-    draft.line(3, line.as_str())
+    draft.line(2, line.as_str())?;
+    draft.line(2, "]) }")
 }
 
 // The key that is passed, as a clause has it.

@@ -1,7 +1,10 @@
 //! A value of `PART.&Content`, by the objects of `AnswerParts` of the module `Signals`.
+ghost use Rattle.std.specs.Prelude.{IfOk, Ok, ◌≡◌, ◌≢◌};
+ghost use Rattle.asn1_tables.specs.OpenValues.{MayAnswerOf};
+ghost use Rattle.signals.specs.declared.answer_parts.AnswerParts.TheVariants as variants;
 
 use crate::cause::Cause;
-use asn1_schema::{Any, DecodeError, EncodeError, Rules};
+use asn1_schema::{Any, AsnType, Decode, DecodeError, EncodeError, Rules};
 use asn1_tables::read_open;
 use std::alloc::Global;
 
@@ -29,7 +32,15 @@ impl AnswerParts {
         number: u16,
         octets: &[u8],
         depth: usize,
-    ) -> Result<Self, DecodeError> {
+    ) -> Result<Self, DecodeError>
+        // Under the key of a row the value is one of its type, and under no other it is the octets.
+        ensures row { IfOk result (λ value. elim value as (λ _. Type 0) [
+          | variants.Cause x ↦ (number ≡ 4) × MayAnswerOf R.format ⟦<Cause as AsnType>⟧.meaning ⟦<Cause as PartialEq>⟧.eq ⟦<Cause as Decode>⟧.refusals depth octets.now (Ok x)
+          | variants.Speed x ↦ (number ≡ 300) × MayAnswerOf R.format ⟦<u8 as AsnType>⟧.meaning ⟦<u8 as PartialEq>⟧.eq ⟦<u8 as Decode>⟧.refusals depth octets.now (Ok x)
+          | variants.Object3 x ↦ (number ≡ 301) × MayAnswerOf R.format ⟦<bool as AsnType>⟧.meaning ⟦<bool as PartialEq>⟧.eq ⟦<bool as Decode>⟧.refusals depth octets.now (Ok x)
+          | variants.Other other kept ↦ (other ≡ number) × (kept ≡ octets.now) × (number ≢ 4) × (number ≢ 300) × (number ≢ 301)
+        ]) }
+    {
         match number {
             4 => Ok(Self::Cause(read_open(rules, alloc, octets, depth)?)),
             300 => Ok(Self::Speed(read_open(rules, alloc, octets, depth)?)),

@@ -1,9 +1,12 @@
 //! A value of `PART.&Content`, by the objects of `RequestParts` of the module `Signals`.
+ghost use Rattle.std.specs.Prelude.{IfOk, Ok, ◌≡◌, ◌≢◌};
+ghost use Rattle.asn1_tables.specs.OpenValues.{MayAnswerOf};
+ghost use Rattle.signals.specs.declared.request_parts.RequestParts.TheVariants as variants;
 
 use crate::aliases::Route;
 use crate::cause::Cause;
 use crate::request_parts_object3::RequestPartsObject3;
-use asn1_schema::{Any, DecodeError, EncodeError, Rules};
+use asn1_schema::{Any, AsnType, Decode, DecodeError, EncodeError, Rules};
 use asn1_tables::read_open;
 use std::alloc::Global;
 
@@ -31,7 +34,15 @@ impl RequestParts {
         number: u16,
         octets: &[u8],
         depth: usize,
-    ) -> Result<Self, DecodeError> {
+    ) -> Result<Self, DecodeError>
+        // Under the key of a row the value is one of its type, and under no other it is the octets.
+        ensures row { IfOk result (λ value. elim value as (λ _. Type 0) [
+          | variants.Cause x ↦ (number ≡ 4) × MayAnswerOf R.format ⟦<Cause as AsnType>⟧.meaning ⟦<Cause as PartialEq>⟧.eq ⟦<Cause as Decode>⟧.refusals depth octets.now (Ok x)
+          | variants.Route x ↦ (number ≡ 9) × MayAnswerOf R.format ⟦<Route as AsnType>⟧.meaning ⟦<Route as PartialEq>⟧.eq ⟦<Route as Decode>⟧.refusals depth octets.now (Ok x)
+          | variants.Object3 x ↦ (number ≡ 12) × MayAnswerOf R.format ⟦<RequestPartsObject3 as AsnType>⟧.meaning ⟦<RequestPartsObject3 as PartialEq>⟧.eq ⟦<RequestPartsObject3 as Decode>⟧.refusals depth octets.now (Ok x)
+          | variants.Other other kept ↦ (other ≡ number) × (kept ≡ octets.now) × (number ≢ 4) × (number ≢ 9) × (number ≢ 12)
+        ]) }
+    {
         match number {
             4 => Ok(Self::Cause(read_open(rules, alloc, octets, depth)?)),
             9 => Ok(Self::Route(read_open(rules, alloc, octets, depth)?)),
