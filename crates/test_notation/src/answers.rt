@@ -1,6 +1,5 @@
 //! The answers to a text.
 use crate::errors::{append_errors, append_position, append_problems};
-use crate::objects::append_objects;
 use crate::rust_names::{append_forms, append_taken};
 use crate::work::{Text, Work};
 use asn1_grammar::{AssociatedModule, Parsed, associated_modules, parse};
@@ -23,7 +22,6 @@ pub(crate) fn answer(alloc: Global, out: &mut Vec<u8>, text: &Text<'_>) -> io::R
         Work::Module => answer_module(alloc, out, text.text),
         Work::Names => answer_names(alloc, out, text.text),
         Work::Schema => answer_schema(alloc, out, text.text),
-        Work::Objects => answer_objects(alloc, out, text.text),
         Work::Rust => append_forms(alloc, out, text.text),
         Work::Taken => append_taken(alloc, out, text.text),
     }
@@ -139,16 +137,4 @@ fn answer_schema(alloc: Global, out: &mut Vec<u8>, text: &[u8]) -> io::Result<()
         writeln!(out, "accepted")?;
     }
     Ok(())
-}
-
-// Appends the errors of a text, and its objects with what is wrong with them.
-fn answer_objects(alloc: Global, out: &mut Vec<u8>, text: &[u8]) -> io::Result<()> {
-    let parsed = parse(alloc, text)?;
-    append_errors(alloc, out, text, &parsed.errors)?;
-    let parsed = [parsed];
-    let sources = sources_of(alloc, text, &parsed, &[])?;
-    let names = collect_names(alloc, &sources)?;
-    let objects = objects_of(alloc, &sources, &names)?;
-    append_objects(out, &objects)?;
-    append_problems(out, text, &objects.warnings)
 }

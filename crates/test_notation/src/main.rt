@@ -8,7 +8,6 @@
 //! | `module` | each error with its position, and the text of the trees that were read, with a line if that text is read as other trees |
 //! | `names` | each error with its position, and each name that is undefined or defined twice |
 //! | `schema` | each error with its position, then each problem with the modules; then `accepted` if no tags clash either |
-//! | `objects` | each error with its position, each object with the fields that it has, each object set with its elements, and each warning |
 //! | `rust` | each line, and this name in Rust: as a type, a field and a constant |
 //! | `taken` | each line's name, as a scope of Rust takes them one after another |
 //!
@@ -18,7 +17,6 @@
 
 mod answers;
 mod errors;
-mod objects;
 mod rust_names;
 mod work;
 

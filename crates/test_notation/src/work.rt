@@ -12,8 +12,6 @@ pub(crate) enum Work {
     Names,
     /// Its types and values.
     Schema,
-    /// Its objects.
-    Objects,
     /// Its names in Rust.
     Rust,
     /// Its names in Rust, in one scope.
@@ -31,8 +29,6 @@ impl Work {
             Some(Work::Names)
         } else if line.starts_with(b"# schema: ") {
             Some(Work::Schema)
-        } else if line.starts_with(b"# objects: ") {
-            Some(Work::Objects)
         } else if line.starts_with(b"# rust: ") {
             Some(Work::Rust)
         } else if line.starts_with(b"# taken: ") {
