@@ -11,7 +11,8 @@ module _ {E : Type 0} (W : Writer E) where
   pub record RejectsByParts : Type 0 where
     pub part : (before rs after : List Record) → W.rejects rs → W.rejects (before ++ (rs ++ after))
     pub inner : (h : Head) (rs : List Record) → W.rejects rs → W.rejects (holding h rs ∷ [])
-    pub marks : (rs : List Record) → presence_marks_alone rs ≡ true → W.rejects rs → W.rejects (presence_mark group_absent ∷ [])
+    pub marks : (table : Table Row) (rs : List Record) → presence_marks_alone rs ≡ true → W.rejects rs →
+        W.rejects (presence_mark (group_absent table) ∷ [])
 
   -- Something has been written that is the same up to the order inside sets (X.680, 27 and 28).
   pub record WroteUpToOrder (e : E) (w : Written) : Type 0 where

@@ -28,7 +28,8 @@ pub fn plain_types_state_their_invariants<
     ensures null { (v : _) → ⟦<() as AsnType>⟧.meaning.IsOfType v }
     ensures boolean { (b : Bool) → ⟦<bool as AsnType>⟧.meaning.IsOfType b }
     ensures integer { (n : ℤ) → ⟦<Integer as AsnType>⟧.meaning.IsOfType n }
-    ensures limited { (n : ℤ) → ⟦<LimitedInteger<L> as AsnType>⟧.meaning.IsOfType n }
+    ensures limited { (n : ℤ) → ⟦<LimitedInteger<L> as AsnType>⟧.meaning.IsOfType n ↔
+        IsMember (λ z. z) (Range (Some L.start) (Some L.end)) n }
     ensures marker { (v : _) → ⟦<Marker<NUMBER> as AsnType>⟧.meaning.IsOfType v }
     ensures phantom { (v : _) → ⟦<PhantomData<T> as AsnType>⟧.meaning.IsOfType v }
     ensures units { (s : List U) → ⟦<UnitString<U, K> as AsnType>⟧.meaning.IsOfType s ↔

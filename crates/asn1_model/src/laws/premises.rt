@@ -20,7 +20,7 @@ use std::borrow::Cow;
 use std::marker::PhantomData;
 
 /// A law of the types that hold no others: each value is valid, and the type is well tagged under each tag but the CHOICE marker
-/// tag. A number with limits is valid if it is within them, and a type without any content has no tag.
+/// tag. A type without any content has no tag.
 pub fn types_that_hold_no_others_are_plain<
     'a,
     L: Limits,
@@ -51,10 +51,7 @@ pub fn types_that_hold_no_others_are_plain<
     ensures alphabet { IsPlain ⟦<AlphabetString<U, A> as AsnType>⟧.meaning }
     ensures identifier { IsPlain ⟦<ObjectIdentifier as AsnType>⟧.meaning }
     ensures marker { IsPlain ⟦<Marker<NUMBER> as AsnType>⟧.meaning }
-    ensures limited { (accepts : List ℕ → Bool) (n : ℤ) →
-        ⟦<LimitedInteger<L> as AsnType>⟧.meaning.IsValid accepts n ↔
-        IsMember (λ z. z) (Range (Some L.start) (Some L.end)) n }
-    ensures limited_tag { HasOneTag ⟦<LimitedInteger<L> as AsnType>⟧.meaning }
+    ensures limited { IsPlain ⟦<LimitedInteger<L> as AsnType>⟧.meaning }
     ensures phantom { EachIsValid ⟦<PhantomData<T> as AsnType>⟧.meaning }
 {}
 
