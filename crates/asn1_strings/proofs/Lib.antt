@@ -1,2 +1,3 @@
 pub mod AsciiTexts
+pub mod ClearedBits
 pub mod DottedTexts

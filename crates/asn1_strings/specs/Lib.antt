@@ -1,4 +1,5 @@
 pub mod Alphabets
+pub mod Bits
 pub mod Dotted
 pub mod Refusals
 pub mod Shown

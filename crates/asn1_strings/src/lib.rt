@@ -38,6 +38,7 @@ pub use object_identifier::ObjectIdentifier;
 pub use strings::alphabet_string::{Alphabet, AlphabetString};
 pub use strings::ascii_text::AsciiAlphabet;
 pub use strings::binary::{BitStr, BitString, OctetString};
+pub use strings::bit_vec::BitVec;
 pub use strings::character::{
     BmpString, GeneralString, GraphicString, Ia5String, NumericString, PrintableString,
     TeletexString, Utf8String, VisibleString,

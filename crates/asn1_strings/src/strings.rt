@@ -2,6 +2,7 @@
 pub(crate) mod alphabet_string;
 pub(crate) mod ascii_text;
 pub(crate) mod binary;
+pub(crate) mod bit_vec;
 pub(crate) mod character;
 pub(crate) mod string_unit;
 mod texts;
