@@ -25,7 +25,7 @@ enum {
     FAN_FAULT = 1,  /* the octets are at fault */
     FAN_ROOM = 2,   /* the result needs *size octets; the memory is as before */
     FAN_MEMORY = 3, /* malloc or realloc failed */
-    FAN_DEEP = 4    /* octets lie inside more than 64 constructed elements */
+    FAN_DEEP = 4    /* nested more than 64 deep: constructed elements, or scopes of a value */
 };
 
 #endif

@@ -51,7 +51,7 @@ class Fault(ValueError):
 
 
 class Deep(ValueError):
-    """Octets lie inside more than 64 constructed elements."""
+    """Nested more than 64 deep: constructed elements, or scopes of a value."""
 
 
 class Part(IntEnum):

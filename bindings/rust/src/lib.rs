@@ -32,7 +32,7 @@ pub enum Error {
     Malformed,
     /// There was no memory.
     Memory,
-    /// Octets lie inside more than 64 constructed elements.
+    /// Nested more than 64 deep: constructed elements, or scopes of a value.
     Deep,
 }
 
