@@ -461,8 +461,8 @@ def try_arguments():
            [True] * 4)
     written, told, status = run(["x"], CIRCLES)
     expect("circles that are not printed", (written, [line.split("; ")[0] for line in told.splitlines()], status),
-           ("", ["-:2:1: no value of the types 'A', 'B' ends: each holds another", "-:4:1: no CHOICE or SEQUENCE is in each circle of the types 'C'",
-                 "-:5:1: no CHOICE or SEQUENCE is in each circle of the types 'D', 'E'"], 1))
+           ("", ["-:2:1: no value of the types 'A', 'B' ends: each holds another", "-:4:1: no CHOICE or SEQUENCE without a tag is in each circle of the types 'C'",
+                 "-:5:1: no CHOICE or SEQUENCE without a tag is in each circle of the types 'D', 'E'"], 1))
     expect("types with the names of files of a circle", sorted(path for path in files_of(run(["x"], BESIDE)[0]) if path.startswith("src/tree")),
            ["src/tree.rt", "src/tree_of.rt", "src/tree_of2.rt", "src/tree_parts.rt", "src/tree_reader.rt", "src/tree_reader2.rt"])
     expect("--check", run(["x", "--check"], RIGHT), ("", "", 0))

@@ -18,6 +18,7 @@ const PRELUDE: &[(&str, &str)] = &[
     ("Result", "Result"),
     ("codes", "codes"),
     ("flat_map", "flat_map"),
+    ("pos", "pos"),
     ("false", "false"),
     ("true", "true"),
     ("refl", "refl"),

@@ -137,7 +137,7 @@ fn refuse_uncut(plan: &mut Plan<'_, '_>, members: &[usize]) -> Result<(), AllocE
     let names = circle_text(plan, members)?;
     let names = names.as_str();
     let text = format!(in plan.alloc;
-        "no CHOICE or SEQUENCE is in each circle of the types {names}; name a type that exists by --extern NAME=crate::Type"
+        "no CHOICE or SEQUENCE without a tag is in each circle of the types {names}; name a type that exists by --extern NAME=crate::Type"
     )?;
     report_first(plan, members, text.as_str())
 }
@@ -281,7 +281,7 @@ fn require_kind(plan: &mut Plan<'_, '_>, definition: &Type<'_>) -> Result<(), Al
     } else {
         plan.error(
             definition.place,
-            "a SET, or a type under a tag, in a circle of types is not supported; name a type that exists by --extern NAME=crate::Type",
+            "a SET, a type under a tag, or a list of a type without a name, in a circle of types is not supported; name a type that exists by --extern NAME=crate::Type",
         )
     }
 }
@@ -291,7 +291,20 @@ fn is_kind_of_circle(definition: &Type<'_>) -> bool {
     match &definition.kind {
         TypeKind::Set(_) => false,
         TypeKind::Tagged(tag, inner) => !tag.is_explicit && is_sequence(inner),
+        TypeKind::SequenceOf(element) => is_named_below(element),
+        TypeKind::SetOf(element) => is_named_below(element),
         _ => true,
+    }
+}
+
+// Whether a type has a name, below lists.
+#[cycle(named)]
+fn is_named_below(definition: &Type<'_>) -> bool {
+    match &definition.kind {
+        TypeKind::Reference(_) => true,
+        TypeKind::SequenceOf(element) => is_named_below(element),
+        TypeKind::SetOf(element) => is_named_below(element),
+        _ => false,
     }
 }
 
