@@ -82,7 +82,9 @@ fn new_type(
     definition: &Type<'_>,
     owner: Owner<'_>,
 ) -> Result<TypeName, AllocError> {
-    if let Some(name) = plan.unnamed_type(definition.place)? {
+    if plan.current_circle.is_none()
+        && let Some(name) = plan.unnamed_type(definition.place)?
+    {
         return Ok(name);
     }
     let name = plan.new_name(owner.name)?;
