@@ -7,9 +7,9 @@ use std::alloc::AllocError;
 use std::fmt::Write;
 use std::fs;
 
-// The libraries that a crate may name: that of the types whose values are kept as their contents octets, and that of the values of
-// open types.
-const LIBRARIES: &[&str] = &["asn1_contents", "asn1_tables"];
+// The fronts of the names of libraries that a crate may name: that of the types whose values are kept as their contents octets, and
+// that of the values of open types.
+const LIBRARIES: &[&str] = &["asn1_contents::", "asn1_tables::"];
 
 // The library of the types that hold themselves.
 const CIRCLES: &str = "asn1_circles";
@@ -98,12 +98,9 @@ fn missing_lines<'a>(
     Ok(lines)
 }
 
-// Whether a file names this library, which ends in front of two colons.
-fn names_library(file: &PrintedFile, library: &str) -> bool {
-    match file.text.as_str().split_once(library) {
-        Some((_, rest)) => rest.starts_with("::"),
-        None => false,
-    }
+// Whether a file names something of a library, by the front of its names.
+fn names_library(file: &PrintedFile, front: &str) -> bool {
+    file.text.as_str().contains(front)
 }
 
 // Whether a file has definitions: a crate has them for types that hold themselves.

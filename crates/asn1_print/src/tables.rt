@@ -1,6 +1,6 @@
 //! Enums for the tables of object sets.
 use crate::choices::new_variant;
-use crate::integers::{built_in, range_of};
+use crate::integers::{built_in, is_of_integer, range_of};
 use crate::lowering::type_name;
 use crate::notation::{quoted_part, text_of};
 use crate::plan::Plan;
@@ -13,6 +13,43 @@ use asn1_rust_names::{TakenNames, camel_case, snake_case};
 use asn1_rust_tables::{KeyKind, OpenRow, OpenTable, RowKey, table_file};
 use std::alloc::AllocError;
 
+// Names of other arguments and calls of an enum, of what its clauses bind, and words of their language.
+const CALL_NAMES: &[&str] = &[
+    "abbrev",
+    "alloc",
+    "axiom",
+    "coe",
+    "com",
+    "data",
+    "depth",
+    "elim",
+    "fcoe",
+    "hcom",
+    "infix",
+    "infixl",
+    "infixr",
+    "kept",
+    "module",
+    "mutual",
+    "octets",
+    "open",
+    "other",
+    "package",
+    "read",
+    "record",
+    "result",
+    "rules",
+    "ruleset",
+    "tcoe",
+    "unfold",
+    "unfoldable",
+    "unfolding",
+    "value",
+    "variants",
+    "write",
+    "x",
+];
+
 /// Adds an enum for each table.
 pub(crate) fn add_tables(plan: &mut Plan<'_, '_>) -> Result<(), AllocError> {
     let tables = plan.request.tables;
@@ -22,12 +59,12 @@ pub(crate) fn add_tables(plan: &mut Plan<'_, '_>) -> Result<(), AllocError> {
     Ok(())
 }
 
-// Adds the enum of a table. Keys beyond 64 bits have none.
+// Adds the enum of a table. If a key does not fit, it has none.
 fn add_table(plan: &mut Plan<'_, '_>, table: &Table<'_>) -> Result<(), AllocError> {
     let Some(key) = key_kind(plan, table)? else {
         return plan.warn(
             table.place,
-            "the keys of this object set do not fit into 64 bits, so it has no enum in Rust",
+            "a key of this object set is not of its type, or does not fit into 64 bits, so the set has no enum in Rust",
         );
     };
     let name = enum_name(plan, table)?;
@@ -41,7 +78,7 @@ fn add_table(plan: &mut Plan<'_, '_>, table: &Table<'_>) -> Result<(), AllocErro
         module: plan.text(module.as_str())?,
         summary,
         key_field: text_of(plan.alloc, table.key)?,
-        key_name: snake_case(plan.alloc, table.key)?,
+        key_name: key_name(plan, table)?,
         key,
         rows,
         name,
@@ -71,6 +108,16 @@ fn enum_name(plan: &Plan<'_, '_>, table: &Table<'_>) -> Result<String, AllocErro
     Ok(name)
 }
 
+// The name of the key as an argument, and of the call that answers it.
+fn key_name(plan: &Plan<'_, '_>, table: &Table<'_>) -> Result<String, AllocError> {
+    let mut names = TakenNames::new(plan.alloc);
+    for name in CALL_NAMES {
+        let _taken = names.take(name)?;
+    }
+    let name = snake_case(plan.alloc, table.key)?;
+    names.take(name.as_str())
+}
+
 // What the enum is.
 fn summary_of(plan: &Plan<'_, '_>, table: &Table<'_>) -> Result<String, AllocError> {
     let alloc = plan.alloc;
@@ -87,27 +134,29 @@ fn summary_of(plan: &Plan<'_, '_>, table: &Table<'_>) -> Result<String, AllocErr
     )
 }
 
-// What tells the rows; `None` if a key is beyond 64 bits.
+// What tells the rows; `None` if a key does not fit.
 fn key_kind(plan: &Plan<'_, '_>, table: &Table<'_>) -> Result<Option<KeyKind>, AllocError> {
+    let name = integer_name(plan, table);
     let mut is_number = false;
     for row in &table.rows {
         if let Value::Integer(number) = &row.key {
-            is_number = true;
-            if *number < -9223372036854775808 || 9223372036854775807 < *number {
+            if !is_of_integer(name, *number) {
                 return Ok(None);
             }
+            is_number = true;
         }
     }
-    if !is_number {
-        return Ok(Some(KeyKind::Arcs));
-    }
-    let name = match built_in(range_of(
-        key_definition(plan, &table.key_type).constraints.as_slice(),
-    )) {
-        Some(name) => name,
-        None => "i64",
-    };
-    Ok(Some(KeyKind::Number(plan.text(name)?)))
+    Ok(Some(if is_number {
+        KeyKind::Number(plan.text(name)?)
+    } else {
+        KeyKind::Arcs
+    }))
+}
+
+// The integer of the language for keys that are numbers.
+fn integer_name(plan: &Plan<'_, '_>, table: &Table<'_>) -> &'static str {
+    let definition = key_definition(plan, &table.key_type);
+    built_in(range_of(definition.constraints.as_slice())).unwrap_or("i64")
 }
 
 // The type of a key behind the references to it.
