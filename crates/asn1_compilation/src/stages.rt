@@ -15,7 +15,7 @@ use crate::left_out::LeftOut;
 use crate::message::{Message, messages_of};
 use crate::problems::syntax_problems;
 use asn1_grammar::{AssociatedModule, Parsed, associated_modules, parse};
-use asn1_module_check::{check_extensible_choices, check_tags};
+use asn1_module_check::{check_constructed, check_extensible_choices, check_tags, list_type};
 use asn1_modules::{Source, collect_names};
 use asn1_objects::objects_of;
 use asn1_print::{Extern, Printed, Request, print_crate, print_program};
@@ -242,7 +242,7 @@ fn schema_messages(
     Ok(messages)
 }
 
-// Prints the files of a schema. Its problems have the SETs that no tag check refuses.
+// Prints the files of a schema. Its problems have the SETs that no tag check refuses, and the clashes in objects.
 fn print_schema<'a>(
     alloc: Global,
     job: Job<'_>,
@@ -259,7 +259,25 @@ fn print_schema<'a>(
     printed
         .problems
         .append(&mut check_extensible_choices(alloc, schema)?)?;
+    printed
+        .problems
+        .append(&mut row_clashes(alloc, schema, tables)?)?;
     Ok(printed)
+}
+
+// The components of types in objects that share a tag although X.680 forbids it.
+fn row_clashes<'a>(
+    alloc: Global,
+    schema: &Schema<'a>,
+    tables: &[Table<'a>],
+) -> Result<Vec<Problem>, AllocError> {
+    let mut list = Vec::new(alloc);
+    for table in tables {
+        for row in &table.rows {
+            list_type(alloc, &mut list, schema, &row.cell)?;
+        }
+    }
+    check_constructed(alloc, list.as_slice())
 }
 
 // Prints the files of a schema, of which these types exist already.
