@@ -118,7 +118,7 @@ fn key_name(plan: &Plan<'_, '_>, table: &Table<'_>) -> Result<String, AllocError
     names.take(name.as_str())
 }
 
-// What the enum is.
+// A line on the enum.
 fn summary_of(plan: &Plan<'_, '_>, table: &Table<'_>) -> Result<String, AllocError> {
     let alloc = plan.alloc;
     let class = text_of(alloc, table.class)?;
@@ -134,7 +134,7 @@ fn summary_of(plan: &Plan<'_, '_>, table: &Table<'_>) -> Result<String, AllocErr
     )
 }
 
-// What tells the rows; `None` if a key does not fit.
+// The kind of the keys; `None` if one does not fit.
 fn key_kind(plan: &Plan<'_, '_>, table: &Table<'_>) -> Result<Option<KeyKind>, AllocError> {
     let name = integer_name(plan, table);
     let mut is_number = false;

@@ -5,8 +5,8 @@
 //! | [`Table`] | a column of an object set: for each key the type that an open type has |
 //! | [`Row`] | an object of the set, with its key and its type |
 //!
-//! Tables stand beside the schema of the modules (`asn1_resolved`), of which no type needs one: a reference in a type of a row is an index
-//! into the types of that schema. `asn1_resolver` makes them, and `asn1_print` prints an enum for each.
+//! No type of a schema (`asn1_resolved`) needs a table, so tables are beside it: a reference in the type of a row is an index into the
+//! types of that schema. `asn1_resolver` makes them, and `asn1_print` prints an enum for each.
 #![tactic(auto)]
 
 mod table;

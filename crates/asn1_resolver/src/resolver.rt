@@ -35,7 +35,7 @@ pub(crate) struct Resolver<'r, 'a> {
     pub(crate) used_sets: Vec<UsedSet<'a>>,
     /// Those of which it is known that they are used, with their modules.
     pub(crate) known_sets: HashSet<(&'a [u8], &'a [u8])>,
-    /// Whether an error is told as a warning: no type needs what is read.
+    /// Whether errors are warnings: no type needs the object that is read.
     pub(crate) is_lenient: bool,
     /// The type behind the references and tags of each definition of a type, as far as they were followed.
     pub(crate) bases: Vec<Base<'a>>,

@@ -52,7 +52,7 @@ struct Collected<'a> {
     cause: Option<&'static [u8]>,
 }
 
-// What the rows of a table are made of.
+// The class of the rows of a table, with its key.
 #[derive(Clone, Copy)]
 struct Columns<'a> {
     class: &'a ObjectClass<'a>,

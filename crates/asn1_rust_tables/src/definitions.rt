@@ -10,7 +10,7 @@ pub struct OpenTable {
     pub crate_name: String,
     /// The module.
     pub module: String,
-    /// What the enum is.
+    /// A line on the enum.
     pub summary: String,
     /// The name of the enum.
     pub name: String,
@@ -18,13 +18,13 @@ pub struct OpenTable {
     pub key_field: String,
     /// The name of the argument and the call for it.
     pub key_name: String,
-    /// What a key is.
+    /// The kind of the keys.
     pub key: KeyKind,
     /// The rows.
     pub rows: Vec<OpenRow>,
 }
 
-/// What tells the rows of a table.
+/// The kind of the keys of a table.
 #[derive(Drop)]
 pub enum KeyKind {
     /// A number, of this type.
@@ -40,13 +40,13 @@ pub struct OpenRow {
     pub name: String,
     /// The object, as it is written.
     pub notation: String,
-    /// What tells it.
+    /// The key.
     pub key: RowKey,
     /// The type.
     pub definition: TypeName,
 }
 
-/// What tells a row.
+/// The key of a row.
 #[derive(Drop)]
 pub enum RowKey {
     /// This number.

@@ -4,7 +4,7 @@
 //! |---|---|
 //! | [`table_file`] | the file of a table |
 //! | [`OpenTable`], [`OpenRow`] | a table with its rows |
-//! | [`KeyKind`], [`RowKey`] | what tells the row: a number, or the arcs of an object identifier |
+//! | [`KeyKind`], [`RowKey`] | keys: numbers, or the arcs of object identifiers |
 //!
 //! A printed enum has three calls with a clause each. `read`: under the key of a row the value is one of its type, which `read_open` may
 //! answer of the octets, and under no other key it is these octets. `write`: the value of a row is written under its own type, and
