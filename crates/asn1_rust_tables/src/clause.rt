@@ -1,6 +1,6 @@
 //! The clauses of the calls of a table.
 use crate::definitions::{KeyKind, OpenRow, OpenTable, RowKey};
-use asn1_rust_code::{Draft, joined};
+use asn1_rust_code::Draft;
 use std::alloc::AllocError;
 
 /// Brings in what the clauses name.
@@ -98,32 +98,29 @@ fn append_row(draft: &mut Draft, table: &OpenTable, row: &OpenRow) -> Result<(),
     let own = key_term(draft, table, &row.key)?;
     let definition = row.definition.text.as_str();
     let line = format!(in draft.alloc();
-        "  | variants.{variant} x ↦ ({key} ≡ {own}) × MayAnswerOf R.format ⟦<{definition} as AsnType>⟧.meaning ⟦<{definition} as PartialEq>⟧.eq ⟦<{definition} as Decode>⟧.refusals depth octets.now (Ok x)"
+        "  | variants.{variant} x ↦ ({key} ≡ {own}) × MayAnswerOf R.format ⟦<{definition} as AsnType>⟧.meaning"
     )?;
-    draft.line(2, line.as_str())
+    draft.line(2, line.as_str())?;
+    let line = format!(in draft.alloc();
+        "  ⟦<{definition} as PartialEq>⟧.eq ⟦<{definition} as Decode>⟧.refusals depth octets.now (Ok x)"
+    )?;
+    draft.line(3, line.as_str())
 }
 
 // Appends the fact of other octets, and closes the clause.
 fn append_other(draft: &mut Draft, table: &OpenTable) -> Result<(), AllocError> {
-    let alloc = draft.alloc();
     let key = key_value(draft, table)?;
     let key = key.as_str();
-    let mut facts = Vec::new(alloc);
+    let line = format!(in draft.alloc();
+        "  | variants.Other other kept ↦ (other ≡ {key}) × (kept ≡ octets.now)"
+    )?;
+    draft.line(2, line.as_str())?;
     for row in &table.rows {
         let own = key_term(draft, table, &row.key)?;
         let own = own.as_str();
-        facts.push(format!(in alloc; " × ({key} ≢ {own})")?)?;
+        let line = format!(in draft.alloc(); "  × ({key} ≢ {own})")?;
+        draft.line(3, line.as_str())?;
     }
-    let mut parts = Vec::new(alloc);
-    for fact in &facts {
-        parts.push(fact.as_str())?;
-    }
-    let others = joined(alloc, parts.as_slice(), "")?;
-    let others = others.as_str();
-    let line = format!(in alloc;
-        "  | variants.Other other kept ↦ (other ≡ {key}) × (kept ≡ octets.now){others}"
-    )?;
-    draft.line(2, line.as_str())?;
     draft.line(2, "]) }")
 }
 

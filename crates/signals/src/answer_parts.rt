@@ -35,10 +35,16 @@ impl AnswerParts {
     ) -> Result<Self, DecodeError>
         // Under the key of a row the value is one of its type, and under no other it is the octets.
         ensures row { IfOk result (λ value. elim value as (λ _. Type 0) [
-          | variants.Cause x ↦ (number ≡ 4) × MayAnswerOf R.format ⟦<Cause as AsnType>⟧.meaning ⟦<Cause as PartialEq>⟧.eq ⟦<Cause as Decode>⟧.refusals depth octets.now (Ok x)
-          | variants.Speed x ↦ (number ≡ 300) × MayAnswerOf R.format ⟦<u8 as AsnType>⟧.meaning ⟦<u8 as PartialEq>⟧.eq ⟦<u8 as Decode>⟧.refusals depth octets.now (Ok x)
-          | variants.Object3 x ↦ (number ≡ 301) × MayAnswerOf R.format ⟦<bool as AsnType>⟧.meaning ⟦<bool as PartialEq>⟧.eq ⟦<bool as Decode>⟧.refusals depth octets.now (Ok x)
-          | variants.Other other kept ↦ (other ≡ number) × (kept ≡ octets.now) × (number ≢ 4) × (number ≢ 300) × (number ≢ 301)
+          | variants.Cause x ↦ (number ≡ 4) × MayAnswerOf R.format ⟦<Cause as AsnType>⟧.meaning
+              ⟦<Cause as PartialEq>⟧.eq ⟦<Cause as Decode>⟧.refusals depth octets.now (Ok x)
+          | variants.Speed x ↦ (number ≡ 300) × MayAnswerOf R.format ⟦<u8 as AsnType>⟧.meaning
+              ⟦<u8 as PartialEq>⟧.eq ⟦<u8 as Decode>⟧.refusals depth octets.now (Ok x)
+          | variants.Object3 x ↦ (number ≡ 301) × MayAnswerOf R.format ⟦<bool as AsnType>⟧.meaning
+              ⟦<bool as PartialEq>⟧.eq ⟦<bool as Decode>⟧.refusals depth octets.now (Ok x)
+          | variants.Other other kept ↦ (other ≡ number) × (kept ≡ octets.now)
+              × (number ≢ 4)
+              × (number ≢ 300)
+              × (number ≢ 301)
         ]) }
     {
         match number {

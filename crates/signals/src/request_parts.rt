@@ -37,10 +37,16 @@ impl RequestParts {
     ) -> Result<Self, DecodeError>
         // Under the key of a row the value is one of its type, and under no other it is the octets.
         ensures row { IfOk result (λ value. elim value as (λ _. Type 0) [
-          | variants.Cause x ↦ (number ≡ 4) × MayAnswerOf R.format ⟦<Cause as AsnType>⟧.meaning ⟦<Cause as PartialEq>⟧.eq ⟦<Cause as Decode>⟧.refusals depth octets.now (Ok x)
-          | variants.Route x ↦ (number ≡ 9) × MayAnswerOf R.format ⟦<Route as AsnType>⟧.meaning ⟦<Route as PartialEq>⟧.eq ⟦<Route as Decode>⟧.refusals depth octets.now (Ok x)
-          | variants.Object3 x ↦ (number ≡ 12) × MayAnswerOf R.format ⟦<RequestPartsObject3 as AsnType>⟧.meaning ⟦<RequestPartsObject3 as PartialEq>⟧.eq ⟦<RequestPartsObject3 as Decode>⟧.refusals depth octets.now (Ok x)
-          | variants.Other other kept ↦ (other ≡ number) × (kept ≡ octets.now) × (number ≢ 4) × (number ≢ 9) × (number ≢ 12)
+          | variants.Cause x ↦ (number ≡ 4) × MayAnswerOf R.format ⟦<Cause as AsnType>⟧.meaning
+              ⟦<Cause as PartialEq>⟧.eq ⟦<Cause as Decode>⟧.refusals depth octets.now (Ok x)
+          | variants.Route x ↦ (number ≡ 9) × MayAnswerOf R.format ⟦<Route as AsnType>⟧.meaning
+              ⟦<Route as PartialEq>⟧.eq ⟦<Route as Decode>⟧.refusals depth octets.now (Ok x)
+          | variants.Object3 x ↦ (number ≡ 12) × MayAnswerOf R.format ⟦<RequestPartsObject3 as AsnType>⟧.meaning
+              ⟦<RequestPartsObject3 as PartialEq>⟧.eq ⟦<RequestPartsObject3 as Decode>⟧.refusals depth octets.now (Ok x)
+          | variants.Other other kept ↦ (other ≡ number) × (kept ≡ octets.now)
+              × (number ≢ 4)
+              × (number ≢ 9)
+              × (number ≢ 12)
         ]) }
     {
         match number {
