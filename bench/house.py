@@ -16,7 +16,7 @@ MOST_BOXES = 60
 
 # A group of crates.txt, with its boxes: a pattern has one box for all of its crates.
 LAYERS = [
-    [("examples", ["greetings*", "expressions", "asn1_user_types", "asn1_first_use"]),
+    [("examples", ["*"]),
      ("calls from C", ["fanughespu", "fan_*"])],
     [("texts", ["asn1_convert", "asn1_value_text", "asn1_paths"]),
      ("LDAP", ["asn1_ldap_*"]),
