@@ -16,7 +16,7 @@ PAGE = ROOT / "docs" / "CLAUSES.md"
 LEFT_OUT = {"examples", "tests", "measures"}
 
 HEADER = re.compile(r"^(?P<indent> *)(?:unsafe )?(?P<kind>impl|pub trait|trait|pub mod|mod)\b(?P<rest>.*)")
-FUNCTION = re.compile(r"^(?P<indent> *)(?P<pub>pub )?(?:final )?(?:const )?(?:unsafe )?fn (?P<name>\w+)")
+FUNCTION = re.compile(r'^(?P<indent> *)(?P<pub>pub )?(?:final )?(?:const )?(?:unsafe )?(?:extern "C" )?fn (?P<name>\w+)')
 CLAUSE = re.compile(r"^ *(?P<kind>ensures|requires)\b *(?P<name>\w+)? *\{")
 GHOST = re.compile(r"^ *ghost (?!use\b)(?P<name>\w+) *:")
 PARAMETERS = re.compile(r"<(?:[^<>]|<(?:[^<>]|<[^<>]*>)*>)*>")
