@@ -4,7 +4,7 @@
     python3 bench/clauses.py            writes docs/CLAUSES.md
     python3 bench/clauses.py --check    says whether the page is what it would write (status 0 or 1)
 
-Crates that the compiler prints, tests, measures and programs without a library are left out.
+Examples, tests, measures and programs without a library are left out, and so are calls that a crate's lib.rt does not hand out.
 """
 import difflib
 import pathlib
@@ -15,15 +15,17 @@ ROOT = pathlib.Path(__file__).resolve().parent.parent
 PAGE = ROOT / "docs" / "CLAUSES.md"
 LEFT_OUT = {"examples", "tests", "measures"}
 
-HEADER = re.compile(r"^(?P<indent> *)(?:unsafe )?(?P<kind>impl|pub trait|trait|pub mod|mod)\b(?P<rest>.*)")
-FUNCTION = re.compile(r'^(?P<indent> *)(?P<pub>pub )?(?:final )?(?:const )?(?:unsafe )?(?:extern "C" )?fn (?P<name>\w+)')
-CLAUSE = re.compile(r"^ *(?P<kind>ensures|requires)\b *(?P<name>\w+)? *\{")
-GHOST = re.compile(r"^ *ghost (?!use\b)(?P<name>\w+) *:")
+STRING = re.compile(r'"(?:[^"\\]|\\.)*"', re.S)
+LONG_HEADER = re.compile(r"^(?:impl|pub trait)\b[^{;]*\{", re.M)
+HEADER = re.compile(r"^(?:unsafe )?(?P<kind>impl|pub trait|trait)\b(?P<rest>.*)")
+FUNCTION = re.compile(r'^(?P<indent> *)(?P<pub>pub(?:\(\w+\))? )?(?:(?:final|const|unsafe|extern "C") )*fn (?P<name>\w+)')
+CLAUSE = re.compile(r"^ *(?P<kind>ensures|requires)\*? *(?P<name>\w+)? *\{")
 PARAMETERS = re.compile(r"<(?:[^<>]|<(?:[^<>]|<[^<>]*>)*>)*>")
+HANDED_OUT = re.compile(r"^\s*pub (?P<what>use|mod) (?P<names>[^;]*);", re.M)
 
 
-def groups():
-    """The groups of crates.txt, with the libraries of each."""
+def crates():
+    """The libraries of each group of crates.txt."""
     group, found = None, {}
     for line in (ROOT / "crates.txt").read_text().splitlines():
         if line.startswith("#"):
@@ -35,100 +37,96 @@ def groups():
     return found
 
 
-def is_printed(text):
-    return "rinted by asn1_compile" in text[:400]
+def handed_out(source):
+    """The modules, and the names, that the crate's lib.rt hands out."""
+    modules, names = set(), set()
+    for found in HANDED_OUT.finditer((source / "lib.rt").read_text()):
+        (modules if found["what"] == "mod" else names).update(re.findall(r"\w+", found["names"]))
+    return modules, names
 
 
 def owner(rest, kind):
-    """The type whose calls stand in an `impl`, or the name of a trait; and whether it is of a trait."""
+    """The type whose calls are in an `impl`, or the name of a trait; and whether the calls are a trait's."""
     rest = rest.split(" where ")[0].rstrip(" {")
     if kind.endswith("trait"):
-        return re.match(r" *(\w+)", rest).group(1), True
-    plain = PARAMETERS.sub("", re.sub(r"->", "", rest)).strip()
-    if " for " in plain:
-        of, ty = plain.split(" for ", 1)
-        return f"{ty.strip()} as {of.strip()}", True
-    return plain.strip(), False
+        return re.match(r" *(\w+)", rest).group(1), kind == "pub trait"
+    plain = PARAMETERS.sub("", rest.replace("->", "")).strip()
+    if " for " not in plain:
+        return plain, False
+    of, ty = plain.split(" for ", 1)
+    return f"{ty.strip()} as {of.strip()}", True
+
+
+def lines_of(path):
+    """The lines of a file without what its strings hold, a long header on one line, and no comments."""
+    text = STRING.sub(lambda s: '"C"' if s[0] == '"C"' else '""' + "\n" * s[0].count("\n"), path.read_text())
+    text = LONG_HEADER.sub(lambda header: " ".join(header[0].split()), text)
+    return [line for line in text.splitlines() if not line.lstrip().startswith("//")]
 
 
 def calls(path):
-    """The public calls of a file: (owner, name, [(kind, clause)])."""
-    text = path.read_text()
-    if is_printed(text):
-        return
+    """The calls of a file that are public in it, with their clauses: (type or trait, name, [(kind, name of the clause)])."""
     here, of_trait, found = None, False, None
-    ghosts = []
-    for line in text.splitlines():
-        if line.lstrip().startswith("//"):
-            continue
-        header = HEADER.match(line)
-        if header and header["indent"] == "":
-            here, of_trait = owner(header["rest"], header["kind"]) if "mod" not in header["kind"] else (None, False)
-            if header["kind"].endswith("trait") and not header["kind"].startswith("pub"):
-                here, of_trait = None, False
+    for line in lines_of(path):
+        if header := HEADER.match(line):
+            here, of_trait = owner(header["rest"], header["kind"])
         elif line.startswith("}"):
-            if ghosts:
-                yield here, None, ghosts
-                ghosts = []
             here, of_trait = None, False
-        function = FUNCTION.match(line)
-        if function:
+        if function := FUNCTION.match(line):
             if found and found[2]:
-                yield tuple(found)
-            public = function["pub"] or (of_trait and function["indent"])
-            found = [here if function["indent"] else None, function["name"], []] if public else None
-            continue
-        clause = CLAUSE.match(line)
-        if clause and found:
+                yield found
+            inside = here if function["indent"] else None
+            is_public = function["pub"] == "pub " or (inside and of_trait and not function["pub"])
+            found = (inside, function["name"], []) if is_public else None
+        elif found and (clause := CLAUSE.match(line)):
             found[2].append((clause["kind"], clause["name"]))
     if found and found[2]:
-        yield tuple(found)
+        yield found
 
 
-def line_of(where, name, clauses):
-    title = f"`{where}::{name}`" if where else f"`{name}`"
-    named = [f"`{c}`" for kind, c in clauses if kind == "ensures" and c]
-    unnamed = any(kind == "ensures" and not c for kind, c in clauses)
-    asked = [f"`{c}`" if c else "one" for kind, c in clauses if kind == "requires"]
-    parts = []
-    if named:
-        parts.append(", ".join(named))
-    elif unnamed:
-        parts.append("one clause")
-    if asked:
-        parts.append("requires " + ", ".join(asked))
-    return f"- {title}: " + "; ".join(parts)
+def public_calls(source):
+    """The calls that a crate hands out."""
+    modules, names = handed_out(source)
+    for path in sorted(source.rglob("*.rt")):
+        inside = path.relative_to(source).with_suffix("").parts
+        for where, name, clauses in calls(path):
+            words = re.findall(r"\w+", where) if where else [name]
+            if path.name == "lib.rt" or modules & set(inside) or names & set(words) or 'extern "C"' in path.read_text():
+                yield where, name, clauses
+
+
+def row(where, name, clauses):
+    title = f"{where}::{name}" if where else name
+    named = list(dict.fromkeys(clause for kind, clause in clauses if kind == "ensures" and clause))
+    asked = [f"`{clause}`" if clause else "one" for kind, clause in clauses if kind == "requires"]
+    parts = [", ".join(f"`{clause}`" for clause in named)] if named else []
+    if not named and any(kind == "ensures" for kind, _ in clauses):
+        parts = ["one clause"]
+    return f"- `{title}`: " + "; ".join(parts + ([f"requires {', '.join(asked)}"] if asked else []))
 
 
 def page():
-    out = [
+    lines, count, clauses_in_all, owed = [], 0, 0, 0
+    for group, names in crates().items():
+        lines += ["", f"## {group[0].upper()}{group[1:]}"]
+        for name in names:
+            found = list(public_calls(ROOT / "crates" / name / "src"))
+            if found:
+                lines += ["", f"**{name}**", "", *sorted({row(*call) for call in found})]
+            count += len(found)
+            clauses_in_all += sum(kind == "ensures" for _, _, clauses in found for kind, _ in clauses)
+            owed += sum(any(kind == "requires" for kind, _ in clauses) for _, _, clauses in found)
+    head = [
         "# Index of clauses",
         "",
-        "Every public call with a contract, by crate and file, and the names of its clauses. `bench/clauses.py` prints this page",
-        "from the sources; the contract is above the body of the call. A call with one clause without a name is marked so, and",
-        "`requires` says what a caller owes. [PROMISES.md](PROMISES.md) says what the clauses amount to.",
+        "Every public call with a contract, by crate, and the names of its clauses. `bench/clauses.py` prints this page from the",
+        "sources; the contract is above the body of the call. A call with one clause without a name is marked so, and `requires`",
+        "says what a caller owes. Laws that are ghost members of a trait (`lawful`, `one_record`) are not here: they are above the",
+        "calls of the trait. [PROMISES.md](PROMISES.md) says what the clauses amount to.",
+        "",
+        f"{count:,} calls, {clauses_in_all:,} clauses; {owed} calls have a `requires`.",
     ]
-    calls_in_all = clauses_in_all = owed = 0
-    for group, crates in groups().items():
-        lines = []
-        for crate in crates:
-            rows = []
-            source = ROOT / "crates" / crate / "src"
-            for path in sorted(source.rglob("*.rt")):
-                for where, name, clauses in calls(path):
-                    if name is None or "{" in f"{where}":
-                        continue
-                    rows.append(line_of(where, name, clauses))
-                    calls_in_all += 1
-                    clauses_in_all += sum(kind == "ensures" for kind, _ in clauses)
-                    owed += any(kind == "requires" for kind, _ in clauses)
-            if rows:
-                lines += ["", f"**{crate}**", ""] + sorted(set(rows))
-        if lines:
-            out += ["", f"## {group[0].upper()}{group[1:]}"] + lines
-    out.insert(5, "")
-    out.insert(6, f"{calls_in_all:,} calls, {clauses_in_all:,} clauses; {owed} calls have a `requires`.")
-    return "\n".join(out) + "\n"
+    return "\n".join(head + lines) + "\n"
 
 
 def main():

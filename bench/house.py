@@ -33,22 +33,21 @@ LAYERS = [
     [("values", ["asn1_values", "asn1_integers", "asn1_strings", "asn1_tags", "asn1_bounds", "asn1_ranges"])],
 ]
 SIDE = [
-    ("compiler", ["asn1_compil*", "asn1_print*", "asn1_rust_*", "asn1_circle_definitions", "asn1_module*",
-                  "asn1_resolve*", "asn1_objects", "asn1_names", "asn1_grammar", "asn1_tokens",
-                  "asn1_notation*"]),
+    ("compiler", ["asn1_compil*", "asn1_print_calls", "asn1_print", "asn1_rust_*|asn1_circle_definitions", "asn1_module_check",
+                  "asn1_resolve*", "asn1_objects", "asn1_names|asn1_modules", "asn1_grammar", "asn1_tokens", "asn1_notation*"]),
     ("tests", ["*"]),
     ("measures", ["*"]),
 ]
-# A road: its name, its colour, and the boxes on it in turn.
+# A road of docs/ARCHITECTURE.md: its heading, its colour, and the boxes of each of its steps.
 ROADS = [
-    ("a value to octets and back", "#c0392b",
-     ["asn1_x509*", "asn1_schema", "asn1_enc", "asn1_buffers", "asn1_der*", "asn1_dec", "asn1_slots", "asn1_rules"]),
-    ("a module to types", "#1f6fb2",
-     ["asn1_compil*", "asn1_tokens", "asn1_grammar", "asn1_resolve*", "asn1_module*", "asn1_rust_*", "asn1_print*"]),
-    ("a certificate to its report", "#2e8b57",
-     ["asn1_certificate", "asn1_certificate_input", "asn1_certificate_rules", "asn1_x509*", "asn1_der*", "asn1_certificate_reader",
-      "asn1_certificate_text"]),
-    ("a schema table to its verdict", "#a0632c", ["asn1_check", "asn1_report", "asn1_clash", "asn1_fields"]),
+    ("A value to bytes and back", "#c0392b",
+     [["asn1_model", "asn1_components"], ["asn1_enc"], ["asn1_buffers"], ["asn1_dec", "asn1_items"], ["asn1_slots"], ["asn1_rules"]]),
+    ("A certificate to its report", "#2e8b57",
+     [["asn1_certificate_input", "asn1_x509*", "asn1_certificate_rules"], ["asn1_certificate_reader"], ["asn1_certificate_text"]]),
+    ("A module to a crate", "#1f6fb2",
+     [["asn1_tokens", "asn1_grammar"], ["asn1_resolve*", "asn1_names|asn1_modules"], ["asn1_module_check"],
+      ["asn1_print", "asn1_rust_*|asn1_circle_definitions", "asn1_compil*"]]),
+    ("A line to its verdict", "#a0632c", [["asn1_report"], ["asn1_clash"]]),
 ]
 WIDTH, SIDE_WIDTH, GAP, BOX, LINE, HEAD = 940, 250, 14, 30, 38, 26
 
@@ -67,10 +66,10 @@ def crates():
 
 
 def check_layers(there, libraries):
-    """A crate of a layer uses crates of its own layer and of those below it."""
+    """A crate of a layer uses crates of its own layer and of those below it, and none of a group at the side."""
     layer_of = {name: place for place, layer in enumerate(LAYERS) for group, _ in layer for name in there[group]}
     for name, place in layer_of.items():
-        above = [below for below in libraries[name] if layer_of.get(below, place) < place]
+        above = [below for below in libraries[name] if below in libraries and layer_of.get(below, -1) < place]
         if above:
             sys.exit(f"house.py: {name} uses {', '.join(above)} of a layer above it")
 
@@ -79,7 +78,7 @@ def boxes_of(group, patterns, names):
     """The boxes of a group: a pattern with its crates. A crate is in the first box whose pattern is its name, or that it matches."""
     left, found = list(names), {}
     for pattern in sorted(patterns, key=lambda p: "*" in p):
-        found[pattern] = [n for n in left if fnmatch.fnmatchcase(n, pattern)]
+        found[pattern] = [n for n in left if any(fnmatch.fnmatchcase(n, part) for part in pattern.split("|"))]
         left = [n for n in left if n not in found[pattern]]
         if not found[pattern]:
             sys.exit(f"house.py: no crate of {group} is {pattern}")
@@ -94,7 +93,7 @@ def title(pattern, names):
     short = [name.removeprefix("asn1_") for name in names]
     if len(short) < 3 and len(", ".join(short)) < 34:
         return ", ".join(short)
-    return f"{pattern.removeprefix('asn1_')} ({len(names)})"
+    return f"{pattern.split('|')[0].removeprefix('asn1_')} ({len(names)})"
 
 
 def text(x, y, words, size=13, anchor="middle", extra=""):
@@ -107,7 +106,7 @@ def box(x, y, width, pattern, names):
     size = round(min(13, 1.75 * (width - 12) / len(words)), 1)
     out = [f'<rect x="{x:.0f}" y="{y:.0f}" width="{width:.0f}" height="{BOX}" rx="5" fill="#fff" stroke="#8a8f98"/>',
            text(x + width / 2, y + 20, words, size)]
-    marks = [(colour, road.index(pattern) + 1) for _, colour, road in ROADS if pattern in road]
+    marks = [(colour, step) for _, colour, road in ROADS for step, boxes in enumerate(road, 1) if pattern in boxes]
     for place, (colour, step) in enumerate(marks):
         at = x + width - 4 - 18 * place
         out += [f'<circle cx="{at:.0f}" cy="{y:.0f}" r="8.5" fill="{colour}"/>',
