@@ -7,7 +7,7 @@ use crate::plan::Plan;
 use crate::types::part_texts;
 use crate::written::in_one_line;
 use asn1_names::Place;
-use asn1_resolved::{Type, TypeKind, Value};
+use asn1_resolved::{Range, Type, TypeKind, Value};
 use asn1_resolved_tables::{Row, Table};
 use asn1_rust_names::{TakenNames, camel_case, snake_case};
 use asn1_rust_tables::{KeyKind, OpenRow, OpenTable, RowKey, table_file};
@@ -155,25 +155,32 @@ fn key_kind(plan: &Plan<'_, '_>, table: &Table<'_>) -> Result<Option<KeyKind>, A
 
 // The integer of the language for keys that are numbers.
 fn integer_name(plan: &Plan<'_, '_>, table: &Table<'_>) -> &'static str {
-    let definition = key_definition(plan, &table.key_type);
-    built_in(range_of(definition.constraints.as_slice())).unwrap_or("i64")
+    built_in(key_range(plan, table)).unwrap_or("i64")
 }
 
-// The type of a key behind the references to it.
-fn key_definition<'t>(plan: &Plan<'t, '_>, key_type: &'t Type<'t>) -> &'t Type<'t> {
-    let mut definition = key_type;
+// The range of the keys, behind the references to their type.
+fn key_range(plan: &Plan<'_, '_>, table: &Table<'_>) -> Range {
+    let mut range = range_of(table.key_type.constraints.as_slice());
+    let mut next = referred(&table.key_type);
     for _ in 0..plan.request.schema.types.len() {
-        match &definition.kind {
-            TypeKind::Reference(index) if definition.constraints.is_empty() => {
-                match plan.request.schema.types.get(*index) {
-                    Some(found) => definition = &found.definition,
-                    None => break,
-                }
-            }
-            _ => break,
-        }
+        let Some(index) = next else {
+            break;
+        };
+        let Some(found) = plan.request.schema.types.get(index) else {
+            break;
+        };
+        range = range_of(found.definition.constraints.as_slice());
+        next = referred(&found.definition);
     }
-    definition
+    range
+}
+
+// The definition that a type without constraints is a reference to.
+fn referred(definition: &Type<'_>) -> Option<usize> {
+    match &definition.kind {
+        TypeKind::Reference(index) if definition.constraints.is_empty() => Some(*index),
+        _ => None,
+    }
 }
 
 // The rows with their names and types.
