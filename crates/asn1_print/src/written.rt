@@ -15,8 +15,21 @@ pub(crate) fn in_one_line(alloc: Global, octets: &[u8]) -> Result<String, AllocE
     Ok(line)
 }
 
-/// The octets before the first comma, or the first bracket that closes another before them.
-pub(crate) fn first_part(octets: &[u8]) -> &[u8] {
+/// Appends the part of an object that begins at an offset: up to the first comma, or the end of the braces around it.
+pub(crate) fn push_part(
+    alloc: Global,
+    text: &mut String,
+    source: &[u8],
+    start: usize,
+    end: usize,
+) -> Result<(), AllocError> {
+    let behind = source.get(start..end).unwrap_or(&[]);
+    let part = in_one_line(alloc, first_part(behind))?;
+    text.push_str(part.as_str())
+}
+
+// The octets before the first comma, or the first bracket that closes another before them.
+fn first_part(octets: &[u8]) -> &[u8] {
     let mut depth = 0usize;
     for (index, octet) in octets.iter().enumerate() {
         match *octet {
