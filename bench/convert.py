@@ -6,12 +6,14 @@
 In a clone in a temporary folder `asn1_compile --program` prints the crate of examples/modules/ldap.asn1, which has to be the one that is
 here, and its program, both by `rt try`. The program reads the messages of all conversations of examples/ldap, one after another, but
 for those that are nested deeper than it reads, and writes them as JSON. Erlang's compiler makes JSON of each message too, and the two have to have the same members, as in bench/texts.py.
-Then the program writes the messages as DER, and of that BER to the packed codec and back, which have to be the same octets. At last it
-writes them in X.680's notation, and Erlang's compiler has to make a value of each text whose DER is that of the message.
+Then the program writes the messages as DER, and of that BER to the packed codec and back, from hexadecimal digits, which have to be the
+same octets. It writes them in X.680's notation, and Erlang's compiler has to make a value of each text whose DER is that of the message.
+At last it has to end with the right status after --check, --help and too few arguments.
 
 It needs erlc, escript and the library jiffy of Erlang. The status is 0 if all is as it has to be.
 """
 import pathlib
+import re
 import subprocess
 import sys
 import tempfile
@@ -48,11 +50,23 @@ der(N) ->
 """
 
 
-def tried(folder, words, octets=b""):
-    """What a program writes, by `rt try` in its folder."""
+def answered(folder, words, octets=b""):
+    """The status of a program and what it writes, by `rt try` in its folder."""
     ran = subprocess.run(["rt", "try", "--seconds", "600", "--", *words], cwd=folder, input=octets, capture_output=True)
-    output = ran.stdout
-    return output[:output.rindex(b"checked: ended")] if b"checked: ended" in output else output
+    output, status = ran.stdout, re.search(rb"checked: ended status=(\d+)", ran.stdout + ran.stderr)
+    return status and int(status[1]), output[:output.rindex(b"checked: ended")] if b"checked: ended" in output else output
+
+
+def tried(folder, words, octets=b""):
+    """What a program writes."""
+    return answered(folder, words, octets)[1]
+
+
+def with_another_status(program, message):
+    """The arguments with which the status is not as it has to be: --check of a message, of one that is cut off, too few, --help."""
+    asked = [(["--check", "LDAPMessage"], message, 0), (["--check", "LDAPMessage"], message[:-1], 1),
+             (["LDAPMessage", "ber"], message, 2), (["--help"], b"", 0)]
+    return [words for words, octets, status in asked if answered(program, words, octets)[0] != status]
 
 
 def printed(clone):
@@ -133,17 +147,20 @@ def main():
         ours = tried(program, ["LDAPMessage", "ber", "json"], octets).decode().splitlines()
         der = tried(program, ["LDAPMessage", "ber", "der"], octets)
         packed = tried(program, ["LDAPMessage", "ber", "packed"], octets)
-        again = tried(program, ["LDAPMessage", "packed", "der"], packed)
+        again = tried(program, ["--hex", "LDAPMessage", "packed", "der"], packed.hex(" ").encode())
         theirs = by_erlang(pathlib.Path(folder) / "erlang", octets)
         values = list(values_of(tried(program, ["LDAPMessage", "ber", "text"], octets)))
         der_again = der_of_values(pathlib.Path(folder) / "values", values)
+        wrong = with_another_status(program, next(messages_in(der)))
     faults = [(one, other) for one, other in zip(ours, theirs, strict=False) if not texts.same_members(texts.parsed(one), texts.parsed(other))]
     for one, other in faults:
         print(f"ours: {one}\ntheirs: {other}")
     same = len(ours) == len(theirs) == len(values) and der == again == der_again and len(der) > 0
     print(f"messages: {len(ours)} and {len(theirs)}, texts: {len(values)}, faults: {len(faults)}; the DER is "
           f"{'the same' if der == again else 'another'} behind the packed codec, and {'the same' if der == der_again else 'another'} by the texts")
-    return bool(faults) or not same
+    for words in wrong:
+        print(f"another status: {' '.join(words)}")
+    return bool(faults or wrong) or not same
 
 
 if __name__ == "__main__":

@@ -157,8 +157,9 @@ def picture():
         at = GAP + place * (WIDTH + SIDE_WIDTH) / len(ROADS)
         out += [f'<circle cx="{at + 9:.0f}" cy="{foot + 9:.0f}" r="8.5" fill="{colour}"/>', text(at + 24, foot + 14, name, 13, "start")]
     foot += 42
-    out += [text(GAP, foot, "A crate uses crates of its own row and of the rows below it; the tests and the measures use any, the compiler tags, fields and clash. asn1_ is left out of the names. "
-                 "The numbers are the steps of a road.", 12, "start", ' fill="#555"')]
+    note = ("A crate uses crates of its own row and of the rows below it; the tests and the measures use any, the compiler tags, "
+            "fields and clash. asn1_ is left out of the names. The numbers are the steps of a road.")
+    out += [text(GAP, foot, note, 12, "start", ' fill="#555"')]
     width, height = WIDTH + SIDE_WIDTH + 3 * GAP, foot + GAP
     head = (f'<svg xmlns="http://www.w3.org/2000/svg" viewBox="0 0 {width} {height:.0f}" font-family="sans-serif" fill="#20242a">'
             f'<rect width="{width}" height="{height:.0f}" fill="#fff"/>')

@@ -39,7 +39,7 @@ build_library() {
     rm -rf "../crates/$name/out"
     (cd "../crates/$name" && rt lib) > "$build/rt_lib" 2>&1 || { tail -20 "$build/rt_lib"; return 1; }
     cp "../crates/$name/out/lib$name.a" "$build/"
-    echo "rt lib of $name took $((SECONDS - start)) s, with the crates below as they were kept" >> "$build/times"
+    echo "rt lib of $name took $((SECONDS - start)) s, beside the proofs that this machine had kept" >> "$build/times"
 }
 
 # The certificates of the machine, as DER.
@@ -60,7 +60,7 @@ build_c() {
     for name in example damaged rows certificates texts; do
         gcc $c_warnings -O1 -g -Ic "c/$name.c" c/heap.c "$build/libfanughespu.a" -pthread -o "$build/$name.c.out" || return 1
     done
-    gcc $c_warnings -O1 -g -Ic c/no_memory.c "$build/libfanughespu.a" -o "$build/no_memory.c.out" || return 1
+    gcc $c_warnings -O1 -g -Ic c/no_memory.c c/no_heap.c "$build/libfanughespu.a" -o "$build/no_memory.c.out" || return 1
     echo '#include "fanughespu.h"' > "$build/header.cc"
     g++ -std=c++17 -Wall -Wextra -Werror -Ic -c "$build/header.cc" -o "$build/header.o"
 }
@@ -112,6 +112,7 @@ build_greetings() {
     for name in rows example; do
         gcc $c_warnings -O1 -g -Ic -I$printed "greetings/$name.c" c/heap.c "$build/libgreetings_c.a" -pthread -o "$build/greetings_$name.c.out" || return 1
     done
+    gcc $c_warnings -O1 -g -Ic -I$printed greetings/no_memory.c c/no_heap.c "$build/libgreetings_c.a" -o "$build/greetings_no_memory.c.out" || return 1
     echo '#include "greetings.h"' > "$build/greetings.cc"
     g++ -std=c++17 -Wall -Wextra -Werror -Ic -I$printed -c "$build/greetings.cc" -o "$build/greetings.o" || return 1
     rustc --edition 2024 -D warnings -A dead_code -L "$build" greetings/rows.rs -o "$build/greetings.rust.out" || return 1
@@ -131,6 +132,7 @@ greetings_c() {
     step "greetings" build_greetings
     step "greetings example" greetings_example
     tests "greetings in C" "$build/greetings_rows.c.out" greetings/rows.txt
+    tests "greetings without memory in C" "$build/greetings_no_memory.c.out"
     step "greetings under valgrind" valgrind -q --error-exitcode=9 --leak-check=full "$build/greetings_rows.c.out" greetings/rows.txt
     tests "greetings in Rust" "$build/greetings.rust.out"
     tests "greetings in Python" python3 "$build/test.py" greetings/rows.txt

@@ -11,17 +11,16 @@ int main(int count, char **words) {
     size_t length = fread(octets, 1, sizeof octets, file), size = 0, at = 0;
     fclose(file);
     uint32_t rule = 0;
-    if (fan_certificate_report(octets, length, NULL, 0, &size) == FAN_DEEP) {
-        puts("elements are nested more than 64 deep");
-        return 1;
-    }
+    int32_t status = fan_certificate_report(octets, length, NULL, 0, &size);
     uint8_t *text = malloc(size + 1);
-    if (text == NULL)
+    if (length == sizeof octets || text == NULL)
         return 2;
-    int32_t status = fan_certificate_report(octets, length, text, size, &size);
-    if (status == FAN_MEMORY)
-        return 2;
-    printf("%.*s\n", (int)size, (char *)text);
+    if (status == FAN_ROOM)
+        status = fan_certificate_report(octets, length, text, size, &size);
+    if (status == FAN_OK || status == FAN_FAULT)
+        printf("%.*s\n", (int)size, (char *)text);
+    else
+        printf("status %d of fan_calls.h\n", (int)status);
     free(text);
     if (fan_certificate_broken_rule(octets, length, &rule, &at) == FAN_FAULT)
         printf("rule %u of fanughespu.h is broken at byte %zu\n", rule, at);

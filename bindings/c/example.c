@@ -9,9 +9,12 @@ int main(int count, char **words) {
         fprintf(stderr, "usage: example FILE\n");
         return 2;
     }
-    size_t length = fread(octets, 1, sizeof octets, file);
+    size_t length = fread(octets, 1, sizeof octets, file), position = 0;
     fclose(file);
-    size_t position = 0;
+    if (length == sizeof octets) {
+        fprintf(stderr, "the file is too long\n");
+        return 2;
+    }
     switch (fan_der_check(octets, length, &position)) {
     case FAN_OK:
         printf("%zu octets of DER\n", length);

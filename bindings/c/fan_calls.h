@@ -12,7 +12,7 @@
  *
  * No memory is kept after a call, so there is nothing to free, and threads may call at once. A result goes into the memory of the
  * caller, from its front on, without a zero at its end, and its length into *size, also with FAN_ROOM. So a call with a length of 0
- * asks for the length. Positions are those of octets, from 0. Variables and memory that no status names are as before. */
+ * asks for the length. Positions are those of octets, from 0. With a status that has no result the memory for it is as before. */
 #ifndef FAN_CALLS_H
 #define FAN_CALLS_H
 

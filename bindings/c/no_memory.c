@@ -1,21 +1,6 @@
-/* Calls with a heap that has no memory answer FAN_MEMORY. */
+/* Calls with a heap that has no memory (no_heap.c) answer FAN_MEMORY. */
 #include "fanughespu.h"
 #include <stdio.h>
-
-struct block { uint64_t is_there; void *address; };
-static char nowhere;
-
-struct block rattle_alloc(size_t size, size_t alignment) {
-    (void)size, (void)alignment;
-    return (struct block){ 0, &nowhere };
-}
-
-struct block rattle_realloc(void *old, size_t used, size_t size, size_t alignment) {
-    (void)old, (void)used;
-    return rattle_alloc(size, alignment);
-}
-
-void rattle_dealloc(void *old) { (void)old; }
 
 int main(void) {
     const uint8_t number[40] = { 1 }, indefinite[] = { 0x30, 0x80, 5, 0, 0, 0 };

@@ -17,6 +17,7 @@ static void write_hexadecimal(const uint8_t *octets, size_t count, char *digits)
 }
 
 static int32_t answer_of(const char *call, const uint8_t *octets, size_t length, char *answer) {
+    static const char part[] = "certificate_part_";
     static uint8_t out[1 << 12];
     size_t size = 0;
     int32_t status = -1;
@@ -37,12 +38,16 @@ static int32_t answer_of(const char *call, const uint8_t *octets, size_t length,
         status = fan_ber_normal(octets, length, out, sizeof out, &size);
         if (status == FAN_OK)
             write_hexadecimal(out, size, answer);
-    }
-    if (strcmp(call, "certificate_broken_rule") == 0) {
+    } else if (strcmp(call, "certificate_broken_rule") == 0) {
         uint32_t rule = 0;
         status = fan_certificate_broken_rule(octets, length, &rule, &size);
         if (status == FAN_FAULT)
             sprintf(answer, "%u %zu", rule, size);
+    } else if (strncmp(call, part, strlen(part)) == 0) {
+        size_t position = 0;
+        status = fan_certificate_part(octets, length, (uint32_t)atoi(call + strlen(part)), &position, &size);
+        if (status == FAN_OK)
+            sprintf(answer, "%zu %zu", position, size);
     }
     return status;
 }
@@ -60,11 +65,12 @@ int main(int count, char **words) {
         if (call == NULL || digits == NULL || status == NULL || wanted == NULL)
             return 2;
         answer[0] = 0;
-        size_t length = octets_of(digits[0] == '-' ? "" : digits, octets);
-        int32_t told = answer_of(call, octets, length, answer);
+        size_t length = octets_of(digits, octets);
+        int32_t told = answer_of(call, length ? octets : NULL, length, answer);
         int passes = told == atoi(status) && strcmp(answer, wanted[0] == '-' && wanted[1] == 0 ? "" : wanted) == 0;
         printf("%s C row %d %s: %d %s\n", passes ? "ok" : "FAILED", number, call, told, passes ? "" : answer);
     }
     fclose(rows);
+    printf("%s C version\n", fan_version() == FAN_VERSION ? "ok" : "FAILED");
     return 0;
 }

@@ -9,6 +9,8 @@ int main(int count, char **words) {
         return 2;
     size_t length = fread(octets, 1, sizeof octets, file), at = 0, size = 0;
     fclose(file);
+    if (length == sizeof octets)
+        return 2;
     int32_t status = greetings_greeting_check(octets, length, &at, text, sizeof text, &size);
     if (status == FAN_FAULT)
         printf("octet %zu: %.*s\n", at, (int)size, (char *)text);

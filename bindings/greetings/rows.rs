@@ -7,6 +7,7 @@ mod heap;
 use greetings::Error;
 
 fn octets_of(digits: &str) -> Vec<u8> {
+    let digits = if digits == "-" { "" } else { digits };
     (0..digits.len()).step_by(2).map(|at| u8::from_str_radix(&digits[at..at + 2], 16).unwrap()).collect()
 }
 
@@ -46,6 +47,7 @@ fn main() {
             Ok(answer) => ("0", answer),
             Err(Error::Fault(position, cause)) if !cause.is_empty() => ("1", position.to_string()),
             Err(Error::Malformed) => ("1", "-".to_string()),
+            Err(Error::Deep) => ("4", "-".to_string()),
             Err(error) => ("2", error.to_string()),
         };
         let passes = (told.0, told.1.as_str()) == (parts[2], parts[3]);

@@ -11,6 +11,8 @@ def answer_of(call, octets):
         answer = getattr(greetings, call)(octets)
     except greetings.Fault as fault:
         return "1", str(fault.position) if call.endswith("_check") and fault.cause else "-"
+    except greetings.Deep:
+        return "4", "-"
     if answer is None:
         return "0", "-"
     return "0", answer.hex().upper() if isinstance(answer, bytes) else answer.removesuffix("\n")
@@ -19,5 +21,5 @@ def answer_of(call, octets):
 for number, row in enumerate(Path(sys.argv[1]).read_text().splitlines(), 1):
     if not row.startswith("#"):
         call, octets, status, answer, _source = row.split("|")
-        told = answer_of(call, bytes.fromhex(octets))
+        told = answer_of(call, b"" if octets == "-" else bytes.fromhex(octets))
         print("ok" if told == (status, answer) else f"FAILED {told}", "greetings in Python row", number, call)

@@ -23,8 +23,16 @@ CALLS = {
 }
 
 
+def part_text(number, octets):
+    """The number of a part is handed on as it is."""
+    part = fan.certificate_part(octets, number)
+    return f"{octets.index(part)} {len(part)}"
+
+
 def answer_of(call, octets):
     try:
+        if call.startswith("certificate_part_"):
+            return "0", part_text(int(call.removeprefix("certificate_part_")), octets)
         if call == "certificate_broken_rule":
             broken = fan.certificate_broken_rule(octets)
             return ("0", "") if broken is None else ("1", f"{broken.rule} {broken.position}")

@@ -64,7 +64,7 @@ pub fn certificate_report(octets: &[u8]) -> Result<String, ReportError> {
 /// A rule of DER that the octets of a certificate break, if they break one. Octets that are no certificate may break none.
 ///
 /// # Errors
-/// [`Error::Deep`] if octets lie inside more than 64 elements which hold others, and no rule is broken before them.
+/// [`Error::Deep`] if octets lie inside more than 64 elements which hold others, into which it does not look.
 pub fn certificate_broken_rule(octets: &[u8]) -> Result<Option<BrokenRule>, Error> {
     let (mut rule, mut position) = (0, 0);
     // SAFETY: a slice is memory of its length, and the variables belong to this function.

@@ -1,8 +1,10 @@
 //! What ../rows.txt says, by the functions of this crate.
 use fanughespu::{
-    Error, ReportError, ber_normal, certificate_broken_rule, certificate_report, der_check, der_element, integer_text, ldap_lines,
-    version,
+    Error, Part, ReportError, ber_normal, certificate_broken_rule, certificate_part, certificate_report, der_check, der_element,
+    integer_text, ldap_lines, version,
 };
+
+const PARTS: [Part; 6] = [Part::Signed, Part::SerialNumber, Part::Issuer, Part::Subject, Part::Key, Part::Signature];
 
 fn octets_of(digits: &str) -> Vec<u8> {
     let digits = if digits == "-" { "" } else { digits };
@@ -37,10 +39,22 @@ fn broken_rule(octets: &[u8]) -> (String, String) {
     }
 }
 
+/// The part of this number; there is no value for another.
+fn certificate_part_text(number: &str, octets: &[u8]) -> (String, String) {
+    let part = PARTS.get(number.parse::<usize>().unwrap()).and_then(|part| certificate_part(octets, *part));
+    match part {
+        Some(element) => ("0".to_string(), format!("{} {}", element.as_ptr() as usize - octets.as_ptr() as usize, element.len())),
+        None => ("1".to_string(), String::new()),
+    }
+}
+
 fn assert_row(row: &str) {
     let parts: Vec<&str> = row.split('|').collect();
     let wanted = if parts[3] == "-" { "" } else { parts[3] };
     let octets = octets_of(parts[1]);
+    if let Some(number) = parts[0].strip_prefix("certificate_part_") {
+        return assert_eq!(certificate_part_text(number, &octets), (parts[2].to_string(), wanted.to_string()), "{row}");
+    }
     if parts[0] == "certificate_broken_rule" {
         return assert_eq!(broken_rule(&octets), (parts[2].to_string(), wanted.to_string()), "{row}");
     }
