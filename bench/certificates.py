@@ -13,7 +13,8 @@ examples/certificates.
 Then it prints a line for each certificate, read and written: how many go in a second, how many by each form of plain Rust, and the
 ratios of the times; and the instructions for one, if valgrind is there. The time is that of the processor, the best of seven, less what
 it takes to start. Two lines are of all four together. The last ones have the instructions of canonical reading beside those of reading
-and of writing. bench/peers.py measures the program beside libraries.
+and of writing, and how often reading allocates, beside how many strings, object identifiers, numbers beyond 128 bits, lists and open types
+the certificate has. bench/peers.py measures the program beside libraries.
 """
 import glob
 import os
@@ -21,10 +22,13 @@ import shutil
 import sys
 import tempfile
 
-from measure import ROOT, answer, instructions, plain_rust, proved, seconds
+from measure import ROOT, allocations, answer, instructions, plain_rust, proved, seconds
+from spellings import parse
 
 CERTIFICATES = sorted(glob.glob(os.path.join(ROOT, "examples", "certificates", "*.der")))
 RUNS = 7
+# Identifier octets.
+BOOLEAN, INTEGER, OBJECT_IDENTIFIER, SET, EXTENSIONS = b"\x01", b"\x02", b"\x06", b"\x31", b"\xa3"
 # The two forms of plain Rust, each with the name of its program and the arguments of `rustc`.
 FORMS = {"plain Rust, the same values": ("same_values", ["--cfg", "bools"]), "plain Rust, bits in bytes": ("bits_in_bytes", [])}
 
@@ -51,10 +55,29 @@ def microseconds(programs, action, path):
     return [least[program] for program in programs]
 
 
-def steps(program, action, path):
-    """How many instructions one time costs."""
-    most, none = (instructions([program, *arguments(action, times)], path) for times in (100, 0))
+def steps(program, action, path, count=instructions):
+    """How many instructions one time costs, or allocations."""
+    most, none = (count([program, *arguments(action, times)], path) for times in (100, 0))
     return (most - none) / 100
+
+
+def parts(octets):
+    """How many strings, object identifiers, wide numbers, lists and open types elements of a certificate have."""
+    elements = parse(octets)
+    if elements[:1] and elements[0][0] == OBJECT_IDENTIFIER:
+        # What comes behind an object identifier is an open type, or the BOOLEAN and the OCTET STRING of an extension.
+        return sum(identifier != BOOLEAN for identifier, _ in elements)
+    lists = bool(elements) and elements[0][0] == SET
+    return lists + sum(parts_of(identifier, contents) for identifier, contents in elements)
+
+
+def parts_of(identifier, contents):
+    """The same of an element."""
+    if identifier == INTEGER:
+        return len(contents) > 16
+    if identifier[0] & 0x20:
+        return (identifier in (SET, EXTENSIONS)) + parts(contents)
+    return 1
 
 
 def line(what, costs, counts, certificates):
@@ -80,6 +103,14 @@ def count_canonical(program):
         print(f"{os.path.basename(path)}: {text} instructions, {ratio:.2f} times those of reading", flush=True)
 
 
+def count_allocations(program):
+    """Prints how often reading each certificate allocates, beside how many parts it has that need an allocation."""
+    for path in CERTIFICATES:
+        with open(path, "rb") as source:
+            wanted = parts(source.read())
+        print(f"{os.path.basename(path)}: read with {steps(program, 'read', path, allocations):.0f} allocations, has {wanted} parts", flush=True)
+
+
 def main():
     ours = os.path.abspath(sys.argv[1]) if len(sys.argv) > 1 else proved("measure_certificates")
     with tempfile.TemporaryDirectory() as folder:
@@ -99,6 +130,7 @@ def main():
             line(f"all, {action}", all_costs, all_counts, len(CERTIFICATES))
         if shutil.which("valgrind"):
             count_canonical(ours)
+            count_allocations(ours)
 
 
 main()

@@ -1,5 +1,6 @@
 """What the scripts that measure share: programs that are built, their instructions, their processor time, and rows of tables."""
 import os
+import re
 import resource
 import subprocess
 import tempfile
@@ -42,6 +43,13 @@ def instructions(words, path=os.devnull):
     with tempfile.NamedTemporaryFile() as log:
         answer(["valgrind", "--tool=callgrind", f"--callgrind-out-file={log.name}", *words], path)
         return next(int(line.split()[1]) for line in log if line.startswith(b"totals:"))
+
+
+def allocations(words, path=os.devnull):
+    """How often a program allocates for a file."""
+    with open(path, "rb") as source:
+        run = subprocess.run(["valgrind", *words], stdin=source, capture_output=True, check=True)
+    return int(re.search(rb"total heap usage: ([\d,]+) allocs", run.stderr)[1].replace(b",", b""))
 
 
 def seconds(words, path=os.devnull):
