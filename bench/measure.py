@@ -41,8 +41,8 @@ def answer(words, path=os.devnull):
 def instructions(words, path=os.devnull):
     """How many instructions a program takes for a file."""
     with tempfile.NamedTemporaryFile() as log:
-        answer(["valgrind", "--tool=callgrind", f"--callgrind-out-file={log.name}", *words], path)
-        return next(int(line.split()[1]) for line in log if line.startswith(b"totals:"))
+        answer(["valgrind", "--tool=cachegrind", "--cache-sim=no", f"--cachegrind-out-file={log.name}", *words], path)
+        return next(int(line.split()[1]) for line in log if line.startswith(b"summary:"))
 
 
 def allocations(words, path=os.devnull):
