@@ -108,7 +108,8 @@ def count_allocations(program):
     for path in CERTIFICATES:
         with open(path, "rb") as source:
             wanted = parts(source.read())
-        print(f"{os.path.basename(path)}: read with {steps(program, 'read', path, allocations):.0f} allocations, has {wanted} parts", flush=True)
+        count = steps(program, "read", path, allocations)
+        print(f"{os.path.basename(path)}: read with {count:.0f} allocations, has {wanted} parts", flush=True)
 
 
 def main():

@@ -83,8 +83,8 @@ def cost(folder, calls, size):
 
 
 def main():
-    if len(sys.argv) > 2 or {"-h", "--help"} & set(sys.argv):
-        sys.exit(__doc__.strip())
+    if {"-h", "--help"} & set(sys.argv):
+        return print(__doc__.strip())
     with tempfile.TemporaryDirectory() as place:
         folder = pathlib.Path(place)
         measure.link_ours(folder, ["measure_codecs", "test_vectors", "asn1_compile"], sys.argv[1:])

@@ -13,6 +13,7 @@ A star stands where a library writes other octets than ours. It needs valgrind, 
 librust-asn1-dev, librust-asn1-derive-dev, librust-bcder-dev, libmbedtls-dev, libssl-dev, libldap-dev and asn1c. Without its packages a
 library has no column, and a line says which are not installed.
 """
+import collections
 import functools
 import os
 import pathlib
@@ -92,7 +93,9 @@ COLUMNS = {
     "plain Rust": {"certificate": "plain_certificates READS WRITES", **codecs("plain_codecs", der="der", ber="der", packed="packed")},
     "`asn1`, borrowed": peer("asn1", ["certificate", "persons-der", "node-der"]),
     "`asn1`, owned": peer("asn1", ["certificate", "persons-der", "node-der"], "-owned"),
-    "`bcder`": peer("bcder", ["certificate", "persons-der", "persons-ber", "badges-der", "badges-ber", "node-der", "node-ber", "entry-ber"]),
+    "`bcder`": peer(
+        "bcder", ["certificate", "persons-der", "persons-ber", "badges-der", "badges-ber", "node-der", "node-ber", "entry-ber"]
+    ),
     "mbedTLS": peer("mbedtls", ["certificate"]),
     "OpenSSL": peer("openssl", ["certificate"], "-x509"),
     "OpenSSL, templates": peer("openssl", ["certificate"], "-template"),
@@ -150,16 +153,20 @@ def entry(attributes):
     return scope(16, integer(2), scope(4, name, scope(16, *map(attribute, range(attributes))), tag_class=1))
 
 
+# A row: the kind of values, their octets, how many they are, and how often they are read or written.
+Row = collections.namedtuple("Row", "title kind octets count times")
+
+
 def rows():
-    """The rows: a title, the kind of values, their octets, how many they are, and how often they are read or written."""
+    """The rows of the table."""
     for path in sorted(ROOT.glob("examples/certificates/*.der")):
-        yield f"certificate `{path.stem}`", "certificate", path.read_bytes(), 1, 10
+        yield Row(f"certificate `{path.stem}`", "certificate", path.read_bytes(), 1, 10)
     persons, badges = (scope(16, *map(value, range(1000))) for value in (person, badge))
     values = {"`Person`": ("persons", persons, 1000), "`Badge`": ("badges", badges, 1000), "chain of `Node`": ("node", node(200), 200)}
     for title, (kind, octets, count) in values.items():
         for codec in "DER", "BER", "packed":
-            yield f"{title}, {codec}", f"{kind}-{codec.lower()}", octets, count, 1
-    yield "entry of LDAP, BER", "entry-ber", entry(20), 1, 10
+            yield Row(f"{title}, {codec}", f"{kind}-{codec.lower()}", octets, count, 1)
+    yield Row("entry of LDAP, BER", "entry-ber", entry(20), 1, 10)
 
 
 def is_installed(package):
@@ -222,10 +229,10 @@ def instructions(words, path):
     return measure.instructions(words, path)
 
 
-def cost(folder, call, action, path, count, times):
-    """The instructions for each of these values."""
-    most, none = (instructions(words_of(folder, call, action, number), path) for number in (times, 0))
-    return (most - none) / times / count
+def cost(folder, call, action, path, row):
+    """The instructions for each of the values."""
+    most, none = (instructions(words_of(folder, call, action, times), path) for times in (row.times, 0))
+    return (most - none) / row.times / row.count
 
 
 def said(folder, call, path):
@@ -239,25 +246,29 @@ def said(folder, call, path):
     return text if "checksum" in text else None
 
 
-def cells(folder, columns, action, path, row):
-    """The texts of a line of the table."""
-    _, kind, _, count, times = row
-    calls = {title: calls[kind] for title, calls in columns.items() if kind in calls}
+def cells(folder, columns, row, path, action):
+    """The texts of a row for an action, one for each column."""
+    calls = {title: calls[row.kind] for title, calls in columns.items() if row.kind in calls}
     answers = {title: said(folder, call, path) for title, call in calls.items()}
-    done = [title for title, answer in answers.items() if answer and not (action == "write" and answer == NOTHING_WRITTEN)]
-    costs = {title: cost(folder, calls[title], action, path, count, times) for title in done}
-    for title in columns:
-        if title not in costs:
-            yield "refused" if title in answers and not answers[title] else "no program" if title == OURS else ""
-            continue
+    able = [title for title, answer in answers.items() if answer and (action == "read" or answer != NOTHING_WRITTEN)]
+    costs = {title: cost(folder, calls[title], action, path, row) for title in able}
+    return [cell(title, answers, costs) for title in columns]
+
+
+def cell(title, answers, costs):
+    """The text of a column."""
+    if title in costs:
         ratio = f" ({costs[OURS] / costs[title]:.2f})" if OURS in costs and title != OURS else ""
-        star = "\\*" if answers[title] not in (answers.get(OURS, answers[title]), NOTHING_WRITTEN) else ""
-        yield f"{costs[title]:,.0f}{ratio}{star}"
+        star = "\\*" if OURS in answers and answers[title] not in (answers[OURS], NOTHING_WRITTEN) else ""
+        return f"{costs[title]:,.0f}{ratio}{star}"
+    if title in answers and not answers[title]:
+        return "refused"
+    return "no program" if title == OURS else ""
 
 
 def main():
-    if len(sys.argv) > 2 or {"-h", "--help"} & set(sys.argv):
-        sys.exit(__doc__.strip())
+    if {"-h", "--help"} & set(sys.argv):
+        return print(__doc__.strip())
     with tempfile.TemporaryDirectory() as place:
         folder = pathlib.Path(place)
         measure.link_ours(folder, ["measure_codecs", "measure_certificates"], sys.argv[1:])
@@ -268,10 +279,10 @@ def main():
         measure.print_row(["---"] * (2 + len(columns)))
         for row in rows():
             path = folder / "octets"
-            path.write_bytes(row[2])
+            path.write_bytes(row.octets)
             instructions.cache_clear()
             for action, done in ("read", "read"), ("write", "written"):
-                measure.print_row([row[0], done, *cells(folder, columns, action, path, row)])
+                measure.print_row([row.title, done, *cells(folder, columns, row, path, action)])
 
 
 if __name__ == "__main__":

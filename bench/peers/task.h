@@ -1,6 +1,5 @@
-/* What the programs over libraries of C share: `PROGRAM TYPE READS WRITES` reads the value on standard input so many times, and writes it so
-   many times. Then it prints how many bytes writing makes, and their checksum, as measure_codecs and measure_certificates do. A program
-   defines these: */
+/* What the programs over libraries of C share: `PROGRAM TYPE READS WRITES` reads the value on standard input so many times, and writes it
+   so many times. Then it prints how many bytes writing makes, and their checksum, as measure_codecs and measure_certificates do. */
 #include <stdint.h>
 #include <stdio.h>
 #include <stdlib.h>
@@ -11,6 +10,8 @@ struct octets {
     size_t size;
 };
 
+/* A program defines the functions from here on. */
+
 /* Whether the type of this name can be read. */
 static int is_known(const char *type_name);
 /* The value of the octets, or NULL. */
@@ -19,6 +20,8 @@ static void drop_value(void *value);
 /* The octets of a value, or none. */
 static struct octets write_value(void *value);
 static void drop_octets(unsigned char *bytes);
+
+/* They are called by these. */
 
 static void *read_or_exit(struct octets input)
 {
