@@ -8,24 +8,18 @@ all is appended. It prints the seconds of processor time for each, the best of f
 they compare with those of one piece.
 """
 import os
-import resource
 import subprocess
 
-ROOT = os.path.dirname(os.path.dirname(os.path.abspath(__file__)))
-CRATE = os.path.join(ROOT, "crates", "measure_codecs")
+import measure
+
+CRATE = os.path.join(measure.ROOT, "crates", "measure_codecs")
 PROGRAM = os.path.join(CRATE, "out", "measure_codecs")
 TOTAL = 100 * 10**6
 
 
 def seconds(size, when="early"):
     """The least processor time in seconds of five runs with pieces of this size; 0 appends nothing."""
-    least = float("inf")
-    for _ in range(5):
-        before = resource.getrusage(resource.RUSAGE_CHILDREN)
-        subprocess.run([PROGRAM, "append", str(TOTAL), str(size), when], stdout=subprocess.DEVNULL, check=True)
-        after = resource.getrusage(resource.RUSAGE_CHILDREN)
-        least = min(least, after.ru_utime + after.ru_stime - before.ru_utime - before.ru_stime)
-    return least
+    return min(measure.seconds([PROGRAM, "append", str(TOTAL), str(size), when]) for _ in range(5))
 
 
 def main():

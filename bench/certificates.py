@@ -13,116 +13,24 @@ examples/certificates.
 Then it prints a line for each certificate, read and written: how many go in a second, how many by each form of plain Rust, and the
 ratios of the times; and the instructions for one, if valgrind is there. The time is that of the processor, the best of seven, less what
 it takes to start. Two lines are of all four together. The last ones have the instructions of canonical reading beside those of reading
-and of writing, and those of reading by `d2i_X509` of OpenSSL and by mbedTLS's parser (bench/c_certificates.c), where Debian's
-libssl-dev and libmbedtls-dev are there. Where Debian's librust-x509-cert-dev is there (it stands on
-librust-der-dev), its rate and the ratio to it are a last part of each line, and else a line says that it could not be built.
+and of writing, and how often reading allocates, beside how many strings, object identifiers, numbers beyond 128 bits, lists and open types
+the certificate has. bench/peers.py measures the program beside libraries.
 """
 import glob
 import os
-import resource
 import shutil
-import subprocess
 import sys
 import tempfile
 
-ROOT = os.path.dirname(os.path.dirname(os.path.abspath(__file__)))
-CRATE = os.path.join(ROOT, "crates", "measure_certificates")
-PROGRAM = os.path.join(CRATE, "out", "measure_certificates")
-PLAIN = os.path.join(ROOT, "bench", "plain_certificates.rs")
-LIBRARY = os.path.join(ROOT, "bench", "library_certificates.rs")
-C_PROGRAM = os.path.join(ROOT, "bench", "c_certificates.c")
-# The libraries of C, each with the arguments of `gcc`.
-C_LIBRARIES = {"d2i_X509": ["-lcrypto"], "mbedTLS": ["-DMBEDTLS", "-lmbedx509", "-lmbedcrypto"]}
-REGISTRY = "/usr/share/cargo/registry"
+from measure import ROOT, allocations, answer, instructions, plain_rust, proved, seconds
+from spellings import parse
+
 CERTIFICATES = sorted(glob.glob(os.path.join(ROOT, "examples", "certificates", "*.der")))
 RUNS = 7
-# The processor for which `rt` builds.
-PROCESSOR = "x86-64-v2"
+# Identifier octets.
+BOOLEAN, INTEGER, OBJECT_IDENTIFIER, SET, EXTENSIONS = b"\x01", b"\x02", b"\x06", b"\x31", b"\xa3"
 # The two forms of plain Rust, each with the name of its program and the arguments of `rustc`.
 FORMS = {"plain Rust, the same values": ("same_values", ["--cfg", "bools"]), "plain Rust, bits in bytes": ("bits_in_bytes", [])}
-
-MANIFEST = """[package]
-name = "library_certificates"
-version = "0.0.0"
-edition = "2021"
-
-[dependencies]
-x509-cert = "*"
-
-[[bin]]
-name = "library_certificates"
-path = "{source}"
-"""
-
-CONFIG = """[source.crates-io]
-replace-with = "debian"
-
-[source.debian]
-directory = "{registry}"
-"""
-
-
-def build_program():
-    """Proves and builds the program, and gives its path."""
-    with open(CERTIFICATES[0], "rb") as source:
-        subprocess.run(["rt", "run"], cwd=CRATE, stdin=source, check=True)
-    return PROGRAM
-
-
-def build_plain(folder, name, arguments):
-    """Builds a form of the program in plain Rust, and gives its path."""
-    plain = os.path.join(folder, name)
-    subprocess.run(["rustc", "-O", "-C", f"target-cpu={PROCESSOR}", "--edition", "2024", *arguments, PLAIN, "-o", plain], check=True)
-    return plain
-
-
-def build_library(folder):
-    """Builds the program over Debian's library, and gives its path, or None where that cannot be."""
-    if not glob.glob(os.path.join(REGISTRY, "x509-cert-*")):
-        print(f"librust-x509-cert-dev could not be built: {REGISTRY} does not have it", flush=True)
-        return None
-    os.makedirs(os.path.join(folder, ".cargo"))
-    for name, text in ("Cargo.toml", MANIFEST.format(source=LIBRARY)), (".cargo/config.toml", CONFIG.format(registry=REGISTRY)):
-        with open(os.path.join(folder, name), "w") as file:
-            file.write(text)
-    words = ["cargo", "build", "--release", "--offline", "--quiet"]
-    flags = {**os.environ, "RUSTFLAGS": f"-C target-cpu={PROCESSOR}"}
-    built = subprocess.run(words, cwd=folder, env=flags, capture_output=True, text=True)
-    if built.returncode != 0:
-        print("librust-x509-cert-dev could not be built:", *built.stderr.strip().splitlines()[-1:], flush=True)
-        return None
-    return os.path.join(folder, "target", "release", "library_certificates")
-
-
-def build_c(folder, name, arguments):
-    """Builds the program over a library of C, and gives its path, or None where that cannot be."""
-    program = os.path.join(folder, name)
-    built = subprocess.run(["gcc", "-O2", C_PROGRAM, "-o", program, *arguments], capture_output=True, text=True)
-    if built.returncode != 0:
-        print(f"{name} could not be built:", *built.stderr.strip().splitlines()[-1:], flush=True)
-        return None
-    return program
-
-
-def answer(words, path):
-    """What a program writes of a certificate."""
-    with open(path, "rb") as source:
-        return subprocess.run(words, stdin=source, capture_output=True, check=True).stdout.decode()
-
-
-def seconds(words, path):
-    """The processor time in seconds that a program takes."""
-    before = resource.getrusage(resource.RUSAGE_CHILDREN)
-    answer(words, path)
-    after = resource.getrusage(resource.RUSAGE_CHILDREN)
-    return after.ru_utime + after.ru_stime - before.ru_utime - before.ru_stime
-
-
-def instructions(words, path):
-    """How many instructions a program takes."""
-    with tempfile.NamedTemporaryFile() as log:
-        answer(["valgrind", "--tool=callgrind", f"--callgrind-out-file={log.name}", *words], path)
-        return next(int(text.split()[1]) for text in log if text.startswith(b"totals:"))
 
 
 def arguments(action, times):
@@ -147,23 +55,41 @@ def microseconds(programs, action, path):
     return [least[program] for program in programs]
 
 
-def steps(program, action, path):
-    """How many instructions one time costs."""
-    most, none = (instructions([program, *arguments(action, times)], path) for times in (100, 0))
+def steps(program, action, path, count=instructions):
+    """How many instructions one time costs, or allocations."""
+    most, none = (count([program, *arguments(action, times)], path) for times in (100, 0))
     return (most - none) / 100
 
 
+def parts(octets):
+    """How many strings, object identifiers, wide numbers, lists and open types elements of a certificate have."""
+    elements = parse(octets)
+    if elements[:1] and elements[0][0] == OBJECT_IDENTIFIER:
+        # What comes behind an object identifier is an open type, or the BOOLEAN and the OCTET STRING of an extension.
+        return sum(identifier != BOOLEAN for identifier, _ in elements)
+    lists = bool(elements) and elements[0][0] == SET
+    return lists + sum(parts_of(identifier, contents) for identifier, contents in elements)
+
+
+def parts_of(identifier, contents):
+    """The same of an element."""
+    if identifier == INTEGER:
+        return len(contents) > 16
+    if identifier[0] & 0x20:
+        return (identifier in (SET, EXTENSIONS)) + parts(contents)
+    return 1
+
+
 def line(what, costs, counts, certificates):
-    """Prints what was measured of these programs: of ours, of each form of plain Rust, and of the library if it is there."""
-    names = [*FORMS, "librust-x509-cert-dev"]
+    """Prints what was measured of these programs: of ours, and of each form of plain Rust."""
     ours, *others = costs
     text = f"{what}: {certificates * 10**6 / ours:.0f} a second"
-    for name, cost in zip(names, others):
+    for name, cost in zip(FORMS, others):
         text += f"; {name}: {certificates * 10**6 / cost:.0f}, ratio {ours / cost:.2f}"
     if counts:
         ours, *others = counts
         text += f"; {ours / certificates:.0f} instructions for one"
-        for name, count in zip(names, others):
+        for name, count in zip(FORMS, others):
             text += f"; of {name}: {count / certificates:.0f}, ratio {ours / count:.2f}"
     print(text, flush=True)
 
@@ -177,48 +103,35 @@ def count_canonical(program):
         print(f"{os.path.basename(path)}: {text} instructions, {ratio:.2f} times those of reading", flush=True)
 
 
-def c_steps(program, own, path):
-    """How many instructions one reading costs a program over a library of C, and the ratio of ours to it."""
-    try:
-        most, none = (instructions([program, str(times)], path) for times in (100, 0))
-    except subprocess.CalledProcessError:
-        return "refuses it"
-    return f"{(most - none) / 100:.0f}, ratio {own * 100 / (most - none):.2f}"
-
-
-def count_c(folder, ours):
-    """Prints the instructions of reading each certificate by the libraries of C, beside ours."""
-    programs = {name: build_c(folder, name, arguments) for name, arguments in C_LIBRARIES.items()}
+def count_allocations(program):
+    """Prints how often reading each certificate allocates, beside how many parts it has that need an allocation."""
     for path in CERTIFICATES:
-        own = steps(ours, "read", path)
-        text = f"read {own:.0f} instructions"
-        for name, program in programs.items():
-            if program:
-                text += f"; {name}: {c_steps(program, own, path)}"
-        print(f"{os.path.basename(path)}: {text}", flush=True)
+        with open(path, "rb") as source:
+            wanted = parts(source.read())
+        count = steps(program, "read", path, allocations)
+        print(f"{os.path.basename(path)}: read with {count:.0f} allocations, has {wanted} parts", flush=True)
 
 
 def main():
-    ours = os.path.abspath(sys.argv[1]) if len(sys.argv) > 1 else build_program()
+    ours = os.path.abspath(sys.argv[1]) if len(sys.argv) > 1 else proved("measure_certificates")
     with tempfile.TemporaryDirectory() as folder:
-        counted = [ours, *(build_plain(folder, *form) for form in FORMS.values())]
-        programs = [*counted, *filter(None, [build_library(folder)])]
+        programs = [ours, *(plain_rust(folder, "plain_certificates", *form) for form in FORMS.values())]
         for path in CERTIFICATES:
             said = {program: answer([program, "1", "1"], path) for program in programs}
             if len(set(said.values())) != 1:
                 sys.exit(f"{path}: {said}")
         for action in "read", "written":
-            all_costs, all_counts = [0] * len(programs), [0] * len(counted)
+            all_costs, all_counts = [0] * len(programs), [0] * len(programs)
             for path in CERTIFICATES:
                 costs = microseconds(programs, action, path)
-                counts = [steps(program, action, path) for program in counted] if shutil.which("valgrind") else []
+                counts = [steps(program, action, path) for program in programs] if shutil.which("valgrind") else []
                 line(f"{os.path.basename(path)}, {action}", costs, counts, 1)
                 all_costs = [total + cost for total, cost in zip(all_costs, costs)]
                 all_counts = [total + count for total, count in zip(all_counts, counts)]
             line(f"all, {action}", all_costs, all_counts, len(CERTIFICATES))
         if shutil.which("valgrind"):
             count_canonical(ours)
-            count_c(folder, ours)
+            count_allocations(ours)
 
 
 main()

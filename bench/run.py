@@ -39,7 +39,9 @@ import sys
 import tempfile
 import time
 
-ROOT = os.path.dirname(os.path.dirname(os.path.abspath(__file__)))
+import measure
+from measure import ROOT
+
 CRATE = os.path.join(ROOT, "crates", "asn1_check")
 PROGRAM = os.path.join(CRATE, "out", "asn1_check")
 SPEED = os.path.join(ROOT, "crates", "measure_codecs")
@@ -116,59 +118,20 @@ def build(crate):
         subprocess.run(["rt", "run"], cwd=crate, stdin=subprocess.DEVNULL, check=True)
 
 
-def build_plain(folder, name):
-    """Builds a program in plain Rust, and gives its path."""
-    plain = os.path.join(folder, name)
-    source = os.path.join(ROOT, "bench", name + ".rs")
-    subprocess.run(["rustc", "-O", "--edition", "2024", source, "-o", plain], check=True)
-    return plain
-
-
-def processor_seconds(program, path):
+def least_seconds(words, path=os.devnull):
     """The least processor time in seconds that a program takes for a file in five runs."""
-    least = float("inf")
-    for _ in range(5):
-        before = resource.getrusage(resource.RUSAGE_CHILDREN)
-        with open(path, "rb") as source:
-            subprocess.run([program], stdin=source, stdout=subprocess.DEVNULL)
-        after = resource.getrusage(resource.RUSAGE_CHILDREN)
-        least = min(least, after.ru_utime + after.ru_stime - before.ru_utime - before.ru_stime)
-    return least
+    return min(measure.seconds(words, path) for _ in range(5))
 
 
 def compare_with_plain():
     """Prints the processor time of asn1_check and of bench/plain.rs for 20 MB of each kind."""
     with tempfile.TemporaryDirectory() as folder:
-        plain = build_plain(folder, "plain")
+        plain = measure.plain_rust(folder, "plain")
         for kind, line in KINDS.items():
             with tempfile.NamedTemporaryFile() as source:
                 write_lines(source, line, 20)
-                ours, theirs = (processor_seconds(program, source.name) for program in (PROGRAM, plain))
+                ours, theirs = (least_seconds([program], source.name) for program in (PROGRAM, plain))
             print(f"{kind}: {ours:.3f} s, plain Rust {theirs:.3f} s, ratio {ours / theirs:.2f}")
-
-
-def answer(words, **options):
-    """What a program writes to standard output."""
-    return subprocess.run(words, stdin=subprocess.DEVNULL, stdout=subprocess.PIPE, **options).stdout.decode()
-
-
-def seconds_of(words, folder):
-    """The least processor time in seconds that a program takes in five runs."""
-    least = float("inf")
-    for _ in range(5):
-        before = resource.getrusage(resource.RUSAGE_CHILDREN)
-        answer(words)
-        after = resource.getrusage(resource.RUSAGE_CHILDREN)
-        least = min(least, after.ru_utime + after.ru_stime - before.ru_utime - before.ru_stime)
-    return least
-
-
-def instructions_of(words, folder):
-    """How many instructions a program takes."""
-    log = os.path.join(folder, "callgrind")
-    answer(["valgrind", "--tool=callgrind", f"--callgrind-out-file={log}", *words], stderr=subprocess.DEVNULL)
-    with open(log) as lines:
-        return next(int(line.split()[1]) for line in lines if line.startswith("totals:"))
 
 
 def memory_of(words):
@@ -181,9 +144,9 @@ def memory_of(words):
     return peak * 1024 / 10**6
 
 
-def cost(measure, folder, words, times):
-    """What one time of a job costs by a measure, less what is done before it."""
-    return (measure([*words, str(times)], folder) - measure([*words, "0"], folder)) / times
+def cost(count, words, times):
+    """What one time of a job costs by a count, less what is done before it."""
+    return (count([*words, str(times)]) - count([*words, "0"])) / times
 
 
 # The codecs, and the lists with their lengths; of nodes the length of the chain. BER is compared with plain Rust for DER, which is what
@@ -217,9 +180,9 @@ def plain_forms(job):
 def compare_codecs():
     """Prints rates, instructions and memory of the codecs over bytes, and of plain Rust."""
     with tempfile.TemporaryDirectory() as folder:
-        plain = build_plain(folder, "plain_codecs")
+        plain = measure.plain_rust(folder, "plain_codecs")
         for job in jobs_of(LISTS):
-            compare_job(folder, plain, job)
+            compare_job(plain, job)
 
 
 def programs_for(plain, job):
@@ -227,57 +190,56 @@ def programs_for(plain, job):
     return [[SPEED_PROGRAM, *job], *([plain, form, *job[1:]] for form in plain_forms(job))]
 
 
-def compare_job(folder, plain, job):
+def compare_job(plain, job):
     """Prints what a job costs, and what it costs each form of plain Rust."""
     ours, *others = programs_for(plain, job)
-    said = answer([*ours, "1"]).strip()
+    said = measure.answer([*ours, "1"]).strip()
     for words in others:
-        theirs = answer([*words, "1"]).strip()
+        theirs = measure.answer([*words, "1"]).strip()
         if theirs != said:
             sys.exit(f"{' '.join(job)}: {said}, but plain Rust, {words[1]}: {theirs}")
     megabytes = int(said.split()[0]) / 10**6
     times = max(1, round(100 / megabytes))
-    seconds, text = measured(folder, ours, times, megabytes)
+    seconds, text = measured(ours, times, megabytes)
     print(f"{' '.join(job)}: {text}", flush=True)
     for words in others:
-        theirs, text = measured(folder, words, times, megabytes)
+        theirs, text = measured(words, times, megabytes)
         print(f"    plain Rust, {words[1]}: {text}, ratio {seconds / theirs:.2f}", flush=True)
 
 
-def measured(folder, words, times, megabytes):
+def measured(words, times, megabytes):
     """The seconds that a job takes a program; and in words its rate, its instructions for each byte, if valgrind is there, and its
     peak memory."""
-    seconds = cost(seconds_of, folder, words, times)
+    seconds = cost(least_seconds, words, times)
     text = f"{megabytes / seconds:.0f} MB/s"
     if shutil.which("valgrind"):
-        text += f", {cost(instructions_of, folder, words, 1) / 10**6 / megabytes:.1f} instructions a byte"
+        text += f", {cost(measure.instructions, words, 1) / 10**6 / megabytes:.1f} instructions a byte"
     return seconds, f"{text}, peak memory {memory_of([*words, str(times)]):.1f} MB"
 
 
 def count_instructions():
     """Prints the instructions that the codecs take for each value, those of plain Rust, and how many times as many."""
     with tempfile.TemporaryDirectory() as folder:
-        plain = build_plain(folder, "plain_codecs")
+        plain = measure.plain_rust(folder, "plain_codecs")
         for job in jobs_of(COUNTED):
-            count_job(folder, plain, job)
+            count_job(plain, job)
 
 
-def count_job(folder, plain, job):
+def count_job(plain, job):
     """Prints the instructions that a job takes for each value, and those of each form of plain Rust."""
-    ours, *others = (cost(instructions_of, folder, words, 1) / int(job[3]) for words in programs_for(plain, job))
+    ours, *others = (cost(measure.instructions, words, 1) / int(job[3]) for words in programs_for(plain, job))
     beside = ", ".join(f"{form} {theirs:.0f}: {ours / theirs:.2f}" for form, theirs in zip(plain_forms(job), others))
     print(f"{job[2]}, {job[0]}, {job[1]}: {ours:.0f}; plain Rust, {beside}", flush=True)
 
 
 def count_canonical():
     """Prints the instructions of canonical reading for each value, and those of reading and of writing it."""
-    with tempfile.TemporaryDirectory() as folder:
-        for codec in CODECS:
-            for name, (count,) in COUNTED.items():
-                jobs = {action: [SPEED_PROGRAM, codec, action, name, str(count)] for action in ("read", "write", "canonical")}
-                counts = {action: cost(instructions_of, folder, words, 1) / count for action, words in jobs.items()}
-                text = ", ".join(f"{action} {steps:.0f}" for action, steps in counts.items())
-                print(f"{name}, {codec}: {text}; {counts['canonical'] / counts['read']:.2f} times reading", flush=True)
+    for codec in CODECS:
+        for name, (count,) in COUNTED.items():
+            jobs = {action: [SPEED_PROGRAM, codec, action, name, str(count)] for action in ("read", "write", "canonical")}
+            counts = {action: cost(measure.instructions, words, 1) / count for action, words in jobs.items()}
+            text = ", ".join(f"{action} {steps:.0f}" for action, steps in counts.items())
+            print(f"{name}, {codec}: {text}; {counts['canonical'] / counts['read']:.2f} times reading", flush=True)
 
 
 def reaches(request, step):

@@ -225,4 +225,5 @@ def main():
     print(f"{checked} lines checked, {left} left out")
 
 
-main()
+if __name__ == "__main__":
+    main()
