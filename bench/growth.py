@@ -88,8 +88,7 @@ def main():
     with tempfile.TemporaryDirectory() as place:
         folder = pathlib.Path(place)
         measure.link_ours(folder, ["measure_codecs", "test_vectors", "asn1_compile"], sys.argv[1:])
-        measure.print_row(["", *(f"10^{len(str(size)) - 1}" for size in SIZES)])
-        measure.print_row(["---"] * (1 + len(SIZES)))
+        measure.print_head(["", *(f"10^{len(str(size)) - 1}" for size in SIZES)])
         for title, (sizes, calls) in ROWS.items():
             measure.print_row([title, *(f"{cost(folder, calls, size):,.0f}" if size in sizes else "" for size in SIZES)])
 
