@@ -70,16 +70,25 @@ ROWS = {
 }
 
 
+def instructions(folder, words, text):
+    """The instructions of a call with this input, which it must not refuse."""
+    path, out = folder / "input.asn1", folder / "out"
+    path.write_text(text)
+    program, *others = words.format(input=path, out=out).split()
+    call = [folder / program, *others]
+    answer = measure.answer(call, path)
+    if " -> refused" in answer or " -> not" in answer or answer.startswith("not"):
+        sys.exit(answer)
+    shutil.rmtree(out, ignore_errors=True)
+    count = measure.instructions(call, path)
+    shutil.rmtree(out, ignore_errors=True)
+    return count
+
+
 def cost(folder, calls, size):
     """The instructions for each of so many."""
-    counts = []
-    path, out = folder / "input.asn1", folder / "out"
-    for words, text in calls(size):
-        path.write_text(text)
-        program, *others = words.format(input=path, out=out).split()
-        counts.append(measure.instructions([folder / program, *others], path))
-        shutil.rmtree(out, ignore_errors=True)
-    return (counts[0] - counts[1]) / size
+    most, none = (instructions(folder, *call) for call in calls(size))
+    return (most - none) / size
 
 
 def main():
@@ -88,8 +97,7 @@ def main():
     with tempfile.TemporaryDirectory() as place:
         folder = pathlib.Path(place)
         measure.link_ours(folder, ["measure_codecs", "test_vectors", "asn1_compile"], sys.argv[1:])
-        measure.print_row(["", *(f"10^{len(str(size)) - 1}" for size in SIZES)])
-        measure.print_row(["---"] * (1 + len(SIZES)))
+        measure.print_head(["", *(f"10^{len(str(size)) - 1}" for size in SIZES)])
         for title, (sizes, calls) in ROWS.items():
             measure.print_row([title, *(f"{cost(folder, calls, size):,.0f}" if size in sizes else "" for size in SIZES)])
 

@@ -61,6 +61,12 @@ def seconds(words, path=os.devnull):
     return after.ru_utime + after.ru_stime - before.ru_utime - before.ru_stime
 
 
+def print_head(titles):
+    """Prints the head of a table in Markdown."""
+    print_row(titles)
+    print("|" + "---|" * len(titles), flush=True)
+
+
 def print_row(texts):
     """Prints a row of a table in Markdown."""
     print("|", " | ".join(texts), "|", flush=True)

@@ -87,10 +87,10 @@ def peer(program, kinds, end=""):
 
 
 # The columns: the calls for each kind of values.
-OURS = "ours"
+OURS = "Ours"
 COLUMNS = {
     OURS: {"certificate": "measure_certificates READS WRITES", **codecs("measure_codecs", der="der", ber="ber", packed="packed")},
-    "plain Rust": {"certificate": "plain_certificates READS WRITES", **codecs("plain_codecs", der="der", ber="der", packed="packed")},
+    "Plain Rust": {"certificate": "plain_certificates READS WRITES", **codecs("plain_codecs", der="der", ber="der", packed="packed")},
     "`asn1`, borrowed": peer("asn1", ["certificate", "persons-der", "node-der"]),
     "`asn1`, owned": peer("asn1", ["certificate", "persons-der", "node-der"], "-owned"),
     "`bcder`": peer(
@@ -275,8 +275,7 @@ def main():
         build(folder)
         built = set(os.listdir(folder))
         columns = {title: calls for title, calls in COLUMNS.items() if {call.split()[0] for call in calls.values()} <= built}
-        measure.print_row(["", "", *columns])
-        measure.print_row(["---"] * (2 + len(columns)))
+        measure.print_head(["", "", *columns])
         for row in rows():
             path = folder / "octets"
             path.write_bytes(row.octets)
