@@ -38,16 +38,19 @@ impl std::error::Error for Error {}
 type Check = unsafe extern "C" fn(*const u8, usize, *mut usize, *mut u8, usize, *mut usize) -> i32;
 type Conversion = unsafe extern "C" fn(*const u8, usize, *mut u8, usize, *mut usize) -> i32;
 
-#[link(name = "greetings_c", kind = "static")]
-unsafe extern "C" {
-    fn greetings_greeting_check(octets: *const u8, length: usize, position: *mut usize, text: *mut u8, room: usize, size: *mut usize) -> i32;
-    fn greetings_greeting_der(octets: *const u8, length: usize, out: *mut u8, room: usize, size: *mut usize) -> i32;
-    fn greetings_greeting_text(octets: *const u8, length: usize, out: *mut u8, room: usize, size: *mut usize) -> i32;
-    fn greetings_greeting_json(octets: *const u8, length: usize, out: *mut u8, room: usize, size: *mut usize) -> i32;
-    fn greetings_audience_check(octets: *const u8, length: usize, position: *mut usize, text: *mut u8, room: usize, size: *mut usize) -> i32;
-    fn greetings_audience_der(octets: *const u8, length: usize, out: *mut u8, room: usize, size: *mut usize) -> i32;
-    fn greetings_audience_text(octets: *const u8, length: usize, out: *mut u8, room: usize, size: *mut usize) -> i32;
-    fn greetings_audience_json(octets: *const u8, length: usize, out: *mut u8, room: usize, size: *mut usize) -> i32;
+/// The functions of greetings.h.
+mod calls {
+    #[link(name = "greetings_c", kind = "static")]
+    unsafe extern "C" {
+        pub(super) fn greetings_greeting_check(octets: *const u8, length: usize, position: *mut usize, text: *mut u8, room: usize, size: *mut usize) -> i32;
+        pub(super) fn greetings_greeting_der(octets: *const u8, length: usize, out: *mut u8, room: usize, size: *mut usize) -> i32;
+        pub(super) fn greetings_greeting_text(octets: *const u8, length: usize, out: *mut u8, room: usize, size: *mut usize) -> i32;
+        pub(super) fn greetings_greeting_json(octets: *const u8, length: usize, out: *mut u8, room: usize, size: *mut usize) -> i32;
+        pub(super) fn greetings_audience_check(octets: *const u8, length: usize, position: *mut usize, text: *mut u8, room: usize, size: *mut usize) -> i32;
+        pub(super) fn greetings_audience_der(octets: *const u8, length: usize, out: *mut u8, room: usize, size: *mut usize) -> i32;
+        pub(super) fn greetings_audience_text(octets: *const u8, length: usize, out: *mut u8, room: usize, size: *mut usize) -> i32;
+        pub(super) fn greetings_audience_json(octets: *const u8, length: usize, out: *mut u8, room: usize, size: *mut usize) -> i32;
+    }
 }
 
 /// What a call writes, for which there is room for this many octets at first, and its status.
@@ -103,40 +106,40 @@ fn text(call: Conversion, octets: &[u8]) -> Result<String, Error> {
 
 /// Succeeds if the octets are the DER of a `Greeting`.
 pub fn greeting_check(octets: &[u8]) -> Result<(), Error> {
-    check(greetings_greeting_check, octets)
+    check(calls::greetings_greeting_check, octets)
 }
 
 /// The DER of the `Greeting` whose BER the octets are.
 pub fn greeting_der(octets: &[u8]) -> Result<Vec<u8>, Error> {
-    converted(greetings_greeting_der, octets)
+    converted(calls::greetings_greeting_der, octets)
 }
 
 /// The `Greeting` whose BER the octets are in X.680's notation.
 pub fn greeting_text(octets: &[u8]) -> Result<String, Error> {
-    text(greetings_greeting_text, octets)
+    text(calls::greetings_greeting_text, octets)
 }
 
 /// The `Greeting` whose BER the octets are as JSON.
 pub fn greeting_json(octets: &[u8]) -> Result<String, Error> {
-    text(greetings_greeting_json, octets)
+    text(calls::greetings_greeting_json, octets)
 }
 
 /// Succeeds if the octets are the DER of a `Audience`.
 pub fn audience_check(octets: &[u8]) -> Result<(), Error> {
-    check(greetings_audience_check, octets)
+    check(calls::greetings_audience_check, octets)
 }
 
 /// The DER of the `Audience` whose BER the octets are.
 pub fn audience_der(octets: &[u8]) -> Result<Vec<u8>, Error> {
-    converted(greetings_audience_der, octets)
+    converted(calls::greetings_audience_der, octets)
 }
 
 /// The `Audience` whose BER the octets are in X.680's notation.
 pub fn audience_text(octets: &[u8]) -> Result<String, Error> {
-    text(greetings_audience_text, octets)
+    text(calls::greetings_audience_text, octets)
 }
 
 /// The `Audience` whose BER the octets are as JSON.
 pub fn audience_json(octets: &[u8]) -> Result<String, Error> {
-    text(greetings_audience_json, octets)
+    text(calls::greetings_audience_json, octets)
 }

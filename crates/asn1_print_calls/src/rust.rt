@@ -43,15 +43,18 @@ impl std::error::Error for Error {}
 type Check = unsafe extern \"C\" fn(*const u8, usize, *mut usize, *mut u8, usize, *mut usize) -> i32;
 type Conversion = unsafe extern \"C\" fn(*const u8, usize, *mut u8, usize, *mut usize) -> i32;
 
-#[link(name = \"@crate@_c\", kind = \"static\")]
-unsafe extern \"C\" {
+/// The functions of @crate@.h.
+mod calls {
+    #[link(name = \"@crate@_c\", kind = \"static\")]
+    unsafe extern \"C\" {
 ",
-    declaration: "    fn @crate@_@function@_check(octets: *const u8, length: usize, position: *mut usize, text: *mut u8, room: usize, size: *mut usize) -> i32;
-    fn @crate@_@function@_der(octets: *const u8, length: usize, out: *mut u8, room: usize, size: *mut usize) -> i32;
-    fn @crate@_@function@_text(octets: *const u8, length: usize, out: *mut u8, room: usize, size: *mut usize) -> i32;
-    fn @crate@_@function@_json(octets: *const u8, length: usize, out: *mut u8, room: usize, size: *mut usize) -> i32;
+    declaration: "        pub(super) fn @crate@_@function@_check(octets: *const u8, length: usize, position: *mut usize, text: *mut u8, room: usize, size: *mut usize) -> i32;
+        pub(super) fn @crate@_@function@_der(octets: *const u8, length: usize, out: *mut u8, room: usize, size: *mut usize) -> i32;
+        pub(super) fn @crate@_@function@_text(octets: *const u8, length: usize, out: *mut u8, room: usize, size: *mut usize) -> i32;
+        pub(super) fn @crate@_@function@_json(octets: *const u8, length: usize, out: *mut u8, room: usize, size: *mut usize) -> i32;
 ",
-    middle: "}
+    middle: "    }
+}
 
 /// What a call writes, for which there is room for this many octets at first, and its status.
 fn written(room: usize, mut call: impl FnMut(&mut [u8], &mut usize) -> i32) -> (i32, Vec<u8>) {
@@ -107,22 +110,22 @@ fn text(call: Conversion, octets: &[u8]) -> Result<String, Error> {
     definition: "
 /// Succeeds if the octets are the DER of a `@name@`.
 pub fn @function@_check(octets: &[u8]) -> Result<(), Error> {
-    check(@crate@_@function@_check, octets)
+    check(calls::@crate@_@function@_check, octets)
 }
 
 /// The DER of the `@name@` whose BER the octets are.
 pub fn @function@_der(octets: &[u8]) -> Result<Vec<u8>, Error> {
-    converted(@crate@_@function@_der, octets)
+    converted(calls::@crate@_@function@_der, octets)
 }
 
 /// The `@name@` whose BER the octets are in X.680's notation.
 pub fn @function@_text(octets: &[u8]) -> Result<String, Error> {
-    text(@crate@_@function@_text, octets)
+    text(calls::@crate@_@function@_text, octets)
 }
 
 /// The `@name@` whose BER the octets are as JSON.
 pub fn @function@_json(octets: &[u8]) -> Result<String, Error> {
-    text(@crate@_@function@_json, octets)
+    text(calls::@crate@_@function@_json, octets)
 }
 ",
     end: "",
