@@ -12,7 +12,7 @@ use fan_calls::{DEPTH, Status};
 
 /// `FAN_OK` if the octets break no rule of DER where the notation has a certificate. `FAN_FAULT`, and the number of a rule that they
 /// break, and the position of the octet, from 0, at which they break it. `FAN_DEEP`, and the position of octets that lie inside more
-/// than 64 elements which hold others; no rule is broken before them.
+/// than 64 elements which hold others, into which it does not look.
 ///
 /// It does not ask whether the octets are a certificate: those that end inside an element break none of these rules.
 #[unsafe(no_mangle)]
