@@ -46,6 +46,7 @@ pub struct {name}(pub Box<{body_name}<{name}>>);
     append_calls(&mut draft, circle, body)?;
     append_type(&mut draft, circle, body)?;
     append_law(&mut draft, circle)?;
+    append_validity(&mut draft, circle, body)?;
     append_writer(&mut draft, circle)?;
     append_reader(&mut draft, circle, body_name)?;
     draft.into_file(own.page.as_slice())
@@ -276,6 +277,72 @@ fn append_law(draft: &mut Draft, circle: Circle<'_>) -> Result<(), AllocError> {
 #[tactic(auto, using(crate::proofs::{name}Tags::knot_can))]
 pub fn {module}_is_well_tagged()
     ensures {{ IsWellTagged ⟦<{name} as AsnType>⟧.meaning }}
+{{}}
+
+"
+    )?)
+}
+
+// Appends the theorems on which values are valid: each one, or one that is made of a valid one.
+fn append_validity(
+    draft: &mut Draft,
+    circle: Circle<'_>,
+    body: &TypeFile,
+) -> Result<(), AllocError> {
+    draft.use_signs(&["ℕ", "Bool", "List"])?;
+    if !circle.are_valid {
+        return append_content_law(draft, circle, body);
+    }
+    let name = circle.name;
+    append_valid_law(draft, name, circle.module, name)?;
+    for member in circle.members {
+        if member.module.as_str() != body.module.as_str() {
+            let generic = member.plain_name();
+            let asn1_name = member.asn1_name.as_str();
+            let at_knot = format!(in draft.alloc(); "{generic}<{name}>")?;
+            use_local(draft, member.module.as_str(), generic)?;
+            append_valid_law(draft, asn1_name, member.module.as_str(), at_knot.as_str())?;
+        }
+    }
+    Ok(())
+}
+
+// Appends the theorem that each value of a type is valid.
+fn append_valid_law(
+    draft: &mut Draft,
+    summary: &str,
+    module: &str,
+    name: &str,
+) -> Result<(), AllocError> {
+    draft.text(format!(in draft.alloc();
+        "\
+/// Each `{summary}` is valid.
+pub fn each_{module}_is_valid(value: &{name})
+    ensures {{ (accepts : List ℕ → Bool) →
+        ⟦<{name} as AsnType>⟧.meaning.IsValid accepts value.now }}
+{{}}
+
+"
+    )?)
+}
+
+// Appends the theorem that a value is valid if and only if what it is made of is.
+fn append_content_law(
+    draft: &mut Draft,
+    circle: Circle<'_>,
+    body: &TypeFile,
+) -> Result<(), AllocError> {
+    let name = circle.name;
+    let module = circle.module;
+    let content = body.plain_name();
+    draft.use_signs(&["◌↔◌"])?;
+    draft.text(format!(in draft.alloc();
+        "\
+/// A `{name}` is valid if and only if what it is made of is.
+pub fn {module}_is_valid_as_its_content(value: &{name})
+    ensures {{ (accepts : List ℕ → Bool) →
+        ⟦<{name} as AsnType>⟧.meaning.IsValid accepts value.now ↔
+        ⟦<{content}<{name}> as AsnType>⟧.meaning.IsValid accepts (in_knot value.now) }}
 {{}}
 
 "

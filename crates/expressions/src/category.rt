@@ -1,5 +1,5 @@
 //! `Category ::= SEQUENCE { name UTF8String, children SEQUENCE OF Category }`
-ghost use Rattle.std.specs.Prelude.{IfOk, ◌≡◌};
+ghost use Rattle.std.specs.Prelude.{Bool, IfOk, List, ℕ, ◌≡◌};
 ghost use Rattle.asn1_schema.specs.Words.{IsWellTagged};
 ghost use Rattle.expressions.specs.CategoryMeaning.{in_knot, is_made, meaning};
 
@@ -57,6 +57,12 @@ impl AsnType for Category {
 #[tactic(auto, using(crate::proofs::CategoryTags::knot_can))]
 pub fn category_is_well_tagged()
     ensures { IsWellTagged ⟦<Category as AsnType>⟧.meaning }
+{}
+
+/// Each `Category` is valid.
+pub fn each_category_is_valid(value: &Category)
+    ensures { (accepts : List ℕ → Bool) →
+        ⟦<Category as AsnType>⟧.meaning.IsValid accepts value.now }
 {}
 
 impl Encode for Category {

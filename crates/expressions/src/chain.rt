@@ -1,5 +1,5 @@
 //! `Chain ::= CHOICE { end NULL, link Chain }`
-ghost use Rattle.std.specs.Prelude.{IfOk, ◌≡◌};
+ghost use Rattle.std.specs.Prelude.{Bool, IfOk, List, ℕ, ◌≡◌};
 ghost use Rattle.asn1_schema.specs.Words.{IsWellTagged};
 ghost use Rattle.expressions.specs.ChainMeaning.{in_knot, is_made, meaning};
 ghost use Rattle.expressions.specs.declared.chain_of.ChainOf.TheVariants.{End, Link};
@@ -72,6 +72,12 @@ impl AsnType for Chain {
 #[tactic(auto, using(crate::proofs::ChainTags::knot_can))]
 pub fn chain_is_well_tagged()
     ensures { IsWellTagged ⟦<Chain as AsnType>⟧.meaning }
+{}
+
+/// Each `Chain` is valid.
+pub fn each_chain_is_valid(value: &Chain)
+    ensures { (accepts : List ℕ → Bool) →
+        ⟦<Chain as AsnType>⟧.meaning.IsValid accepts value.now }
 {}
 
 impl Encode for Chain {

@@ -1,5 +1,5 @@
 //! `Expr ::= CHOICE { number INTEGER, sum Terms, call Call, not Expr, ... }`
-ghost use Rattle.std.specs.Prelude.{IfOk, ◌≡◌};
+ghost use Rattle.std.specs.Prelude.{Bool, IfOk, List, ℕ, ◌≡◌};
 ghost use Rattle.asn1_schema.specs.Words.{IsWellTagged};
 ghost use Rattle.expressions.specs.ExprMeaning.{in_knot, is_made, meaning};
 ghost use Rattle.expressions.specs.declared.expr_of.ExprOf.TheVariants.{Number, Sum, Call, Not};
@@ -87,6 +87,18 @@ impl AsnType for Expr {
 #[tactic(auto, using(crate::proofs::ExprTags::knot_can))]
 pub fn expr_is_well_tagged()
     ensures { IsWellTagged ⟦<Expr as AsnType>⟧.meaning }
+{}
+
+/// Each `Expr` is valid.
+pub fn each_expr_is_valid(value: &Expr)
+    ensures { (accepts : List ℕ → Bool) →
+        ⟦<Expr as AsnType>⟧.meaning.IsValid accepts value.now }
+{}
+
+/// Each `Call` is valid.
+pub fn each_call_is_valid(value: &CallOf<Expr>)
+    ensures { (accepts : List ℕ → Bool) →
+        ⟦<CallOf<Expr> as AsnType>⟧.meaning.IsValid accepts value.now }
 {}
 
 impl Encode for Expr {
