@@ -82,10 +82,10 @@ same_records-Call-then : (f : Knot-F Knot) (v0 : (CallOf Knot)) (o : Option Knot
 same_records-Call-then f v0 None = refl
 same_records-Call-then f v0 (Some v1) = refl
 
-same_records-Call-rest-elements-each : (f : Knot-F Knot) (v0 : (CallOf Knot)) (v1 : (List (Vec Knot))) (v2 : (List (Vec Knot))) (v3 : (Vec Knot)) → (of-expr_of-Call (λ x. of_some ((of_first ((own_records (list_meaning already))))) x.rest)) (mapped f ((expr_of-Call (record v0 { rest = Some (v3 ∷ []) })))) ≡ own_records (list_meaning within) v3
+same_records-Call-rest-elements-each : (f : Knot-F Knot) (v0 : (CallOf Knot)) (v1 : (List (Vec Knot))) (v2 : (List (Vec Knot))) (v3 : (Vec Knot)) → (of-expr_of-Call (λ (x : CallOf ValidRecords). of_some ((of_first ((own_records (list_meaning already))))) x.rest)) (mapped f ((expr_of-Call (record v0 { rest = Some (v3 ∷ []) })))) ≡ own_records (list_meaning within) v3
 same_records-Call-rest-elements-each f v0 v1 v2 v3 = rw (flat_map-map (own_records already) folded v3.items) refl
 
-same_records-Call-rest-elements : (f : Knot-F Knot) (v0 : (CallOf Knot)) (v1 : (List (Vec Knot))) (v2 : (List (Vec Knot))) → (of-expr_of-Call (λ x. of_some ((flat_map (own_records (list_meaning already)))) x.rest)) (mapped f ((expr_of-Call (record v0 { rest = Some v2 })))) ≡ flat_map (own_records (list_meaning within)) v2
+same_records-Call-rest-elements : (f : Knot-F Knot) (v0 : (CallOf Knot)) (v1 : (List (Vec Knot))) (v2 : (List (Vec Knot))) → (of-expr_of-Call (λ (x : CallOf ValidRecords). of_some ((flat_map (own_records (list_meaning already)))) x.rest)) (mapped f ((expr_of-Call (record v0 { rest = Some v2 })))) ≡ flat_map (own_records (list_meaning within)) v2
 same_records-Call-rest-elements f v0 v1 v2 = list_by (own_records (list_meaning already)) (own_records (list_meaning within)) _ (λ v3. same_records-Call-rest-elements-each f v0 v1 v2 v3) v2
 
 same_records-Call-rest : (f : Knot-F Knot) (v0 : (CallOf Knot)) (o : Option (List (Vec Knot))) → (of-expr_of-Call (call_has_rest already).records) (mapped f ((expr_of-Call (record v0 { rest = o })))) ≡ (call_has_rest within).records (record v0 { rest = o })

@@ -89,6 +89,7 @@ impl ConstructedType for Rule {
 }
 
 /// A `Rule` can be inside other types.
+#[tactic(auto, using(asn1_schema::proofs::Trees::tree_shapes, crate::proofs::ExprTags::knot_can))]
 pub fn rule_is_well_tagged()
     ensures { IsWellTagged ⟦<Rule as AsnType>⟧.meaning }
 {}
