@@ -196,35 +196,22 @@ returns g t c =
     )
 }
 
-/// The answer for the theorem that each value of a knot is valid, or that it is if and only if what it is made of is.
-pub fn validity_answer(alloc: Global, circle: Circle<'_>) -> Result<String, AllocError> {
-    let (word, law, answer) = if circle.are_valid {
-        (
-            "each_is_valid",
-            "each_",
-            "each_is_valid accepts c.args.value.now",
-        )
+/// The answer for the theorem that each value of a knot is valid, or that one means what it is made of, under this name.
+pub fn validity_answer(alloc: Global, circle: Circle<'_>, law: &str) -> Result<String, AllocError> {
+    let lemma = if circle.are_valid {
+        "each_is_valid"
     } else {
-        (
-            "is_made",
-            "",
-            "(is_made.valid accepts c.args.value.now, is_made.valid_back accepts c.args.value.now)",
-        )
-    };
-    let suffix = if circle.are_valid {
-        "is_valid"
-    } else {
-        "is_valid_as_its_content"
+        "is_made"
     };
     let crate_name = circle.crate_name;
     let name = circle.name;
     let module = circle.module;
     format!(in alloc;
-        "use Rattle.{crate_name}.specs.{name}Meaning.{{{word}}}
-use Rattle.{crate_name}.proofs.{module}.{law}{module}_{suffix}.Goals as goal
+        "use Rattle.{crate_name}.specs.{name}Meaning.{{{lemma}}}
+use Rattle.{crate_name}.proofs.{module}.{law}.Goals as goal
 
 pub returns : goal.returns
-returns c = λ accepts. {answer}
+returns c = {lemma}
 "
     )
 }
@@ -245,7 +232,7 @@ use Rattle.{crate_name}.specs.{name}Validity.{{{own}_is_valid}}
 use Rattle.{crate_name}.proofs.{module}.each_{own}_is_valid.Goals as goal
 
 pub returns : goal.returns
-returns c = λ accepts. {own}_is_valid meaning each_is_valid accepts c.args.value.now
+returns c = {own}_is_valid meaning each_is_valid
 "
     )
 }

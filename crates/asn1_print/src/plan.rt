@@ -43,6 +43,7 @@ const RESERVED: &[&str] = &[
     "Decoder",
     "Drop",
     "E",
+    "EachIsValid",
     "Encode",
     "EncodeChoice",
     "EncodeError",

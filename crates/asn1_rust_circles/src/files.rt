@@ -75,9 +75,9 @@ fn validity_definitions(alloc: Global, circle: Circle<'_>) -> Result<ProofFile, 
 // The answer for the theorem on the values of the knot.
 fn validity_proof(alloc: Global, circle: Circle<'_>) -> Result<ProofFile, AllocError> {
     let module = circle.module;
-    let text = validity_answer(alloc, circle)?;
     let law = knot_law(alloc, circle)?;
     let law = law.as_str();
+    let text = validity_answer(alloc, circle, law)?;
     Ok(ProofFile {
         path: format!(in alloc; "proofs/{module}/{law}/Answers.antt")?,
         text,
@@ -90,7 +90,7 @@ fn knot_law(alloc: Global, circle: Circle<'_>) -> Result<String, AllocError> {
     if circle.are_valid {
         format!(in alloc; "each_{module}_is_valid")
     } else {
-        format!(in alloc; "{module}_is_valid_as_its_content")
+        format!(in alloc; "{module}_means_what_it_is_made_of")
     }
 }
 

@@ -289,11 +289,11 @@ fn append_validity(
     circle: Circle<'_>,
     body: &TypeFile,
 ) -> Result<(), AllocError> {
-    draft.use_signs(&["ℕ", "Bool", "List"])?;
     if !circle.are_valid {
         return append_content_law(draft, circle, body);
     }
     let name = circle.name;
+    draft.use_ghost("ghost use Rattle.asn1_schema.specs.model.Premises.{EachIsValid};")?;
     append_valid_law(draft, name, circle.module, name)?;
     for member in circle.members {
         if member.module.as_str() != body.module.as_str() {
@@ -317,16 +317,15 @@ fn append_valid_law(
     draft.text(format!(in draft.alloc();
         "\
 /// Each `{summary}` is valid.
-pub fn each_{module}_is_valid(value: &{name})
-    ensures {{ (accepts : List ℕ → Bool) →
-        ⟦<{name} as AsnType>⟧.meaning.IsValid accepts value.now }}
+pub fn each_{module}_is_valid()
+    ensures {{ EachIsValid ⟦<{name} as AsnType>⟧.meaning }}
 {{}}
 
 "
     )?)
 }
 
-// Appends the theorem that a value is valid if and only if what it is made of is.
+// Appends the theorem that a value means the same as what it is made of: it is valid if and only if that is.
 fn append_content_law(
     draft: &mut Draft,
     circle: Circle<'_>,
@@ -335,14 +334,13 @@ fn append_content_law(
     let name = circle.name;
     let module = circle.module;
     let content = body.plain_name();
-    draft.use_signs(&["◌↔◌"])?;
+    draft.use_ghost("ghost use Rattle.asn1_circles.specs.Words.{IsMadeOf};")?;
     draft.text(format!(in draft.alloc();
         "\
-/// A `{name}` is valid if and only if what it is made of is.
-pub fn {module}_is_valid_as_its_content(value: &{name})
-    ensures {{ (accepts : List ℕ → Bool) →
-        ⟦<{name} as AsnType>⟧.meaning.IsValid accepts value.now ↔
-        ⟦<{content}<{name}> as AsnType>⟧.meaning.IsValid accepts (in_knot value.now) }}
+/// A `{name}` means what it is made of, and is valid if and only if that is.
+pub fn {module}_means_what_it_is_made_of()
+    ensures {{ IsMadeOf in_knot ⟦<{name} as AsnType>⟧.meaning
+        ⟦<{content}<{name}> as AsnType>⟧.meaning }}
 {{}}
 
 "

@@ -1,7 +1,8 @@
 //! `Category ::= SEQUENCE { name UTF8String, children SEQUENCE OF Category }`
-ghost use Rattle.std.specs.Prelude.{Bool, IfOk, List, ℕ, ◌≡◌};
+ghost use Rattle.std.specs.Prelude.{IfOk, ◌≡◌};
 ghost use Rattle.asn1_schema.specs.Words.{IsWellTagged};
 ghost use Rattle.expressions.specs.CategoryMeaning.{in_knot, is_made, meaning};
+ghost use Rattle.asn1_schema.specs.model.Premises.{EachIsValid};
 
 use crate::category_of::CategoryOf;
 use crate::category_reader::read_category;
@@ -60,9 +61,8 @@ pub fn category_is_well_tagged()
 {}
 
 /// Each `Category` is valid.
-pub fn each_category_is_valid(value: &Category)
-    ensures { (accepts : List ℕ → Bool) →
-        ⟦<Category as AsnType>⟧.meaning.IsValid accepts value.now }
+pub fn each_category_is_valid()
+    ensures { EachIsValid ⟦<Category as AsnType>⟧.meaning }
 {}
 
 impl Encode for Category {

@@ -1,8 +1,9 @@
 //! `Chain ::= CHOICE { end NULL, link Chain }`
-ghost use Rattle.std.specs.Prelude.{Bool, IfOk, List, ℕ, ◌≡◌};
+ghost use Rattle.std.specs.Prelude.{IfOk, ◌≡◌};
 ghost use Rattle.asn1_schema.specs.Words.{IsWellTagged};
 ghost use Rattle.expressions.specs.ChainMeaning.{in_knot, is_made, meaning};
 ghost use Rattle.expressions.specs.declared.chain_of.ChainOf.TheVariants.{End, Link};
+ghost use Rattle.asn1_schema.specs.model.Premises.{EachIsValid};
 
 use crate::chain_of::{CHAIN_OF, ChainOf};
 use crate::chain_reader::read_chain;
@@ -75,9 +76,8 @@ pub fn chain_is_well_tagged()
 {}
 
 /// Each `Chain` is valid.
-pub fn each_chain_is_valid(value: &Chain)
-    ensures { (accepts : List ℕ → Bool) →
-        ⟦<Chain as AsnType>⟧.meaning.IsValid accepts value.now }
+pub fn each_chain_is_valid()
+    ensures { EachIsValid ⟦<Chain as AsnType>⟧.meaning }
 {}
 
 impl Encode for Chain {

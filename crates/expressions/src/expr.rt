@@ -1,8 +1,9 @@
 //! `Expr ::= CHOICE { number INTEGER, sum Terms, call Call, not Expr, ... }`
-ghost use Rattle.std.specs.Prelude.{Bool, IfOk, List, ℕ, ◌≡◌};
+ghost use Rattle.std.specs.Prelude.{IfOk, ◌≡◌};
 ghost use Rattle.asn1_schema.specs.Words.{IsWellTagged};
 ghost use Rattle.expressions.specs.ExprMeaning.{in_knot, is_made, meaning};
 ghost use Rattle.expressions.specs.declared.expr_of.ExprOf.TheVariants.{Number, Sum, Call, Not};
+ghost use Rattle.asn1_schema.specs.model.Premises.{EachIsValid};
 
 use crate::call::CallOf;
 use crate::expr_of::{EXPR_OF, ExprOf};
@@ -90,15 +91,13 @@ pub fn expr_is_well_tagged()
 {}
 
 /// Each `Expr` is valid.
-pub fn each_expr_is_valid(value: &Expr)
-    ensures { (accepts : List ℕ → Bool) →
-        ⟦<Expr as AsnType>⟧.meaning.IsValid accepts value.now }
+pub fn each_expr_is_valid()
+    ensures { EachIsValid ⟦<Expr as AsnType>⟧.meaning }
 {}
 
 /// Each `Call` is valid.
-pub fn each_call_is_valid(value: &CallOf<Expr>)
-    ensures { (accepts : List ℕ → Bool) →
-        ⟦<CallOf<Expr> as AsnType>⟧.meaning.IsValid accepts value.now }
+pub fn each_call_is_valid()
+    ensures { EachIsValid ⟦<CallOf<Expr> as AsnType>⟧.meaning }
 {}
 
 impl Encode for Expr {

@@ -3,4 +3,4 @@ use Rattle.expressions.specs.ExprValidity.{call_is_valid}
 use Rattle.expressions.proofs.expr.each_call_is_valid.Goals as goal
 
 pub returns : goal.returns
-returns c = λ accepts. call_is_valid meaning each_is_valid accepts c.args.value.now
+returns c = call_is_valid meaning each_is_valid
