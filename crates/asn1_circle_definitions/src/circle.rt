@@ -42,7 +42,7 @@ impl Circle<'_> {
         }
     }
 
-    /// What a value that has been written is, in definitions.
+    /// The type of a value that has been written, in definitions.
     pub(crate) fn carrier(&self) -> &'static str {
         if self.are_valid {
             "ValidRecords"

@@ -180,7 +180,7 @@ fn written_definitions(
 abbrev already : Meaning ValidRecords
 already = written_valid ({word}_itself (codes \"{asn1_name}\") {lists})
 
--- what a value is made of says, by these
+-- the meaning of the content of a value, by these
 abbrev content : {body_name} ValidRecords → ValueMeaning
 content = ({word}_knot (codes \"{asn1_name}\") {lists} in_knot (λ _. [])).content ValidRecords already
 

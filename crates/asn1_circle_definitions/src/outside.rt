@@ -60,7 +60,7 @@ enum Core<'a> {
     Unknown,
 }
 
-/// What a type outside is, if it is known.
+/// The kind of a type outside, if it is known.
 pub(crate) fn outside_of<'a>(
     alloc: Global,
     surroundings: Surroundings<'a>,
@@ -84,7 +84,7 @@ pub(crate) fn outside_of<'a>(
     Ok(None)
 }
 
-// What a name is below lists, which are added.
+// The kind of a name below lists, which are added.
 fn core_of<'a>(
     surroundings: Surroundings<'a>,
     name: &'a TypeName,
@@ -114,7 +114,7 @@ fn inside(text: &str) -> Option<(ListKind, &str)> {
     }
 }
 
-// What a name without lists is.
+// The kind of a name without lists.
 fn named<'a>(surroundings: Surroundings<'a>, name: &'a TypeName, text: &str) -> Core<'a> {
     if PLAIN.iter().any(|plain| *plain == text) {
         return Core::Plain;

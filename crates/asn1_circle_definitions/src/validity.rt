@@ -84,7 +84,7 @@ all_valid k itself well made zero accepts v = well accepts v
 all_valid k itself well made (suc n) accepts v =
     (well accepts v, made (level k (λ _. ⊤) (valid_to k n)) (λ a w. itself _ a w (all_valid k itself well made n a w)) accepts (k.of v))
 
--- what holds of each value holds of one that may be absent
+-- a property of each value holds of one that may be absent
 pub if_some_all : {X : Type 0} (o : Option X) (P : X → Type 0) → ((x : X) → P x) → IfSome o P
 if_some_all None P all = tt
 if_some_all (Some x) P all = all x
@@ -381,7 +381,7 @@ fn element_proof(alloc: Global, value: &Value<'_>, element: &str) -> Result<Stri
     }
 }
 
-// What is proved of a value.
+// The property that is proved of a value.
 fn predicate_of(alloc: Global, value: &Value<'_>) -> Result<String, AllocError> {
     match value {
         Value::Held(held) => {

@@ -287,7 +287,7 @@ fn require_kind(plan: &mut Plan<'_, '_>, definition: &Type<'_>) -> Result<(), Al
     }
 }
 
-// Why a definition cannot be of a circle, if it cannot. A SET is told of by its components.
+// Why a definition cannot be of a circle, if it cannot. The components of a SET are reported themselves.
 fn cause_of(definition: &Type<'_>) -> Option<&'static str> {
     match &definition.kind {
         TypeKind::Tagged(tag, inner) if tag.is_explicit || !is_sequence(inner) => {

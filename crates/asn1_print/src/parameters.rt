@@ -253,7 +253,7 @@ pub(crate) fn require_supported(
     }
 }
 
-// The first part of a type that no type of a circle can have, and what it is. A group tells nothing: what holds it does.
+// The first part of a type that no type of a circle can have, and what it is. A group is reported by the type that holds it.
 fn unsupported(body: &TypeBody) -> Option<(&str, &'static str)> {
     match body {
         TypeBody::Sequence(body) => {

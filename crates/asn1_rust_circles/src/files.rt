@@ -270,7 +270,7 @@ pub fn definition_modules(alloc: Global, knots: &[KnotName]) -> Result<String, A
     Ok(text)
 }
 
-/// The file that these definitions stand on, if they do.
+/// The file of definitions that these need, if there is one.
 pub fn validity_definitions_file(
     alloc: Global,
     knots: &[KnotName],

@@ -19,7 +19,7 @@ in_knot v = (out-Knot v).0.value
 abbrev already : Meaning ValidRecords
 already = written_valid (sequence_itself (codes "Category") is_sequence components)
 
--- what a value is made of says, by these
+-- the meaning of the content of a value, by these
 abbrev content : CategoryOf ValidRecords → ValueMeaning
 content = (sequence_knot (codes "Category") is_sequence components in_knot (λ _. [])).content ValidRecords already
 

@@ -24,7 +24,7 @@ in_knot v = (out-Knot v).0.value
 abbrev already : Meaning ValidRecords
 already = written_valid (choice_itself (codes "Expr") alternatives pick)
 
--- what a value is made of says, by these
+-- the meaning of the content of a value, by these
 abbrev content : ExprOf ValidRecords → ValueMeaning
 content = (choice_knot (codes "Expr") alternatives pick in_knot (λ _. [])).content ValidRecords already
 
