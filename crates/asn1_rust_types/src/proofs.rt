@@ -192,10 +192,19 @@ fn arms_of_choice(alloc: Global, alternatives: &[Alternative]) -> Result<Vec<Arm
             call,
             clause,
             is_addition: false,
-            is_answered: is_long && is_plain || alternative.definition.is_explicit,
+            is_answered: (is_long || is_in_circle(alternative)) && is_plain
+                || alternative.definition.is_explicit,
         })?;
     }
     Ok(arms)
+}
+
+// Whether the type of an alternative is one of its circle with a parameter.
+fn is_in_circle(alternative: &Alternative) -> bool {
+    match &alternative.held {
+        Some(held) => held.lists.is_empty() && held.member.is_some(),
+        None => false,
+    }
 }
 
 // The call that writes an alternative, and its clause.
