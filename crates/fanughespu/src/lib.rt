@@ -14,7 +14,7 @@
 //!
 //! A slice crosses to C as a pointer and a length, and `alloc` as nothing. Results go into the memory of the caller, and nothing is
 //! kept after a call. The answer is a status (`specs/Statuses` of `fan_calls`). Each call states which it answers (`statuses`), and what
-//! holds of each of them. Which octets have it follows too, but for these:
+//! holds of each of them. The clauses tell which octets have it, too, but for these:
 //!
 //! - FAN_OK of [`fan_certificate_report`] may come of octets that are the DER of no valid certificate, with the report of any.
 //! - Both FAN_OK and FAN_FAULT of [`fan_ldap_lines`] may come of octets behind the messages that begin with no whole element.
