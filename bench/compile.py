@@ -53,7 +53,6 @@ ASKED = [*NAMED, "AlgorithmIdentifier", "Certificate", "Extensions"]
 
 # A file of examples/modules: the crate, what the program is told of types that exist already, and the crates of these.
 TABLE = {
-    "badges": ("badges", [], ["asn1_tables"]),
     "certificates": ("certificates", [], []),
     "circles": ("circles", [], []),
     "cms": ("cms", [*(f"--extern={name}=asn1_x509::{name.split('.')[-1]}" for name in SIGNED),
@@ -63,12 +62,11 @@ TABLE = {
     "externals": ("externals", [], []),
     "greetings": ("greetings", [], []),
     "ldap": ("asn1_ldap", [f"--extern={name}=asn1_recursive::{name}" for name in FILTERS], ["asn1_recursive"]),
-    "signals": ("signals", [], ["asn1_tables"]),
     "snmp": ("snmp", [], []),
     "status": ("status", [*(f"--extern={name}=asn1_x509::{name}" for name in ASKED),
                           "--extern=GeneralName=asn1_x509_extensions::GeneralName"], ["asn1_x509", "asn1_x509_extensions"]),
     "tickets": ("tickets", [], []),
-    "workshop": ("workshop", [], ["asn1_tables"]),
+    "workshop": ("workshop", [], []),
     "x509": ("asn1_x509", [], []),
     "x509_extensions": ("asn1_x509_extensions", [f"--extern={name}=asn1_x509::{name}" for name in NAMED], ["asn1_x509"]),
 }

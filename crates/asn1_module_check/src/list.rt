@@ -29,9 +29,9 @@ pub fn list_constructed<'a>(
     Ok(list)
 }
 
-/// Adds the components of a type and of those in it, which may be beside the schema.
+// Adds the components of a type and of those in it.
 #[cycle(list_types)]
-pub fn list_type<'a>(
+fn list_type<'a>(
     alloc: Global,
     list: &mut Vec<Constructed<'a>>,
     schema: &Schema<'a>,

@@ -7,7 +7,6 @@ use crate::notation::text_of;
 use crate::plan::{Plan, has_file, plan_of};
 use crate::request::{Extern, Printed, PrintedFile, Request};
 use crate::strings::{is_restricted_string, restricted_string};
-use crate::tables::add_tables;
 use crate::types::{Owner, PartTexts, tag_number, warn_of_constraints};
 use crate::values::{add_value, numbers_of, origin_text};
 use asn1_notation::Module;
@@ -26,7 +25,6 @@ pub fn print_crate(alloc: Global, request: Request<'_, '_>) -> Result<Printed, A
     for (index, definition) in request.schema.types.iter().enumerate() {
         add_definition(&mut plan, index, definition)?;
     }
-    add_tables(&mut plan)?;
     let mut names = TakenNames::new(alloc);
     for definition in &request.schema.values {
         add_value(&mut plan, definition, &mut names)?;

@@ -59,7 +59,6 @@ mod references;
 mod resolution;
 mod resolver;
 mod skipped;
-mod tables;
 mod tags;
 mod types;
 mod value_parts;
