@@ -53,20 +53,25 @@ ASKED = [*NAMED, "AlgorithmIdentifier", "Certificate", "Extensions"]
 
 # A file of examples/modules: the crate, what the program is told of types that exist already, and the crates of these.
 TABLE = {
+    "badges": ("badges", [], ["asn1_tables"]),
     "certificates": ("certificates", [], []),
+    "circle_forms": ("circle_forms", [], []),
     "circles": ("circles", [], []),
     "cms": ("cms", [*(f"--extern={name}=asn1_x509::{name.split('.')[-1]}" for name in SIGNED),
                     "--extern=GeneralNames=asn1_x509_extensions::GeneralNames"], ["asn1_x509", "asn1_x509_extensions"]),
     "contents": ("contents", [], ["asn1_contents"]),
     "expressions": ("expressions", [], []),
     "externals": ("externals", [], []),
+    "folders": ("folders", [], []),
     "greetings": ("greetings", [], []),
     "ldap": ("asn1_ldap", [f"--extern={name}=asn1_recursive::{name}" for name in FILTERS], ["asn1_recursive"]),
+    "queries": ("queries", [], []),
+    "signals": ("signals", [], ["asn1_tables"]),
     "snmp": ("snmp", [], []),
     "status": ("status", [*(f"--extern={name}=asn1_x509::{name}" for name in ASKED),
                           "--extern=GeneralName=asn1_x509_extensions::GeneralName"], ["asn1_x509", "asn1_x509_extensions"]),
     "tickets": ("tickets", [], []),
-    "workshop": ("workshop", [], []),
+    "workshop": ("workshop", [], ["asn1_tables"]),
     "x509": ("asn1_x509", [], []),
     "x509_extensions": ("asn1_x509_extensions", [f"--extern={name}=asn1_x509::{name}" for name in NAMED], ["asn1_x509"]),
 }

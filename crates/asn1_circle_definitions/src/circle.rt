@@ -1,4 +1,5 @@
 //! Circles of types.
+use crate::outside::Surroundings;
 use asn1_rust_components::{Held, ListKind, TypeBody, TypeFile};
 use std::alloc::{AllocError, Global};
 
@@ -21,6 +22,10 @@ pub struct Circle<'a> {
     pub summary: &'a str,
     /// The types with a parameter, each behind those that it holds: the last is what a value of the knot is made of.
     pub members: &'a [TypeFile],
+    /// The other types of the crate.
+    pub surroundings: Surroundings<'a>,
+    /// Whether each value is valid.
+    pub are_valid: bool,
 }
 
 impl Circle<'_> {
@@ -35,6 +40,20 @@ impl Circle<'_> {
             Some(file) => matches!(file.body, TypeBody::Choice(_)),
             None => false,
         }
+    }
+
+    /// The type of a value that has been written, in definitions.
+    pub(crate) fn carrier(&self) -> &'static str {
+        if self.are_valid {
+            "ValidRecords"
+        } else {
+            "(List Record)"
+        }
+    }
+
+    /// The definition that writes the records inside a value.
+    pub(crate) fn writer(&self) -> &'static str {
+        if self.are_valid { "folded" } else { "inside" }
     }
 
     /// The type with a parameter of this module.

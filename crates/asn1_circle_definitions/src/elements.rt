@@ -35,8 +35,12 @@ fn list_lemma<'a>(
     let list = list.as_str();
     let bound = circle.value_term(alloc, held, index, "Knot")?;
     let bound = bound.as_str();
-    let inner = element_place(alloc, place, kind, list, bound)?;
-    let lemma = list_text(alloc, place, &inner, held, index, kind, list, bound)?;
+    let written = circle.value_term(alloc, held, index, circle.carrier())?;
+    let written = written.as_str();
+    let inner = element_place(alloc, place, kind, list, bound, written)?;
+    let lemma = list_text(
+        alloc, place, &inner, held, index, kind, list, bound, written,
+    )?;
     let subject = Subject::Element(held, index.saturating_add(1));
     tasks.push(Task {
         place: inner,
@@ -55,6 +59,7 @@ fn list_text(
     kind: ListKind,
     list: &str,
     bound: &str,
+    list_type: &str,
 ) -> Result<String, AllocError> {
     let next = index.saturating_add(1);
     let written = meaning_term(alloc, held, next, "already")?;
@@ -63,7 +68,7 @@ fn list_text(
     let all = all.as_str();
     let elements = elements_of(alloc, kind, list)?;
     let elements = elements.as_str();
-    let each = each_records(alloc, kind, written)?;
+    let each = each_records(alloc, kind, written, list_type)?;
     let found = found_at(alloc, place, each.as_str(), list)?;
     let found = found.as_str();
     let name = place.name.as_str();
@@ -80,27 +85,34 @@ fn list_text(
     )
 }
 
-// The records of each element of a list.
-fn each_records(alloc: Global, kind: ListKind, records: &str) -> Result<String, AllocError> {
+// The records of each element of a list of this type.
+fn each_records(
+    alloc: Global,
+    kind: ListKind,
+    records: &str,
+    list_type: &str,
+) -> Result<String, AllocError> {
     match kind {
         ListKind::SequenceOf => {
-            format!(in alloc; "(λ l. flat_map (own_records {records}) l.items)")
+            format!(in alloc; "(λ (l : {list_type}). flat_map (own_records {records}) l.items)")
         }
         ListKind::SetOf => format!(in alloc; "(flat_map (own_records {records}))"),
     }
 }
 
-// The place of an element of a list with this name and type.
+// The place of an element of a list with this name and type, which is of the other type where it was written.
 fn element_place(
     alloc: Global,
     place: &Place,
     kind: ListKind,
     list: &str,
     bound: &str,
+    written: &str,
 ) -> Result<Place, AllocError> {
     let front = format!(in alloc; "(with_one {list} ")?;
+    let opening = format!(in alloc; "(λ (l : {written}). of_first (")?;
     let texts = match kind {
-        ListKind::SequenceOf => [front.as_str(), ")", "(λ l. of_first (", ") l.items)"],
+        ListKind::SequenceOf => [front.as_str(), ")", opening.as_str(), ") l.items)"],
         ListKind::SetOf => ["(", " ∷ [])", "(of_first (", "))"],
     };
     let inner = around(alloc, place, Some(bound), texts)?;
@@ -182,7 +194,7 @@ fn inner_list_equation<'a>(
     let depth = place.depth;
     let value = format!(in alloc; "v{depth}")?;
     let value = value.as_str();
-    let step = list_step(alloc, tasks, inner, held, index, value)?;
+    let step = list_step(alloc, tasks, circle, inner, held, index, value)?;
     let step = step.as_str();
     let name = place.name.as_str();
     let arguments = place.arguments.as_str();

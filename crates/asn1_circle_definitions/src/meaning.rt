@@ -2,7 +2,7 @@
 use crate::circle::Circle;
 use crate::depths::{OF_TYPE, VALID};
 use crate::lists::{all_type_uses, definition_uses, variant_name};
-use crate::terms::{definitions_file, spaced};
+use crate::terms::{definitions_file, spaced, validity_words};
 use crate::{depths, records};
 use asn1_rust_components::{ChoiceType, TypeBody, TypeFile};
 use std::alloc::{AllocError, Global};
@@ -40,7 +40,26 @@ fn meaning_uses(alloc: Global, circle: Circle<'_>, text: &str) -> Result<String,
     let knot = knot.as_str();
     let types = all_type_uses(alloc, circle)?;
     let types = types.as_str();
-    format!(in alloc; "{lists}{knot}{types}")
+    let valid = valid_uses(alloc, circle, text)?;
+    let valid = valid.as_str();
+    format!(in alloc; "{lists}{valid}{knot}{types}")
+}
+
+// The line that brings in the lemma that values are valid, if they are.
+fn valid_uses(alloc: Global, circle: Circle<'_>, text: &str) -> Result<String, AllocError> {
+    match circle.body() {
+        Some(body) if circle.are_valid => {
+            let crate_name = circle.crate_name;
+            let words = validity_words(alloc, crate_name, text)?;
+            let words = words.as_str();
+            let name = circle.name;
+            let module = body.module.as_str();
+            format!(in alloc;
+                "{words}use Rattle.{crate_name}.specs.{name}Validity.{{{module}_is_valid}}\n"
+            )
+        }
+        _ => Ok(String::new(alloc)),
+    }
 }
 
 // The line that brings in the knot.
@@ -120,10 +139,68 @@ fn inside_definitions(
     let asn1_name = circle.asn1_name;
     let word = knot_word(circle);
     let lists = list_arguments(circle);
+    let carrier = circle.carrier();
+    let writer = circle.writer();
+    let written = written_definitions(alloc, circle, body)?;
+    let written = written.as_str();
     format!(in alloc;
         "-- the value in the box
 abbrev pub in_knot : Knot → {type_name} Knot
 in_knot v = (out-Knot v).0.value
+
+{written}abbrev pub knot : KnotOf Knot {type_name}
+knot = {word}_knot (codes \"{asn1_name}\") {lists} in_knot inside
+
+-- a value inside another
+abbrev pub within : Meaning Knot
+within = inner knot
+
+-- a whole value, with these in place of those inside it
+abbrev mapped : Knot-F Knot → {type_name} Knot → {type_name} {carrier}
+mapped f v = (map-Knot Knot {carrier} {writer} (record f {{ 0 = record f.0 {{ value = v }} }})).0.value
+
+"
+    )
+}
+
+// The records inside a value, by those that have been written of the values in it.
+fn written_definitions(
+    alloc: Global,
+    circle: Circle<'_>,
+    body: &TypeFile,
+) -> Result<String, AllocError> {
+    let asn1_name = circle.asn1_name;
+    let word = knot_word(circle);
+    let lists = list_arguments(circle);
+    if circle.are_valid {
+        let module = body.module.as_str();
+        let body_name = body.plain_name();
+        format!(in alloc;
+            "-- a value inside another, by its records alone
+abbrev already : Meaning ValidRecords
+already = written_valid ({word}_itself (codes \"{asn1_name}\") {lists})
+
+-- the meaning of the content of a value, by these
+abbrev content : {body_name} ValidRecords → ValueMeaning
+content = ({word}_knot (codes \"{asn1_name}\") {lists} in_knot (λ _. [])).content ValidRecords already
+
+-- the records inside a value, which are well formed
+abbrev write : Knot-F ValidRecords → ValidRecords
+write f = valid_records (content f.0.value) (λ accepts. {module}_is_valid already (λ a rs. rs.well_formed a) accepts f.0.value)
+
+abbrev pub folded : Knot → ValidRecords
+folded = fold-Knot ValidRecords write
+
+abbrev pub inside : Knot → List Record
+inside v = (folded v).records
+
+"
+        )
+    } else {
+        format!(in alloc;
+            "-- a value inside another, by its records alone
+abbrev already : Meaning (List Record)
+already = written ({word}_itself (codes \"{asn1_name}\") {lists})
 
 -- the records inside a value
 abbrev write : Knot-F (List Record) → List Record
@@ -132,22 +209,9 @@ write f = write_{word} (codes \"{asn1_name}\") {lists} f.0.value
 abbrev pub inside : Knot → List Record
 inside = fold-Knot (List Record) write
 
-abbrev pub knot : KnotOf Knot {type_name}
-knot = {word}_knot (codes \"{asn1_name}\") {lists} in_knot inside
-
--- a value inside another: as it means by itself, and where it has been written
-abbrev pub within : Meaning Knot
-within = inner knot
-
-abbrev already : Meaning (List Record)
-already = written ({word}_itself (codes \"{asn1_name}\") {lists})
-
--- a whole value, where those inside it have been written
-abbrev mapped : Knot-F Knot → {type_name} Knot → {type_name} (List Record)
-mapped f v = (map-Knot Knot (List Record) inside (record f {{ 0 = record f.0 {{ value = v }} }})).0.value
-
 "
-    )
+        )
+    }
 }
 
 // The word for the kind of a knot.
@@ -186,12 +250,19 @@ fn own_meaning(alloc: Global, circle: Circle<'_>, body: &TypeFile) -> Result<Str
     let (meaning, made, same) = meaning_words(circle);
     let unrolled = unrolled_equations(alloc, body)?;
     let unrolled = unrolled.as_str();
+    let written = if circle.are_valid {
+        "ap (λ rs. rs.records) (fold_out-Knot ValidRecords write v)"
+    } else {
+        "fold_out-Knot (List Record) write v"
+    };
+    let valid = valid_lemma(alloc, circle, body)?;
+    let valid = valid.as_str();
     format!(in alloc;
         "pub laws : KnotLaws knot
 laws = record {{
   of_type = {module}_of_type;
   valid_inside = {module}_valid;
-  records = λ v. fold_out-Knot (List Record) write v ∙ same_records (out-Knot v) (out-Knot v).0.value;
+  records = λ v. {written} ∙ same_records (out-Knot v) (out-Knot v).0.value;
 }}
 
 -- The meaning of the type.
@@ -203,6 +274,21 @@ unrolled : (v : {type_name} Knot) → MeansTheSame (knot.content Knot within v) 
 -- It is the meaning of what a value is made of.
 pub is_made : IsMadeOf in_knot meaning ({module}_meaning meaning)
 is_made = {made} (codes \"{asn1_name}\") {lists} in_knot inside laws {same} unrolled
+{valid}"
+    )
+}
+
+// The lemma that each value is valid, if that is so.
+fn valid_lemma(alloc: Global, circle: Circle<'_>, body: &TypeFile) -> Result<String, AllocError> {
+    if !circle.are_valid {
+        return Ok(String::new(alloc));
+    }
+    let module = body.module.as_str();
+    format!(in alloc;
+        "
+-- Each value is valid.
+pub each_is_valid : EachIsValid meaning
+each_is_valid accepts v n = all_valid knot (λ _ _ _ h. h) (λ a w. (folded w).well_formed a) (λ m. {module}_is_valid m) n accepts v
 "
     )
 }

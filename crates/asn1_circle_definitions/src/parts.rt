@@ -81,6 +81,12 @@ pub(crate) fn part_name<'p>(parts: &'p [Part<'_>], definition: &TypeName) -> Opt
 /// The file with the names for the meanings of the types in a circle that hold no type of it.
 pub fn parts_file(alloc: Global, circle: Circle<'_>) -> Result<String, AllocError> {
     let parts = parts_of(alloc, circle)?;
+    let name = circle.name;
+    if parts.is_empty() {
+        return format!(in alloc;
+            "//! There is no type in the circle of `{name}` that holds no type of it.\n"
+        );
+    }
     let mut draft = Draft::new(alloc);
     draft.use_foreign("asn1_circles", "Meant")?;
     draft.use_names(&["AsnType"])?;
@@ -90,7 +96,6 @@ pub fn parts_file(alloc: Global, circle: Circle<'_>) -> Result<String, AllocErro
         }
         append_part(&mut draft, part)?;
     }
-    let name = circle.name;
     let mut page = Vec::new(alloc);
     page.push(format!(in alloc; "The types in the circle of `{name}` that hold no type of it.")?)?;
     draft.into_file(page.as_slice())

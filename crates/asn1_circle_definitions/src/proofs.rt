@@ -34,7 +34,7 @@ fn sequence_tags_text(
 ) -> Result<String, AllocError> {
     let comment = tags_comment(alloc, circle)?;
     let uses = sequence_uses(alloc, circle, body)?;
-    let text = well_tagged(alloc, body, "rules")?;
+    let text = well_tagged(alloc, circle, body, "")?;
     definitions_file(alloc, comment.as_str(), uses.as_str(), text.as_str())
 }
 
@@ -45,16 +45,62 @@ fn tags_comment(alloc: Global, circle: Circle<'_>) -> Result<String, AllocError>
 }
 
 // The proofs that a knot is well tagged, by this list, and what it is made of.
-fn well_tagged(alloc: Global, body: &TypeFile, list: &str) -> Result<String, AllocError> {
+fn well_tagged(
+    alloc: Global,
+    circle: Circle<'_>,
+    body: &TypeFile,
+    lemma: &str,
+) -> Result<String, AllocError> {
     let module = body.module.as_str();
+    let others = other_lemmas(alloc, circle)?;
+    let others = others.as_str();
+    let lemmas = if lemma.is_empty() && others.is_empty() {
+        String::from_str(alloc, "rules")?
+    } else {
+        format!(in alloc; "(rules{lemma}{others})")?
+    };
+    let lemmas = lemmas.as_str();
     format!(in alloc;
         "pub knot_can : IsWellTagged meaning
-knot_can = search {list}
+knot_can = search {lemmas}
 
 pub body_can : IsWellTagged ({module}_meaning meaning)
-body_can = search (rules, knot_can)
+body_can = search (rules, knot_can{others})
 "
     )
+}
+
+// The lemmas on types that hold themselves in a circle, a comma in front of each.
+fn other_lemmas(alloc: Global, circle: Circle<'_>) -> Result<String, AllocError> {
+    let mut text = String::new(alloc);
+    for file in circle.members {
+        for knot in &file.knots {
+            let knot = knot.as_str();
+            let lemma = format!(in alloc; ", {knot}_can")?;
+            if text.split_once(lemma.as_str()).is_none() {
+                text.push_str(lemma.as_str())?;
+            }
+        }
+    }
+    Ok(text)
+}
+
+// The lines that bring these in.
+fn other_uses(alloc: Global, circle: Circle<'_>) -> Result<String, AllocError> {
+    let crate_name = circle.crate_name;
+    let mut text = String::new(alloc);
+    for file in circle.members {
+        for knot in &file.knots {
+            let knot = knot.as_str();
+            let line = format!(in alloc;
+                "use Rattle.{crate_name}.proofs.{knot}Tags.{{knot_can as {knot}_can}}\n"
+            )?;
+            if text.split_once(line.as_str()).is_none() {
+                text.push_str(line.as_str())?;
+            }
+        }
+    }
+    Ok(text)
 }
 
 // The proofs for a CHOICE: the records of each value begin with a tag of its trees.
@@ -66,7 +112,7 @@ fn choice_tags(
 ) -> Result<String, AllocError> {
     let equations = beginnings(alloc, body, choice)?;
     let equations = equations.as_str();
-    let tagged = well_tagged(alloc, body, "(rules, each_begins)")?;
+    let tagged = well_tagged(alloc, circle, body, ", each_begins")?;
     let tagged = tagged.as_str();
     let asn1_name = circle.asn1_name;
     let type_name = body.plain_name();
@@ -105,11 +151,13 @@ fn choice_uses(alloc: Global, circle: Circle<'_>, body: &TypeFile) -> Result<Str
     let body_module = body.module.as_str();
     let types = type_uses(alloc, circle, body)?;
     let types = types.as_str();
+    let others = other_uses(alloc, circle)?;
+    let others = others.as_str();
     format!(in alloc;
         "use Rattle.{crate_name}.specs.{name}Lists.{{{body_module}_alternatives, {body_module}_meaning, {body_module}_pick}}
 use Rattle.{crate_name}.specs.{name}Meaning.{{alternatives, inside, laws, meaning, pick, within}}
 use Rattle.{crate_name}.specs.declared.{module}.{name}.{{{name} as Knot, out-{name} as out-Knot}}
-{types}"
+{types}{others}"
     )
 }
 
@@ -118,10 +166,12 @@ fn sequence_uses(alloc: Global, circle: Circle<'_>, body: &TypeFile) -> Result<S
     let crate_name = circle.crate_name;
     let name = circle.name;
     let body_module = body.module.as_str();
+    let others = other_uses(alloc, circle)?;
+    let others = others.as_str();
     format!(in alloc;
         "use Rattle.{crate_name}.specs.{name}Lists.{{{body_module}_meaning}}
 use Rattle.{crate_name}.specs.{name}Meaning.{{meaning}}
-"
+{others}"
     )
 }
 
@@ -142,6 +192,47 @@ returns g t c =
     let v = c.args.self.now in
     writes_made g.E.Encoder.writer c.args.encoder.now _ c.encode_with_tag_and_constraints.result
     (is_made.records v c.args.tag (constraint_set c.args.constraints.now) (name_of c.args.name)) (is_made.of_type_back v) (rw c.deref.ensures at c.encode_with_tag_and_constraints.ensures)
+"
+    )
+}
+
+/// The answer for the theorem that each value of a knot is valid, or that one means what it is made of, under this name.
+pub fn validity_answer(alloc: Global, circle: Circle<'_>, law: &str) -> Result<String, AllocError> {
+    let lemma = if circle.are_valid {
+        "each_is_valid"
+    } else {
+        "is_made"
+    };
+    let crate_name = circle.crate_name;
+    let name = circle.name;
+    let module = circle.module;
+    format!(in alloc;
+        "use Rattle.{crate_name}.specs.{name}Meaning.{{{lemma}}}
+use Rattle.{crate_name}.proofs.{module}.{law}.Goals as goal
+
+pub returns : goal.returns
+returns c = {lemma}
+"
+    )
+}
+
+/// The answer for the theorem that each value of another type of a circle is valid.
+pub fn member_validity_answer(
+    alloc: Global,
+    circle: Circle<'_>,
+    member: &TypeFile,
+) -> Result<String, AllocError> {
+    let crate_name = circle.crate_name;
+    let name = circle.name;
+    let module = circle.module;
+    let own = member.module.as_str();
+    format!(in alloc;
+        "use Rattle.{crate_name}.specs.{name}Meaning.{{each_is_valid, meaning}}
+use Rattle.{crate_name}.specs.{name}Validity.{{{own}_is_valid}}
+use Rattle.{crate_name}.proofs.{module}.each_{own}_is_valid.Goals as goal
+
+pub returns : goal.returns
+returns c = {own}_is_valid meaning each_is_valid
 "
     )
 }

@@ -137,11 +137,12 @@ fn finder_of(
 ) -> Result<String, AllocError> {
     let own = variant_name(alloc, file, alternative.variant.as_str())?;
     let own = own.as_str();
-    let value = circle.value_term(alloc, held, 0, "(List Record)")?;
+    let carrier = circle.carrier();
+    let value = circle.value_term(alloc, held, 0, carrier)?;
     let value = value.as_str();
     let type_name = file.plain_name();
     format!(in alloc;
-        "abbrev of-{own} : ({value} → List Record) → {type_name} (List Record) → List Record
+        "abbrev of-{own} : ({value} → List Record) → {type_name} {carrier} → List Record
 of-{own} g ({own} v) = g v
 of-{own} g _ = []
 
@@ -160,8 +161,20 @@ fn whole_lemma<'a>(
     let cases = cases(alloc, tasks, circle, &place, body)?;
     let cases = cases.as_str();
     let name = body.plain_name();
+    let carrier = circle.carrier();
+    let writer = circle.writer();
+    let whole = format!(in alloc;
+        "write (map-Knot Knot {carrier} {writer} (record f {{ 0 = record f.0 {{ value = v }} }}))"
+    )?;
+    let whole = whole.as_str();
+    let written = if circle.are_valid {
+        format!(in alloc; "({whole}).records")?
+    } else {
+        String::from_str(alloc, whole)?
+    };
+    let written = written.as_str();
     format!(in alloc;
-        "same_records : (f : Knot-F Knot) (v : {name} Knot) → write (map-Knot Knot (List Record) inside (record f {{ 0 = record f.0 {{ value = v }} }})) ≡ (knot.content Knot within v).records
+        "same_records : (f : Knot-F Knot) (v : {name} Knot) → {written} ≡ (knot.content Knot within v).records
 {cases}
 "
     )
@@ -304,7 +317,7 @@ fn sequence_steps<'a>(
     let depth = place.depth;
     let value = format!(in alloc; "v{depth}")?;
     let value = value.as_str();
-    let waiting = required_parts(alloc, &inner, components, value)?;
+    let waiting = required_parts(alloc, circle, &inner, file, components, value)?;
     let steps = option_steps(alloc, tasks, &inner, file, components, value)?;
     all_steps(alloc, tasks, circle, steps, waiting)
 }
@@ -369,11 +382,11 @@ fn add_part<'a>(
     let value = value.as_str();
     if held.lists.is_empty() {
         match member_of(circle, held) {
-            Some(file) => add_member(alloc, tasks, steps, waiting, place, file, value),
+            Some(file) => add_member(alloc, tasks, circle, steps, waiting, place, file, value),
             None => Ok(()),
         }
     } else {
-        let step = list_step(alloc, tasks, place, held, 0, value)?;
+        let step = list_step(alloc, tasks, circle, place, held, 0, value)?;
         steps.push(step)?;
         Ok(())
     }
@@ -392,6 +405,7 @@ pub(crate) fn member_of<'a>(circle: Circle<'a>, held: &Held) -> Option<&'a TypeF
 fn add_member<'a>(
     alloc: Global,
     tasks: &mut Vec<Task<'a>>,
+    circle: Circle<'a>,
     steps: &mut Vec<String>,
     waiting: &mut Vec<Part<'a>>,
     place: Place,
@@ -407,7 +421,7 @@ fn add_member<'a>(
         TypeBody::Sequence(body) => {
             let components = body.components.as_slice();
             let own = option_steps(alloc, tasks, &place, file, components, value)?;
-            let parts = required_parts(alloc, &place, components, value)?;
+            let parts = required_parts(alloc, circle, &place, file, components, value)?;
             append_steps(steps, own)?;
             append_parts(waiting, parts)
         }
@@ -512,14 +526,16 @@ fn option_step<'a>(
 // The components that are always there, of a value at a place.
 fn required_parts<'a>(
     alloc: Global,
+    circle: Circle<'a>,
     place: &Place,
+    file: &TypeFile,
     components: &'a [Component],
     value: &str,
 ) -> Result<Vec<Part<'a>>, AllocError> {
     let mut parts: Vec<Part<'a>> = Vec::new(alloc);
     for component in components {
         if let Some(held) = required_held(component) {
-            let part = required_part(alloc, place, component, held, value)?;
+            let part = required_part(alloc, circle, place, file, component, held, value)?;
             parts.push(part)?;
         }
     }
@@ -529,7 +545,9 @@ fn required_parts<'a>(
 // A component that is always there, of a value at a place.
 fn required_part<'a>(
     alloc: Global,
+    circle: Circle<'a>,
     place: &Place,
+    file: &TypeFile,
     component: &Component,
     held: &'a Held,
     value: &str,
@@ -537,8 +555,14 @@ fn required_part<'a>(
     let field = field_term(alloc, component.field.as_str())?;
     let field = field.as_str();
     let front = format!(in alloc; "(record {value} {{ {field} = ")?;
+    let found_front = typed_front(alloc, circle, file)?;
     let found_back = format!(in alloc; " x.{field})")?;
-    let texts = [front.as_str(), " })", "(λ x. ", found_back.as_str()];
+    let texts = [
+        front.as_str(),
+        " })",
+        found_front.as_str(),
+        found_back.as_str(),
+    ];
     let inner = around(alloc, place, None, texts)?;
     let inner = named(alloc, inner, component.field.as_str())?;
     let own = format!(in alloc; "{value}.{field}")?;
@@ -549,10 +573,18 @@ fn required_part<'a>(
     })
 }
 
+// The front of a function of a value of a type that was written.
+fn typed_front(alloc: Global, circle: Circle<'_>, file: &TypeFile) -> Result<String, AllocError> {
+    let name = file.plain_name();
+    let carrier = circle.carrier();
+    format!(in alloc; "(λ (x : {name} {carrier}). ")
+}
+
 /// The rewriting for a list at a place: that of its elements, or its lemma.
 pub(crate) fn list_step<'a>(
     alloc: Global,
     tasks: &mut Vec<Task<'a>>,
+    circle: Circle<'a>,
     place: Place,
     held: &'a Held,
     index: usize,
@@ -562,7 +594,8 @@ pub(crate) fn list_step<'a>(
         Some(kind) if is_innermost(held, index) => {
             let elements = elements_of(alloc, kind, value)?;
             let elements = elements.as_str();
-            format!(in alloc; "flat_map-map (own_records already) inside {elements}")
+            let writer = circle.writer();
+            format!(in alloc; "flat_map-map (own_records already) {writer} {elements}")
         }
         _ => elements_step(alloc, tasks, place, held, index, value),
     }
@@ -638,7 +671,7 @@ fn option_lemma<'a>(
     let bound = bound.as_str();
     let statement = option_statement(alloc, place, option)?;
     let statement = statement.as_str();
-    let part = option_part(alloc, place, option, bound)?;
+    let part = option_part(alloc, circle, place, option, bound)?;
     let steps = part_steps(alloc, tasks, circle, part)?;
     let proof = rewritten(alloc, steps.as_slice())?;
     let proof = proof.as_str();
@@ -677,6 +710,7 @@ fn option_statement(
 // The value of a component that may be absent, where it is there.
 fn option_part<'a>(
     alloc: Global,
+    circle: Circle<'a>,
     place: &Place,
     option: OptionSubject<'a, '_>,
     bound: &str,
@@ -685,11 +719,14 @@ fn option_part<'a>(
     let field = field.as_str();
     let value = option.value;
     let front = format!(in alloc; "(record {value} {{ {field} = Some ")?;
+    let opening = typed_front(alloc, circle, option.file)?;
+    let opening = opening.as_str();
+    let found_front = format!(in alloc; "{opening}of_some (")?;
     let found_back = format!(in alloc; ") x.{field})")?;
     let texts = [
         front.as_str(),
         " })",
-        "(λ x. of_some (",
+        found_front.as_str(),
         found_back.as_str(),
     ];
     let inner = around(alloc, place, Some(bound), texts)?;
@@ -710,7 +747,7 @@ fn choice_lemma<'a>(
     place: &Place,
     file: &'a TypeFile,
 ) -> Result<String, AllocError> {
-    let statement = choice_statement(alloc, place, file)?;
+    let statement = choice_statement(alloc, circle, place, file)?;
     let statement = statement.as_str();
     let equations = cases(alloc, tasks, circle, place, file)?;
     let equations = equations.as_str();
@@ -718,14 +755,18 @@ fn choice_lemma<'a>(
 }
 
 // Its statement.
-fn choice_statement(alloc: Global, place: &Place, file: &TypeFile) -> Result<String, AllocError> {
-    let module = file.module.as_str();
+fn choice_statement(
+    alloc: Global,
+    circle: Circle<'_>,
+    place: &Place,
+    file: &TypeFile,
+) -> Result<String, AllocError> {
     let type_name = file.plain_name();
     let depth = place.depth;
     let value = format!(in alloc; "v{depth}")?;
     let value = value.as_str();
-    let written = chosen_records(alloc, module, "already")?;
-    let all = chosen_records(alloc, module, "within")?;
+    let written = chosen_records(alloc, file, circle.carrier(), "already")?;
+    let all = chosen_records(alloc, file, "Knot", "within")?;
     let all = all.as_str();
     let found = found_at(alloc, place, written.as_str(), value)?;
     let found = found.as_str();
@@ -734,9 +775,16 @@ fn choice_statement(alloc: Global, place: &Place, file: &TypeFile) -> Result<Str
     format!(in alloc; "{name} : {binders} ({value} : {type_name} Knot) → {found} ≡ {all} {value}\n")
 }
 
-// The records of the chosen alternative, by the meaning inside.
-fn chosen_records(alloc: Global, module: &str, meaning: &str) -> Result<String, AllocError> {
+// The records of the chosen alternative of a value with these in it, by the meaning inside.
+fn chosen_records(
+    alloc: Global,
+    file: &TypeFile,
+    inner: &str,
+    meaning: &str,
+) -> Result<String, AllocError> {
+    let module = file.module.as_str();
+    let type_name = file.plain_name();
     format!(in alloc;
-        "(λ c. (chosen_meaning (all_of ({module}_alternatives {meaning})) ({module}_pick {meaning} c)).records)"
+        "(λ (c : {type_name} {inner}). (chosen_meaning (all_of ({module}_alternatives {meaning})) ({module}_pick {meaning} c)).records)"
     )
 }

@@ -10,6 +10,7 @@ const PRELUDE: &[(&str, &str)] = &[
     ("∷", "◌∷◌"),
     ("ℕ", "ℕ"),
     ("⊤", "⊤"),
+    ("All", "All"),
     ("Bool", "Bool"),
     ("List", "List"),
     ("Option", "Option"),
@@ -18,6 +19,7 @@ const PRELUDE: &[(&str, &str)] = &[
     ("Result", "Result"),
     ("codes", "codes"),
     ("flat_map", "flat_map"),
+    ("get_or", "get_or"),
     ("pos", "pos"),
     ("false", "false"),
     ("true", "true"),
@@ -27,6 +29,7 @@ const PRELUDE: &[(&str, &str)] = &[
 /// The words of proofs, likewise.
 const COMMON: &[(&str, &str)] = &[
     ("∙", "◌∙◌"),
+    ("ap", "ap"),
     ("arith", "arith"),
     ("rules", "rules"),
     ("subst", "subst"),
@@ -115,6 +118,17 @@ const WORDS: &[&str] = &[
     "written",
 ];
 
+/// The words of the file on valid values.
+const VALIDITY: &[&str] = &[
+    "EachIsValid",
+    "ValidRecords",
+    "ValueMeaning",
+    "all_valid",
+    "if_some_all",
+    "valid_records",
+    "written_valid",
+];
+
 /// The words that no name in a definition can be, unless it is quoted.
 const QUOTED: &[&str] = &[
     "abbrev",
@@ -175,6 +189,18 @@ fn word_lines(alloc: Global, text: &str) -> Result<String, AllocError> {
     let words = use_line(alloc, "Rattle.asn1_circles.specs.Words", words.as_slice())?;
     let words = words.as_str();
     format!(in alloc; "{prelude}{common}{words}")
+}
+
+/// The line that brings in the words on valid values that a text needs.
+pub(crate) fn validity_words(
+    alloc: Global,
+    crate_name: &str,
+    text: &str,
+) -> Result<String, AllocError> {
+    let spaced = spaced(alloc, text)?;
+    let words = names_in(alloc, spaced.as_str(), VALIDITY)?;
+    let module = format!(in alloc; "Rattle.{crate_name}.specs.Validity")?;
+    use_line(alloc, module.as_str(), words.as_slice())
 }
 
 // Those of these names that are in a spaced text.

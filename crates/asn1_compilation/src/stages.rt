@@ -15,10 +15,12 @@ use crate::left_out::LeftOut;
 use crate::message::{Message, messages_of};
 use crate::problems::syntax_problems;
 use asn1_grammar::{AssociatedModule, Parsed, associated_modules, parse};
-use asn1_module_check::{check_extensible_choices, check_tags};
-use asn1_modules::Source;
+use asn1_module_check::{check_constructed, check_extensible_choices, check_tags, list_type};
+use asn1_modules::{Source, collect_names};
+use asn1_objects::objects_of;
 use asn1_print::{Extern, Printed, Request, print_crate, print_program};
 use asn1_resolved::{Problem, Schema, Severity};
+use asn1_resolved_tables::Table;
 use asn1_resolver::{Resolution, resolve};
 use std::alloc::{AllocError, Global};
 
@@ -33,7 +35,9 @@ pub fn compile(alloc: Global, job: Job<'_>) -> Result<Compiled, AllocError>
     let parsed = parse_all(alloc, job.inputs)?;
     let associated = associated_modules(alloc, parsed.as_slice())?;
     let sources = sources_of(alloc, job.inputs, parsed.as_slice(), associated.as_slice())?;
-    let resolution = resolve(alloc, sources.as_slice())?;
+    let names = collect_names(alloc, sources.as_slice())?;
+    let objects = objects_of(alloc, sources.as_slice(), &names)?;
+    let resolution = resolve(alloc, sources.as_slice(), &objects)?;
     let problems = syntax_problems(alloc, job.inputs, parsed.as_slice())?;
     if problems.is_empty() {
         compile_resolved(alloc, job, sources.as_slice(), resolution)
@@ -86,6 +90,7 @@ fn further_errors<'a>(
         job,
         sources,
         &resolution.schema,
+        &resolution.tables,
         Vec::new(alloc),
     )?;
     let doubtful = Doubtful::of(alloc, sources, &resolution.names, &resolution.problems)?;
@@ -150,10 +155,11 @@ fn compile_resolved<'a>(
     }
     let Resolution {
         schema,
+        tables,
         problems,
         ..
     } = resolution;
-    compile_schema(alloc, job, sources, &schema, problems)
+    compile_schema(alloc, job, sources, &schema, &tables, problems)
 }
 
 // The messages for resolved modules with an error, and for what else is wrong with them.
@@ -185,6 +191,7 @@ fn compile_schema<'a>(
     job: Job<'_>,
     sources: &[Source<'a>],
     schema: &Schema<'a>,
+    tables: &[Table<'a>],
     problems: Vec<Problem>,
 ) -> Result<Compiled, AllocError>
     ensures complete { IfOk result (λ compiled.
@@ -192,7 +199,7 @@ fn compile_schema<'a>(
     ensures distinct { IfOk result (λ compiled. IsTrue (is_some compiled.files) →
         All (IsFreeOfClashes schema.now) (types_of schema.now)) }
 {
-    let printed = print_checked(alloc, job, sources, schema, problems)?;
+    let printed = print_checked(alloc, job, sources, schema, tables, problems)?;
     let messages = schema_messages(alloc, job, schema, printed.problems.as_slice())?;
     Ok(Compiled::new(messages, printed.files))
 }
@@ -203,6 +210,7 @@ fn print_checked<'a>(
     job: Job<'_>,
     sources: &[Source<'a>],
     schema: &Schema<'a>,
+    tables: &[Table<'a>],
     problems: Vec<Problem>,
 ) -> Result<Printed, AllocError>
     ensures { IfOk result (λ printed. IsTrue (resolved.accepts printed.problems.items) →
@@ -210,7 +218,7 @@ fn print_checked<'a>(
 {
     let mut problems = problems;
     problems.append(&mut check_tags(alloc, schema)?)?;
-    let mut printed = print_schema(alloc, job, sources, schema)?;
+    let mut printed = print_schema(alloc, job, sources, schema, tables)?;
     problems.append(&mut printed.problems)?;
     Ok(Printed {
         files: printed.files,
@@ -234,23 +242,42 @@ fn schema_messages(
     Ok(messages)
 }
 
-// Prints the files of a schema. Its problems have the SETs that no tag check refuses.
+// Prints the files of a schema. Its problems have the SETs that no tag check refuses, and the clashes in objects.
 fn print_schema<'a>(
     alloc: Global,
     job: Job<'_>,
     sources: &[Source<'a>],
     schema: &Schema<'a>,
+    tables: &[Table<'a>],
 ) -> Result<Printed, AllocError> {
     let known = known_types(alloc, job, schema)?;
     let mut externs = Vec::new(alloc);
     for found in &known {
         externs.push(found.as_extern())?;
     }
-    let mut printed = print_with(alloc, job, externs.as_slice(), sources, schema)?;
+    let mut printed = print_with(alloc, job, externs.as_slice(), sources, schema, tables)?;
     printed
         .problems
         .append(&mut check_extensible_choices(alloc, schema)?)?;
+    printed
+        .problems
+        .append(&mut row_clashes(alloc, schema, tables)?)?;
     Ok(printed)
+}
+
+// The components of types in objects that share a tag although X.680 forbids it.
+fn row_clashes<'a>(
+    alloc: Global,
+    schema: &Schema<'a>,
+    tables: &[Table<'a>],
+) -> Result<Vec<Problem>, AllocError> {
+    let mut list = Vec::new(alloc);
+    for table in tables {
+        for row in &table.rows {
+            list_type(alloc, &mut list, schema, &row.cell)?;
+        }
+    }
+    check_constructed(alloc, list.as_slice())
 }
 
 // Prints the files of a schema, of which these types exist already.
@@ -260,11 +287,13 @@ fn print_with<'a>(
     externs: &[Extern<'_>],
     sources: &[Source<'a>],
     schema: &Schema<'a>,
+    tables: &[Table<'a>],
 ) -> Result<Printed, AllocError> {
     let request = Request {
         crate_name: &*job.crate_name,
         sources: &*sources,
         schema: &*schema,
+        tables: &*tables,
         externs: &*externs,
     };
     let mut printed = print_crate(alloc, request)?;

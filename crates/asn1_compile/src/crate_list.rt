@@ -7,8 +7,9 @@ use std::alloc::AllocError;
 use std::fmt::Write;
 use std::fs;
 
-// The library of the types whose values are kept as their contents octets.
-const CONTENTS: &str = "asn1_contents";
+// The fronts of the names of libraries that a crate may name: that of the types whose values are kept as their contents octets, and
+// that of the values of open types.
+const LIBRARIES: &[&str] = &["asn1_contents::", "asn1_tables::"];
 
 // The library of the types that hold themselves.
 const CIRCLES: &str = "asn1_circles";
@@ -72,8 +73,10 @@ fn missing_lines<'a>(
     let mut lines = String::new(rt.alloc());
     if !is_listed(list, crate_name) {
         write!(&mut lines, "{crate_name}: asn1_schema asn1_tags")?;
-        if files.iter().any(names_contents) {
-            push_library(&mut lines, CONTENTS)?;
+        for library in LIBRARIES {
+            if files.iter().any(|file| names_library(file, library)) {
+                push_library(&mut lines, library)?;
+            }
         }
         if files.iter().any(is_definition) {
             push_library(&mut lines, CIRCLES)?;
@@ -95,9 +98,9 @@ fn missing_lines<'a>(
     Ok(lines)
 }
 
-// Whether a file names the library of the types whose values are kept as their contents octets.
-fn names_contents(file: &PrintedFile) -> bool {
-    file.text.as_str().contains("asn1_contents::")
+// Whether a file names something of a library, by the front of its names.
+fn names_library(file: &PrintedFile, front: &str) -> bool {
+    file.text.as_str().contains(front)
 }
 
 // Whether a file has definitions: a crate has them for types that hold themselves.

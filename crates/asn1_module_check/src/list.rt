@@ -29,9 +29,9 @@ pub fn list_constructed<'a>(
     Ok(list)
 }
 
-// Adds the components of a type and of those in it.
+/// Adds the components of a type and of those in it, which may be beside the schema.
 #[cycle(list_types)]
-fn list_type<'a>(
+pub fn list_type<'a>(
     alloc: Global,
     list: &mut Vec<Constructed<'a>>,
     schema: &Schema<'a>,

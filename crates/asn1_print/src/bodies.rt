@@ -30,7 +30,9 @@ fn push_source(plan: &mut Plan<'_, '_>, file: TypeFile) -> Result<(), AllocError
         push_generic(plan, file)
     } else {
         let text = type_file(plan.alloc, &file)?;
-        plan.add_source(file.module.as_str(), text)
+        plan.add_source(file.module.as_str(), text)?;
+        plan.printed.push(file)?;
+        Ok(())
     }
 }
 
@@ -52,6 +54,7 @@ fn type_file_of(
         summary: plan.text(owner.summary)?,
         body,
         lists,
+        knots: plan.copied_knots()?,
     })
 }
 

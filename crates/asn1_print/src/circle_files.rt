@@ -3,10 +3,14 @@ use crate::circles::{KnotModules, PlannedCircle};
 use crate::notation::definition_lines;
 use crate::parameters::{generic_name, require_supported};
 use crate::plan::Plan;
+use crate::printing::ordered_names;
 use crate::request::PrintedFile;
 use crate::types::Owner;
-use asn1_circle_definitions::Circle;
-use asn1_rust_circles::{circle_files, definition_modules, generic_file, proof_modules};
+use asn1_circle_definitions::{Circle, Surroundings, are_all_valid};
+use asn1_rust_circles::{
+    KnotName, circle_files, definition_modules, generic_file, proof_modules,
+    validity_definitions_file, validity_laws,
+};
 use asn1_rust_code::{Import, TypeName};
 use asn1_rust_components::{Alias, ChoiceType, Held, TypeBody, TypeFile};
 use asn1_rust_types::ProofFile;
@@ -74,6 +78,7 @@ fn knot_file_of(
         summary: plan.text(owner.summary)?,
         body: no_type(plan.alloc),
         lists: None,
+        knots: plan.copied_knots()?,
     })
 }
 
@@ -200,23 +205,29 @@ fn knot_import(plan: &Plan<'_, '_>, circle: usize) -> Result<Option<Import>, All
 pub(crate) fn add_circles(plan: &mut Plan<'_, '_>) -> Result<(), AllocError> {
     let alloc = plan.alloc;
     let circles = std::mem::replace(&mut plan.circles, Vec::new(alloc));
-    let mut names: Vec<String> = Vec::new(alloc);
+    let printed = std::mem::replace(&mut plan.printed, Vec::new(alloc));
+    let mut knots: Vec<KnotName> = Vec::new(alloc);
     for circle in circles {
-        add_circle(plan, circle, &mut names)?;
+        add_circle(plan, circle, printed.as_slice(), &mut knots)?;
     }
-    if names.is_empty() {
+    if knots.is_empty() {
         Ok(())
     } else {
-        add_modules(plan, names.as_slice())
+        add_modules(plan, knots.as_slice())
     }
 }
 
-// Adds the lists of the modules of definitions and proofs, for the knots of these names.
-fn add_modules(plan: &mut Plan<'_, '_>, names: &[String]) -> Result<(), AllocError> {
-    let definitions = definition_modules(plan.alloc, names)?;
+// Adds the lists of the modules of definitions and proofs, for these knots.
+fn add_modules(plan: &mut Plan<'_, '_>, knots: &[KnotName]) -> Result<(), AllocError> {
+    let definitions = definition_modules(plan.alloc, knots)?;
     push_text(plan, "specs/Lib.antt", definitions)?;
-    let proofs = proof_modules(plan.alloc, names)?;
-    push_text(plan, "proofs/Lib.antt", proofs)
+    let proofs = proof_modules(plan.alloc, knots)?;
+    push_text(plan, "proofs/Lib.antt", proofs)?;
+    if let Some(file) = validity_definitions_file(plan.alloc, knots)? {
+        let ProofFile { path, text } = file;
+        plan.files.push(PrintedFile { path, text })?;
+    }
+    Ok(())
 }
 
 // Adds a file.
@@ -226,11 +237,12 @@ fn push_text(plan: &mut Plan<'_, '_>, path: &str, text: String) -> Result<(), Al
     Ok(())
 }
 
-// Adds the files of a circle, and the name of its knot to these.
+// Adds the files of a circle in a crate of these types, and its knot to these.
 fn add_circle(
     plan: &mut Plan<'_, '_>,
     circle: PlannedCircle,
-    names: &mut Vec<String>,
+    printed: &[TypeFile],
+    knots: &mut Vec<KnotName>,
 ) -> Result<(), AllocError> {
     let PlannedCircle {
         knot,
@@ -247,19 +259,33 @@ fn add_circle(
         None => return Ok(()),
     };
     let members = in_order(plan.alloc, files, body.as_str())?;
-    add_circle_files(plan, &own, &modules, members.as_slice())?;
-    add_circle_modules(plan, &own, &modules)?;
-    names.push(name)?;
+    let (files, knot_name, laws) = files_of_circle(
+        plan,
+        &own,
+        &modules,
+        members.as_slice(),
+        printed,
+        name,
+    )?;
+    push_files(plan, files)?;
+    add_circle_modules(plan, &own, &modules, laws)?;
+    knots.push(knot_name)?;
     Ok(())
 }
 
-// Adds the files of a circle of these types with a parameter.
-fn add_circle_files(
-    plan: &mut Plan<'_, '_>,
+// The files of a circle of these types with a parameter, its knot, and the names of the theorems on which values are valid.
+fn files_of_circle(
+    plan: &Plan<'_, '_>,
     own: &TypeFile,
     modules: &KnotModules,
     members: &[TypeFile],
-) -> Result<(), AllocError> {
+    printed: &[TypeFile],
+    name: String,
+) -> Result<(Vec<ProofFile>, KnotName, Vec<String>), AllocError> {
+    let surroundings = Surroundings {
+        files: printed,
+        aliases: plan.aliases.as_slice(),
+    };
     let circle = Circle {
         crate_name: plan.request.crate_name,
         name: own.name.as_str(),
@@ -269,9 +295,17 @@ fn add_circle_files(
         asn1_name: own.asn1_name.as_str(),
         summary: own.summary.as_str(),
         members,
+        surroundings,
+        are_valid: false,
     };
-    let printed = circle_files(plan.alloc, circle, own)?;
-    push_files(plan, printed)
+    let are_valid = are_all_valid(plan.alloc, circle)?;
+    let circle = Circle {
+        are_valid,
+        ..circle
+    };
+    let files = circle_files(plan.alloc, circle, own)?;
+    let laws = validity_laws(plan.alloc, circle)?;
+    Ok((files, KnotName { name, are_valid }, laws))
 }
 
 /// Adds files.
@@ -291,13 +325,15 @@ fn add_circle_modules(
     plan: &mut Plan<'_, '_>,
     own: &TypeFile,
     modules: &KnotModules,
+    laws: Vec<String>,
 ) -> Result<(), AllocError> {
     let alloc = plan.alloc;
     let module = own.module.as_str();
     let tagging = format!(in alloc; "{module}_is_well_tagged")?;
-    let mut exported: Vec<String> = Vec::new(alloc);
+    let mut exported = laws;
     exported.push(plan.text(own.name.as_str())?)?;
     exported.push(tagging)?;
+    let exported = ordered_names(plan, exported)?;
     plan.add_module(module, false, exported)?;
     plan.add_module(modules.reader.as_str(), false, Vec::new(alloc))?;
     plan.add_module(modules.parts.as_str(), false, Vec::new(alloc))

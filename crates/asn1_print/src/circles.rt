@@ -276,24 +276,30 @@ fn plan_member(
 
 // Reports a definition that cannot be of a circle.
 fn require_kind(plan: &mut Plan<'_, '_>, definition: &Type<'_>) -> Result<(), AllocError> {
-    if is_kind_of_circle(definition) {
-        Ok(())
-    } else {
-        plan.error(
-            definition.place,
-            "a SET, a type under a tag, or a list of a type without a name, in a circle of types is not supported; name a type that exists by --extern NAME=crate::Type",
-        )
+    match cause_of(definition) {
+        Some(cause) => {
+            let text = format!(in plan.alloc;
+                "{cause} is not supported in a circle of types; name a type that exists by --extern NAME=crate::Type"
+            )?;
+            plan.error(definition.place, text.as_str())
+        }
+        None => Ok(()),
     }
 }
 
-// Whether a definition can be of a circle.
-fn is_kind_of_circle(definition: &Type<'_>) -> bool {
+// Why a definition cannot be of a circle, if it cannot. The components of a SET are reported themselves.
+fn cause_of(definition: &Type<'_>) -> Option<&'static str> {
     match &definition.kind {
-        TypeKind::Set(_) => false,
-        TypeKind::Tagged(tag, inner) => !tag.is_explicit && is_sequence(inner),
-        TypeKind::SequenceOf(element) => is_named_below(element),
-        TypeKind::SetOf(element) => is_named_below(element),
-        _ => true,
+        TypeKind::Tagged(tag, inner) if tag.is_explicit || !is_sequence(inner) => {
+            Some("a tag of a definition, but an implicit one of a SEQUENCE,")
+        }
+        TypeKind::SequenceOf(element) if !is_named_below(element) => {
+            Some("a list of a type without a name")
+        }
+        TypeKind::SetOf(element) if !is_named_below(element) => {
+            Some("a list of a type without a name")
+        }
+        _ => None,
     }
 }
 

@@ -63,6 +63,16 @@ pub(crate) fn built_in(range: Range) -> Option<&'static str> {
     None
 }
 
+/// Whether a number is one of the integer of the language with this name.
+pub(crate) fn is_of_integer(name: &str, number: i128) -> bool {
+    for (known, lower, upper) in INTEGERS {
+        if *known == name {
+            return *lower <= number && number <= *upper;
+        }
+    }
+    false
+}
+
 /// Whether numbers of a range are of a type with these limits.
 pub(crate) fn has_limits(range: Range) -> Option<(i128, i128)> {
     match (range.lower, range.upper) {

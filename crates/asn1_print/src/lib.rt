@@ -34,10 +34,12 @@ mod program;
 mod recursion;
 mod request;
 mod strings;
+mod tables;
 mod tags;
 mod templates;
 mod types;
 mod values;
+mod written;
 
 pub use plan::rust_name;
 pub use printing::print_crate;

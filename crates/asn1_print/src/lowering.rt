@@ -82,7 +82,7 @@ fn new_type(
     definition: &Type<'_>,
     owner: Owner<'_>,
 ) -> Result<TypeName, AllocError> {
-    if let Some(name) = plan.unnamed_type(definition.place)? {
+    if let Some(name) = made_type(plan, definition.place)? {
         return Ok(name);
     }
     let name = plan.new_name(owner.name)?;
@@ -97,6 +97,14 @@ fn new_type(
     match unnamed_generic(plan, module.as_str(), name.as_str(), owner)? {
         Some(generic) => Ok(generic),
         None => plan.keep_unnamed_type(definition.place, name, module),
+    }
+}
+
+// The type without a name at a place, if its file was made. A type of a circle has none: outside it has no parameter.
+fn made_type(plan: &Plan<'_, '_>, place: Place) -> Result<Option<TypeName>, AllocError> {
+    match plan.current_circle {
+        Some(_) => Ok(None),
+        None => plan.unnamed_type(place),
     }
 }
 

@@ -1,4 +1,5 @@
 //! The text of definitions, as comments have it.
+use crate::written::push_part;
 use asn1_modules::Source;
 use asn1_names::Place;
 use asn1_notation::{
@@ -130,6 +131,7 @@ fn push_in_assignments(
         Definition::Type(definition) => push_found(alloc, text, source, definition, start),
         Definition::Template(definition) => push_found(alloc, text, source, definition, start),
         Definition::Class(class) => push_in_class(alloc, text, source, class, start),
+        Definition::Object(_, braces) => push_part(alloc, text, source, start, braces.end),
         _ => Ok(()),
     }
 }

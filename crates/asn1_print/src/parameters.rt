@@ -242,44 +242,74 @@ pub(crate) fn require_supported(
     file: &TypeFile,
     place: Place,
 ) -> Result<(), AllocError> {
-    if is_supported(&file.body) {
-        Ok(())
-    } else {
-        plan.error(
-            place,
-            "a SET, a group of additions, a DEFAULT of a list, a tag on the elements of a list, or an alternative that is a CHOICE without a tag, in a circle of types is not supported; name a type that exists by --extern NAME=crate::Type",
-        )
+    match unsupported(&file.body) {
+        Some((name, cause)) => {
+            let text = format!(in plan.alloc;
+                "'{name}': {cause} is not supported in a circle of types; name a type that exists by --extern NAME=crate::Type"
+            )?;
+            plan.error(place, text.as_str())
+        }
+        None => Ok(()),
     }
 }
 
-// Whether a type can be of a circle.
-fn is_supported(body: &TypeBody) -> bool {
+// The first part of a type that no type of a circle can have, and what it is. A group is reported by the type that holds it.
+fn unsupported(body: &TypeBody) -> Option<(&str, &'static str)> {
     match body {
-        TypeBody::Sequence(body) => body.components.iter().all(is_supported_component),
-        TypeBody::Choice(choice) => choice.alternatives.iter().all(is_supported_alternative),
-        _ => false,
+        TypeBody::Sequence(body) => {
+            for component in &body.components {
+                if let Some(cause) = cause_of_component(component) {
+                    return Some((component.name.as_str(), cause));
+                }
+            }
+            None
+        }
+        TypeBody::Choice(choice) => {
+            for alternative in &choice.alternatives {
+                if let Some(cause) = cause_of_alternative(alternative) {
+                    return Some((alternative.name.as_str(), cause));
+                }
+            }
+            None
+        }
+        TypeBody::Set(body) => match body.components.first() {
+            Some(component) => Some((component.name.as_str(), "a component of a SET")),
+            None => None,
+        },
+        _ => None,
     }
 }
 
-// Whether a component can be in a type of a circle.
-fn is_supported_component(component: &Component) -> bool {
+// Why a component cannot be in a type of a circle, if it cannot.
+fn cause_of_component(component: &Component) -> Option<&'static str> {
+    let names_knot = names_parameter(&component.definition);
     match &component.usage {
-        Usage::Required | Usage::Optional => is_told(&component.held, &component.definition),
-        Usage::Default(_) => !names_parameter(&component.definition),
-        Usage::EmptyList(_) | Usage::Group(_) => false,
+        Usage::Required | Usage::Optional => cause_of_type(&component.held, names_knot),
+        Usage::Default(_) if names_knot => Some("a DEFAULT of a type of the circle"),
+        Usage::Default(_) => None,
+        Usage::EmptyList(_) => Some("a DEFAULT of a list"),
+        Usage::Group(_) => Some("a group of additions"),
     }
 }
 
-// Whether it is known how a type holds the parameter, if it does.
-fn is_told(held: &Option<Held>, name: &TypeName) -> bool {
-    held.is_some() || !names_parameter(name)
+// Why a type cannot be in one of a circle, if it cannot: it is not known how it holds the parameter.
+fn cause_of_type(held: &Option<Held>, names_knot: bool) -> Option<&'static str> {
+    if names_knot && held.is_none() {
+        Some("a tag on the elements of a list")
+    } else {
+        None
+    }
 }
 
-// Whether an alternative can be in a type of a circle.
-fn is_supported_alternative(alternative: &Alternative) -> bool {
-    is_leaf(&alternative.tree)
-        && is_told(&alternative.held, &alternative.definition)
-        && !(is_parameter(&alternative.held) && is_implicit(alternative.tagging))
+// Why an alternative cannot be in a type of a circle, if it cannot.
+fn cause_of_alternative(alternative: &Alternative) -> Option<&'static str> {
+    if !is_leaf(&alternative.tree) {
+        return Some("a CHOICE without a tag in another");
+    }
+    if is_parameter(&alternative.held) && is_implicit(alternative.tagging) {
+        return Some("the SEQUENCE that cuts the circle, under an implicit tag in a CHOICE,");
+    }
+    cause_of_type(&alternative.held, names_parameter(&alternative.definition))
 }
 
 // Whether a type begins with one tag.

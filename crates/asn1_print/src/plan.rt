@@ -6,7 +6,7 @@ use crate::templates::Templates;
 use asn1_names::Place;
 use asn1_resolved::{Problem, Severity, Type, TypeDefinition, TypeKind};
 use asn1_rust_code::{Import, TagNumber, TypeName, class_word, order_of};
-use asn1_rust_components::{Alias, Constant, Marker};
+use asn1_rust_components::{Alias, Constant, Marker, TypeFile};
 use asn1_rust_names::{TakenNames, camel_case, snake_case};
 use asn1_rust_types::ModuleNames;
 use std::alloc::{AllocError, Global};
@@ -43,6 +43,7 @@ const RESERVED: &[&str] = &[
     "Decoder",
     "Drop",
     "E",
+    "EachIsValid",
     "Encode",
     "EncodeChoice",
     "EncodeError",
@@ -85,9 +86,11 @@ const RESERVED: &[&str] = &[
     "PartialEq",
     "Prim",
     "PrintableString",
+    "R",
     "Rattle",
     "ReadError",
     "Result",
+    "Rules",
     "SetOf",
     "SetOfEach",
     "Size",
@@ -115,6 +118,7 @@ const MODULES: &[&str] = &[
     "asn1_circles",
     "asn1_contents",
     "asn1_schema",
+    "asn1_tables",
     "asn1_tags",
     "lib",
     "main",
@@ -165,6 +169,10 @@ pub(crate) struct Plan<'r, 'a> {
     /// The circles of the schema, and that of which a type is printed.
     pub(crate) circles: Vec<PlannedCircle>,
     pub(crate) current_circle: Option<CurrentCircle>,
+    /// The names of the types that hold themselves in the definition that is printed, but for that of its own circle.
+    pub(crate) current_knots: Vec<String>,
+    /// The types without a parameter that were printed.
+    pub(crate) printed: Vec<TypeFile>,
     // The circle of each type, with its type with a parameter.
     generics: Vec<Option<GenericType>>,
     // The names of the types with a parameter that have no name in ASN.1, by their modules.
@@ -275,6 +283,8 @@ fn empty_plan<'r, 'a>(
         problems: Vec::new(alloc),
         circles: Vec::new(alloc),
         current_circle: None,
+        current_knots: Vec::new(alloc),
+        printed: Vec::new(alloc),
         generics: Vec::new(alloc),
         unnamed_generics: Vec::new(alloc),
     }
@@ -343,6 +353,15 @@ impl Plan<'_, '_> {
     /// The circle of a type, if it is of one.
     pub(crate) fn circle_of(&self, index: usize) -> Option<usize> {
         Some(self.generic_of(index)?.circle)
+    }
+
+    /// The names of the types that hold themselves in the definition that is printed.
+    pub(crate) fn copied_knots(&self) -> Result<Vec<String>, AllocError> {
+        let mut knots = Vec::new(self.alloc);
+        for knot in &self.current_knots {
+            knots.push(self.text(knot.as_str())?)?;
+        }
+        Ok(knots)
     }
 
     /// The type at which a circle is cut.

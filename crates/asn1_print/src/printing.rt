@@ -5,8 +5,10 @@ use crate::circles::CurrentCircle;
 use crate::lowering::{FileNames, add_file, type_name};
 use crate::notation::text_of;
 use crate::plan::{Plan, has_file, plan_of};
+use crate::recursion::circles_in;
 use crate::request::{Extern, Printed, PrintedFile, Request};
 use crate::strings::{is_restricted_string, restricted_string};
+use crate::tables::add_tables;
 use crate::types::{Owner, PartTexts, tag_number, warn_of_constraints};
 use crate::values::{add_value, numbers_of, origin_text};
 use asn1_notation::Module;
@@ -25,6 +27,7 @@ pub fn print_crate(alloc: Global, request: Request<'_, '_>) -> Result<Printed, A
     for (index, definition) in request.schema.types.iter().enumerate() {
         add_definition(&mut plan, index, definition)?;
     }
+    add_tables(&mut plan)?;
     let mut names = TakenNames::new(alloc);
     for definition in &request.schema.values {
         add_value(&mut plan, definition, &mut names)?;
@@ -66,6 +69,7 @@ fn add_named(
     name: String,
     module: &str,
 ) -> Result<(), AllocError> {
+    plan.current_knots = knots_in(plan, index)?;
     let texts = definition_texts(plan, definition, name.as_str())?;
     if !has_file(&definition.definition) {
         return add_alias(plan, &definition.definition, name, texts.owner());
@@ -86,6 +90,17 @@ fn add_named(
         tag: None,
     };
     add_own_file(plan, &definition.definition, names, texts.owner())
+}
+
+// The names of the types that hold themselves in a definition, but for that of its own circle.
+fn knots_in(plan: &Plan<'_, '_>, index: usize) -> Result<Vec<String>, AllocError> {
+    let mut names = Vec::new(plan.alloc);
+    for circle in circles_in(plan, index)? {
+        if let Some(known) = plan.circles.get(circle) {
+            names.push(plan.text(known.name.as_str())?)?;
+        }
+    }
+    Ok(names)
 }
 
 // Adds a definition of a circle: a file of a type with a parameter, and the knot, or a name for this type at the knot.
@@ -266,8 +281,11 @@ fn add_other(
     plan.add_module(module, is_public, names)
 }
 
-// Names in the order of `rt fmt`.
-fn in_order(plan: &Plan<'_, '_>, names: Vec<String>) -> Result<Vec<String>, AllocError> {
+/// Names in the order of `rt fmt`.
+pub(crate) fn ordered_names(
+    plan: &Plan<'_, '_>,
+    names: Vec<String>,
+) -> Result<Vec<String>, AllocError> {
     let mut ordered: Vec<(String, String)> = Vec::new(plan.alloc);
     for name in names {
         ordered.push((order_of(plan.alloc, name.as_str())?, name))?;
@@ -295,7 +313,7 @@ fn add_aliases(plan: &mut Plan<'_, '_>) -> Result<(), AllocError> {
     }
     let page = page(plan, "Types that are other types under names of their own.")?;
     let text = alias_file(plan.alloc, page.as_slice(), plan.aliases.as_slice())?;
-    let names = in_order(plan, alias_names(plan)?)?;
+    let names = ordered_names(plan, alias_names(plan)?)?;
     add_other(plan, "aliases", text, false, names)
 }
 

@@ -93,6 +93,32 @@ fn others_than(alloc: Global, indices: &[usize], cut: usize) -> Result<Vec<usize
     Ok(others)
 }
 
+/// The circles of types in a definition, but for its own: each once.
+pub(crate) fn circles_in(plan: &Plan<'_, '_>, index: usize) -> Result<Vec<usize>, AllocError> {
+    let mut circles: Vec<usize> = Vec::new(plan.alloc);
+    if plan.circles.is_empty() {
+        return Ok(circles);
+    }
+    let references = list_references(plan)?;
+    let mut reached = flags(plan.alloc, references.len())?;
+    let mut types: Vec<usize> = Vec::new(plan.alloc);
+    walk(
+        plan.alloc,
+        references.as_slice(),
+        index,
+        &mut reached,
+        &mut types,
+    )?;
+    for other in &types {
+        if let Some(circle) = plan.circle_of(*other) {
+            if plan.circle_of(index) != Some(circle) && !circles.contains(&circle) {
+                circles.push(circle)?;
+            }
+        }
+    }
+    Ok(circles)
+}
+
 // The references of each type to types that do not exist already.
 fn list_references(plan: &Plan<'_, '_>) -> Result<Vec<Vec<usize>>, AllocError> {
     let mut list = Vec::new(plan.alloc);

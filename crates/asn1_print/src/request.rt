@@ -1,6 +1,7 @@
 //! What is asked of the printer, and what it answers.
 use asn1_modules::Source;
 use asn1_resolved::{Problem, Schema};
+use asn1_resolved_tables::Table;
 
 /// A schema to print as a crate.
 #[derive(Clone, Copy)]
@@ -11,6 +12,8 @@ pub struct Request<'r, 'a> {
     pub sources: &'r [Source<'a>],
     /// The schema of the texts.
     pub schema: &'r Schema<'a>,
+    /// The tables of the object sets that its types name.
+    pub tables: &'r [Table<'a>],
     /// Types that exist already.
     pub externs: &'r [Extern<'r>],
 }

@@ -47,7 +47,7 @@ impl<'a> Resolver<'_, 'a> {
                 self.add_constraint(constraints, bounded.with_marker(), root)
             }
             asn1_notation::ConstraintKind::Table(set, _) => {
-                self.warn_of_set(bounded.of.scope, *set)
+                self.keep_set(bounded.of.scope, *set)
             }
             _ => {
                 let resolved = self.constraint(bounded, constraint)?;

@@ -8,8 +8,8 @@ use std::collections::HashMap;
 /// The greatest depth of types with arguments.
 const MAX_DEPTH: usize = 100;
 
-/// How many of them a run may have.
-pub(crate) const MAX_INSTANCES: usize = 10_000;
+// How many of them a run may have.
+const MAX_INSTANCES: usize = 10_000;
 
 /// A template with arguments.
 #[derive(Clone, Copy)]

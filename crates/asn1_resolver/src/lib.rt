@@ -59,6 +59,7 @@ mod references;
 mod resolution;
 mod resolver;
 mod skipped;
+mod tables;
 mod tags;
 mod types;
 mod value_parts;

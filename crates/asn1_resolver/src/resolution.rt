@@ -11,14 +11,16 @@ use crate::accepted::{accepts, require_names};
 use crate::definitions::{Defined, Definitions, list_definitions};
 use crate::fault::Fault;
 use crate::governed::{Governed, Written};
-use crate::instances::MAX_INSTANCES;
+use crate::instances::Instance;
 use crate::resolver::Resolver;
 use crate::values::MAX_DEPTH;
 use asn1_modules::{Source, collect_names};
 use asn1_names::{NameProblem, Names, Place, check_names};
+use asn1_objects::Objects;
 use asn1_resolved::{
     Problem, Schema, Severity, Type, TypeDefinition, TypeKind, Value, ValueDefinition,
 };
+use asn1_resolved_tables::Table;
 use std::alloc::{AllocError, Global};
 use std::collections::HashSet;
 
@@ -27,6 +29,8 @@ use std::collections::HashSet;
 pub struct Resolution<'a> {
     /// The definitions. It is incomplete if there is an error.
     pub schema: Schema<'a>,
+    /// The tables of the object sets that types name.
+    pub tables: Vec<Table<'a>>,
     /// The problems, in the order of their places.
     pub problems: Vec<Problem>,
     /// The names that are defined, imported and used.
@@ -42,10 +46,14 @@ impl Resolution<'_> {
     }
 }
 
-/// Resolves the modules of some texts.
+/// Resolves the modules of some texts, whose objects are these.
 ///
 /// The error of this call is that of memory. Everything that is wrong with the modules is a problem.
-pub fn resolve<'a>(alloc: Global, sources: &[Source<'a>]) -> Result<Resolution<'a>, AllocError>
+pub fn resolve<'a>(
+    alloc: Global,
+    sources: &[Source<'a>],
+    objects: &'a Objects<'a>,
+) -> Result<Resolution<'a>, AllocError>
     // No module of an accepted schema has a name twice.
     ensures distinct { IfOk result (λ resolution.
         IsTrue (spec.accepts resolution.problems.items) → HasDistinctNames resolution.schema) }
@@ -69,27 +77,32 @@ pub fn resolve<'a>(alloc: Global, sources: &[Source<'a>]) -> Result<Resolution<'
 {
     let definitions = list_definitions(alloc, sources)?;
     let names = collect_names(alloc, sources)?;
-    let mut resolver = Resolver::new(alloc, &definitions, &names)?;
+    let mut resolver = Resolver::new(alloc, &definitions, &names, objects)?;
     resolver.report_modules(sources)?;
     resolver.find_homes()?;
-    let schema = resolve_schema(&mut resolver, &definitions)?;
+    let mut tables = Vec::new(alloc);
+    let schema = resolve_schema(&mut resolver, &definitions, &mut tables)?;
     resolver.report_ambiguous()?;
     resolver.report_names()?;
     resolver.report_exports(sources)?;
     resolver.report_skipped(sources)?;
+    resolver.report_objects()?;
     let mut problems = resolver.into_problems()?;
     require_names(alloc, &mut problems, &schema, &names)?;
     Ok(Resolution {
         schema,
+        tables,
         problems,
         names,
     })
 }
 
-// The types and the values. Those that complete a template are known once all others are resolved.
+// The types and the values. Those that complete a template are known once all others are resolved, and so are the tables, which
+// are added.
 fn resolve_schema<'a>(
     resolver: &mut Resolver<'_, 'a>,
     definitions: &Definitions<'a>,
+    tables: &mut Vec<Table<'a>>,
 ) -> Result<Schema<'a>, AllocError>
     ensures { IfOk result (λ schema.
         map (λ type. type.place) (take schema.defined schema.types.items) ≡
@@ -97,7 +110,7 @@ fn resolve_schema<'a>(
 {
     let types = resolve_types(resolver, definitions)?;
     let values = resolve_values(resolver, definitions)?;
-    let completed = resolver.completed_types()?;
+    let completed = resolver.completed_types(tables)?;
     join_schema(types, completed, values)
 }
 
@@ -213,8 +226,8 @@ impl<'a> Resolver<'_, 'a> {
         })
     }
 
-    // A type whose definition does not lead to itself.
-    fn checked_type(&mut self, governed: Governed<'a>) -> Result<Type<'a>, Fault> {
+    /// A type whose definition does not lead to itself.
+    pub(crate) fn checked_type(&mut self, governed: Governed<'a>) -> Result<Type<'a>, Fault> {
         self.base(governed)?;
         self.resolve_type(governed, MAX_DEPTH)
     }
@@ -248,29 +261,50 @@ impl<'a> Resolver<'_, 'a> {
         Ok(())
     }
 
-    // The types that arguments complete and no definition names, and a warning of each template that is not used.
-    fn completed_types(&mut self) -> Result<Vec<TypeDefinition<'a>>, AllocError> {
-        let mut completed = Vec::new(self.alloc);
+    // The types that arguments complete and no definition names. The tables of the object sets that types name are added: a type may
+    // ask for another table, and a table for another type. A warning tells each template that is not used.
+    fn completed_types(
+        &mut self,
+        tables: &mut Vec<Table<'a>>,
+    ) -> Result<Vec<TypeDefinition<'a>>, AllocError> {
+        let mut types = Vec::new(self.alloc);
         let mut used = HashSet::new(self.alloc);
-        for index in 0..MAX_INSTANCES {
-            let Some(instance) = self.instances.get(index) else {
+        let mut known = HashSet::new(self.alloc);
+        let mut instances = 0usize;
+        let mut sets = 0usize;
+        for _ in 0..u64::MAX {
+            if let Some(instance) = self.instances.get(instances) {
+                let template = instance.template.place;
+                used.insert((template.text, template.span.start))?;
+                self.complete_type(&mut types, instances, instance)?;
+                instances = instances.saturating_add(1);
+            } else if let Some(set) = self.used_sets.get(sets).copied() {
+                self.add_tables(tables, &mut known, set)?;
+                sets = sets.saturating_add(1);
+            } else {
                 break;
-            };
-            used.insert((
-                instance.template.place.text,
-                instance.template.place.span.start,
-            ))?;
-            if instance.home.is_none() {
-                let body = self.instances.body(index);
-                let mut definition = self.type_definition(instance.template, body)?;
-                definition.arguments = self.words_of(instance)?;
-                completed.push(definition)?;
             }
         }
         if !self.has_errors() {
             self.report_unused(&used)?;
         }
-        Ok(completed)
+        Ok(types)
+    }
+
+    // Adds the type of an instance, unless a definition is that type.
+    fn complete_type(
+        &mut self,
+        types: &mut Vec<TypeDefinition<'a>>,
+        index: usize,
+        instance: Instance<'a>,
+    ) -> Result<(), AllocError> {
+        if instance.home.is_none() {
+            let body = self.instances.body(index);
+            let mut definition = self.type_definition(instance.template, body)?;
+            definition.arguments = self.words_of(instance)?;
+            types.push(definition)?;
+        }
+        Ok(())
     }
 
     // Warns of each template that is at none of these places.

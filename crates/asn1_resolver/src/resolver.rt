@@ -4,8 +4,10 @@ use crate::definitions::Definitions;
 use crate::fault::Fault;
 use crate::finder::Finder;
 use crate::instances::Instances;
+use crate::tables::UsedSet;
 use asn1_modules::NameMessages;
 use asn1_names::{Names, Place};
+use asn1_objects::Objects;
 use asn1_resolved::{Problem, Severity};
 use std::alloc::{AllocError, Global};
 use std::collections::HashSet;
@@ -27,8 +29,14 @@ pub(crate) struct Resolver<'r, 'a> {
     pub(crate) template_finder: Finder<'a>,
     /// The types that arguments complete, as far as they were met.
     pub(crate) instances: Instances<'a>,
-    /// The object sets of which a warning tells that they are not in Rust, with their modules.
+    /// The objects and object sets.
+    pub(crate) objects: &'a Objects<'a>,
+    /// The object sets that types name, as they were met.
+    pub(crate) used_sets: Vec<UsedSet<'a>>,
+    /// Those of which it is known that they are used, with their modules.
     pub(crate) known_sets: HashSet<(&'a [u8], &'a [u8])>,
+    /// Whether errors are warnings: no type needs the object that is read.
+    pub(crate) is_lenient: bool,
     /// The type behind the references and tags of each definition of a type, as far as they were followed.
     pub(crate) bases: Vec<Base<'a>>,
     /// The messages about names.
@@ -48,6 +56,7 @@ impl<'r, 'a> Resolver<'r, 'a> {
         alloc: Global,
         definitions: &'r Definitions<'a>,
         names: &'r Names<'a>,
+        objects: &'a Objects<'a>,
     ) -> Result<Resolver<'r, 'a>, AllocError> {
         let mut bases = Vec::new(alloc);
         for _ in &definitions.types {
@@ -61,7 +70,10 @@ impl<'r, 'a> Resolver<'r, 'a> {
             value_finder: Finder::of(alloc, &definitions.values, &names.imported)?,
             template_finder: Finder::of(alloc, &definitions.templates, &names.imported)?,
             instances: Instances::new(alloc, definitions.types.len()),
+            objects,
+            used_sets: Vec::new(alloc),
             known_sets: HashSet::new(alloc),
+            is_lenient: false,
             bases,
             messages: NameMessages::new(alloc, names)?,
             values_read: 0,
@@ -102,6 +114,11 @@ impl<'r, 'a> Resolver<'r, 'a> {
         severity: Severity,
         parts: &[&[u8]],
     ) -> Result<(), AllocError> {
+        let severity = if self.is_lenient {
+            Severity::Warning
+        } else {
+            severity
+        };
         if self.is_first(place, severity)? {
             let text = join(self.alloc, parts)?;
             self.problems.push(Problem {

@@ -2,6 +2,7 @@
 use crate::fault::Fault;
 use crate::governed::Scope;
 use crate::resolver::Resolver;
+use crate::tables::UsedSet;
 use asn1_modules::{Source, is_known_class};
 use asn1_notation::{Assignment, Definition, Reference, Span};
 use asn1_resolved::Severity;
@@ -9,23 +10,19 @@ use std::alloc::AllocError;
 use std::collections::HashSet;
 
 impl<'a> Resolver<'_, 'a> {
-    /// Warns once of an object set, from brace to brace, whose objects are not in Rust. The name of a parameter is no such set.
-    pub(crate) fn warn_of_set(&mut self, scope: Scope<'a>, set: Span) -> Result<(), Fault> {
+    /// Keeps that a type names an object set, from brace to brace. The name of a parameter is no such set.
+    pub(crate) fn keep_set(&mut self, scope: Scope<'a>, set: Span) -> Result<(), Fault> {
         let (qualifier, name) = name_in(scope.octets(set));
         let is_set = self
             .definitions
             .classes
             .is_skipped(scope.name, qualifier, name);
         if is_set && self.known_sets.insert((scope.name, name))? {
-            self.report(
-                scope.place(set),
-                Severity::Warning,
-                &[
-                    b"the objects of '",
-                    name,
-                    b"' are not in Rust: an open type that they limit holds any octets",
-                ],
-            )?;
+            self.used_sets.push(UsedSet {
+                module: qualifier.unwrap_or(scope.name),
+                name,
+                place: scope.place(set),
+            })?;
         }
         Ok(())
     }

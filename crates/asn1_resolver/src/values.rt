@@ -221,7 +221,7 @@ impl<'a> Resolver<'_, 'a> {
         Ok(Value::Alternative(listed.name(), value))
     }
 
-    // The value of an open type, of the type that stands as the name of an alternative.
+    // The value of an open type, of the type whose name is in place of that of an alternative.
     #[cycle(values)]
     fn open_value(
         &mut self,

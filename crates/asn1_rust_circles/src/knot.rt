@@ -46,6 +46,7 @@ pub struct {name}(pub Box<{body_name}<{name}>>);
     append_calls(&mut draft, circle, body)?;
     append_type(&mut draft, circle, body)?;
     append_law(&mut draft, circle)?;
+    append_validity(&mut draft, circle, body)?;
     append_writer(&mut draft, circle)?;
     append_reader(&mut draft, circle, body_name)?;
     draft.into_file(own.page.as_slice())
@@ -276,6 +277,70 @@ fn append_law(draft: &mut Draft, circle: Circle<'_>) -> Result<(), AllocError> {
 #[tactic(auto, using(crate::proofs::{name}Tags::knot_can))]
 pub fn {module}_is_well_tagged()
     ensures {{ IsWellTagged ⟦<{name} as AsnType>⟧.meaning }}
+{{}}
+
+"
+    )?)
+}
+
+// Appends the theorems on which values are valid: each one, or one that is made of a valid one.
+fn append_validity(
+    draft: &mut Draft,
+    circle: Circle<'_>,
+    body: &TypeFile,
+) -> Result<(), AllocError> {
+    if !circle.are_valid {
+        return append_content_law(draft, circle, body);
+    }
+    let name = circle.name;
+    draft.use_ghost("ghost use Rattle.asn1_schema.specs.model.Premises.{EachIsValid};")?;
+    append_valid_law(draft, name, circle.module, name)?;
+    for member in circle.members {
+        if member.module.as_str() != body.module.as_str() {
+            let generic = member.plain_name();
+            let asn1_name = member.asn1_name.as_str();
+            let at_knot = format!(in draft.alloc(); "{generic}<{name}>")?;
+            use_local(draft, member.module.as_str(), generic)?;
+            append_valid_law(draft, asn1_name, member.module.as_str(), at_knot.as_str())?;
+        }
+    }
+    Ok(())
+}
+
+// Appends the theorem that each value of a type is valid.
+fn append_valid_law(
+    draft: &mut Draft,
+    summary: &str,
+    module: &str,
+    name: &str,
+) -> Result<(), AllocError> {
+    draft.text(format!(in draft.alloc();
+        "\
+/// Each `{summary}` is valid.
+pub fn each_{module}_is_valid()
+    ensures {{ EachIsValid ⟦<{name} as AsnType>⟧.meaning }}
+{{}}
+
+"
+    )?)
+}
+
+// Appends the theorem that a value means the same as what it is made of: it is valid if and only if that is.
+fn append_content_law(
+    draft: &mut Draft,
+    circle: Circle<'_>,
+    body: &TypeFile,
+) -> Result<(), AllocError> {
+    let name = circle.name;
+    let module = circle.module;
+    let content = body.plain_name();
+    draft.use_ghost("ghost use Rattle.asn1_circles.specs.Words.{IsMadeOf};")?;
+    draft.text(format!(in draft.alloc();
+        "\
+/// A `{name}` means what it is made of, and is valid if and only if that is.
+pub fn {module}_means_what_it_is_made_of()
+    ensures {{ IsMadeOf in_knot ⟦<{name} as AsnType>⟧.meaning
+        ⟦<{content}<{name}> as AsnType>⟧.meaning }}
 {{}}
 
 "

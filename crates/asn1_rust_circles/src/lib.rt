@@ -8,7 +8,9 @@
 //! |---|---|
 //! | [`generic_file`] | the file of a type with a parameter |
 //! | [`circle_files`] | the files beside these |
-//! | [`definition_modules`], [`proof_modules`] | the modules of `specs/` and `proofs/` that these are |
+//! | [`validity_laws`] | the theorems on which values are valid |
+//! | [`KnotName`], [`definition_modules`], [`proof_modules`] | the modules of `specs/` and `proofs/` that these are |
+//! | [`validity_definitions_file`] | a file of `specs/` for all of them |
 //!
 //! No contract covers the text: the check of the printed crate proves it. Calls fail only if memory runs out.
 #![tactic(auto)]
@@ -18,5 +20,8 @@ mod generic;
 mod knot;
 mod reading;
 
-pub use files::{circle_files, definition_modules, proof_modules};
+pub use files::{
+    KnotName, circle_files, definition_modules, proof_modules, validity_definitions_file,
+    validity_laws,
+};
 pub use generic::generic_file;

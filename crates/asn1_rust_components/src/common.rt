@@ -96,15 +96,33 @@ pub fn append_theorem(draft: &mut Draft, file: &TypeFile) -> Result<(), AllocErr
     let name = file.name.as_str();
     let module = file.module.as_str();
     let article = article(name);
+    let lemmas = lemmas_line(draft, file)?;
+    let lemmas = lemmas.as_str();
     draft.text(format!(in draft.alloc();
         "\
 /// {article} `{name}` can be inside other types.
-pub fn {module}_is_well_tagged()
+{lemmas}pub fn {module}_is_well_tagged()
     ensures {{ IsWellTagged ⟦<{name} as AsnType>⟧.meaning }}
 {{}}
 
 "
     )?)
+}
+
+// The line that names the lemmas on the types in a type that hold themselves; no text if there are none.
+fn lemmas_line(draft: &Draft, file: &TypeFile) -> Result<String, AllocError> {
+    let alloc = draft.alloc();
+    if file.knots.is_empty() {
+        return Ok(String::new(alloc));
+    }
+    let mut lemmas = String::from_str(alloc, "asn1_schema::proofs::Trees::tree_shapes")?;
+    for knot in &file.knots {
+        lemmas.push_str(", crate::proofs::")?;
+        lemmas.push_str(knot.as_str())?;
+        lemmas.push_str("Tags::knot_can")?;
+    }
+    let lemmas = lemmas.as_str();
+    format!(in alloc; "#[tactic(auto, using({lemmas}))]\n")
 }
 
 /// Appends `Encode`, by one call.

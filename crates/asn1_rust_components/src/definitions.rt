@@ -20,6 +20,8 @@ pub struct TypeFile {
     pub body: TypeBody,
     /// The module of `specs/` with its lists, if the type has a parameter: it is of a circle of types.
     pub lists: Option<String>,
+    /// The names of the types that hold themselves among those in it, but for that of its own circle.
+    pub knots: Vec<String>,
 }
 
 impl TypeFile {

@@ -145,6 +145,7 @@ fn tree_proof(alloc: Global, file: &TypeFile, wanted: TreeAnswer) -> Result<Proo
     let module = file.module.as_str();
     let name = file.plain_name();
     let crate_name = file.crate_name.as_str();
+    let arguments = if has_parameter(file) { "g c" } else { "c" };
     Ok(ProofFile {
         path: format!(in alloc; "proofs/{module}/{name}{trait_name}/{function}/Answers.antt")?,
         text: format!(in alloc;
@@ -154,10 +155,15 @@ use Rattle.{crate_name}.proofs.{module}.{name}{trait_name}.{function}.Goals as g
 
 -- the trees are those of the alternatives
 pub {goal} : goal.{goal}
-{goal} c = {answer}
+{goal} {arguments} = {answer}
 "
         )?,
     })
+}
+
+// Whether a type is one of a circle, which has a parameter.
+fn has_parameter(file: &TypeFile) -> bool {
+    file.lists.is_some()
 }
 
 // An arm of a function that writes parts of a type.
@@ -186,10 +192,19 @@ fn arms_of_choice(alloc: Global, alternatives: &[Alternative]) -> Result<Vec<Arm
             call,
             clause,
             is_addition: false,
-            is_answered: is_long && is_plain || alternative.definition.is_explicit,
+            is_answered: (is_long || is_in_circle(alternative)) && is_plain
+                || alternative.definition.is_explicit,
         })?;
     }
     Ok(arms)
+}
+
+// Whether the type of an alternative is one of its circle with a parameter.
+fn is_in_circle(alternative: &Alternative) -> bool {
+    match &alternative.held {
+        Some(held) => held.lists.is_empty() && held.member.is_some(),
+        None => false,
+    }
 }
 
 // The call that writes an alternative, and its clause.
@@ -266,6 +281,12 @@ fn only_proof(alloc: Global, file: &TypeFile, only: &Alternative) -> Result<Proo
     let module = file.module.as_str();
     let name = file.plain_name();
     let crate_name = file.crate_name.as_str();
+    let value = if has_parameter(file) {
+        format!(in alloc; "{{T : Type 0}} (v : {name} T)")?
+    } else {
+        format!(in alloc; "(v : {name})")?
+    };
+    let value = value.as_str();
     Ok(ProofFile {
         path: format!(in alloc;
             "proofs/{module}/{name}EncodeChoice/encode_alternative/Answers.antt"
@@ -277,7 +298,7 @@ use Rattle.{crate_name}.specs.declared.{module}.{name}.TheVariants.{{{variant}}}
 use Rattle.{crate_name}.proofs.{module}.{name}EncodeChoice.encode_alternative.Goals as goal
 
 -- a value is of the only alternative
-only : (v : {name}) → (x : _) × (v ≡ {variant} x)
+only : {value} → (x : _) × (v ≡ {variant} x)
 only ({variant} x) = (x, refl)
 
 pub returns : goal.returns

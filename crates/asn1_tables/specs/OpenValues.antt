@@ -1,13 +1,14 @@
--- Octets of open types: what reading them as a value may answer.
+-- Octets of open types: what reading them as a value may answer, and what writing a value makes.
 use Rattle.std.specs.Prelude.{◌≡◌, ◌⊎◌, ℕ, Bool, Err, List, Result, Vec}
 use Rattle.std.specs.declared.alloc.Global.{Global}
 use Rattle.asn1_laws.specs.Refusals.{Refusals}
+use Rattle.asn1_laws.specs.declared.encode_error.EncodeError.{EncodeError}
 use Rattle.asn1_laws.specs.declared.decode_error.DecodeError.{DecodeError}
 use Rattle.asn1_laws.specs.declared.decode_error.DecodeError.TheVariants.{Memory}
-use Rattle.asn1_model.specs.Meaning.{Meaning}
+use Rattle.asn1_model.specs.Meaning.{Meaning, own_records}
 use Rattle.asn1_model.specs.Records.{Record}
 use Rattle.asn1_rules.specs.CanonicalReading.{MayAnswer}
-use Rattle.asn1_rules.specs.Rules.{Format}
+use Rattle.asn1_rules.specs.Rules.{Format, WritesWhole}
 
 module _ (F : Format (Vec ℕ Global)) where
   -- The bytes of an output tell what it carries.
@@ -24,3 +25,7 @@ module _ (F : Format (Vec ℕ Global)) where
     -- The same, or memory ran out.
     abbrev pub MayAnswerOf : Type 0
     MayAnswerOf = IsAnswerOf ⊎ (answer ≡ Err Memory)
+
+  -- A call that writes the value, under the tag, the constraints and the name of its type, as the octets of an open type.
+  abbrev pub WritesOpen : {V : Type 0} → Meaning V → V → ℕ → Result (Vec ℕ Global) EncodeError → Type 0
+  WritesOpen m v depth result = WritesWhole F (own_records m v) (m.IsOfType v) depth result

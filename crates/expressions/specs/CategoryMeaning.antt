@@ -1,8 +1,10 @@
 -- The meaning of `Category`.
-use Rattle.std.specs.Prelude.{◌≡◌, ◌↔◌, ℕ, ⊤, Bool, List, codes, refl}
-use Rattle.std.proofs.Common.{◌∙◌}
-use Rattle.asn1_circles.specs.Words.{Components, IsMadeOf, KnotLaws, KnotOf, Meaning, MeansTheSame, Record, both_at_all, each_by, flat_map-map, inner, is_sequence, itself_at_all, level, of_type_to, own_records, same_at_all, sequence_is_made, sequence_itself, sequence_knot, sequence_knot_meaning, valid_to, well_formed_alone, write_sequence, written}
+use Rattle.std.specs.Prelude.{◌≡◌, ◌↔◌, [], ℕ, ⊤, Bool, List, codes, refl}
+use Rattle.std.proofs.Common.{◌∙◌, ap}
+use Rattle.asn1_circles.specs.Words.{Components, IsMadeOf, KnotLaws, KnotOf, Meaning, MeansTheSame, Record, both_at_all, each_by, flat_map-map, inner, is_sequence, itself_at_all, level, of_type_to, own_records, same_at_all, sequence_is_made, sequence_itself, sequence_knot, sequence_knot_meaning, valid_to, well_formed_alone}
 use Rattle.expressions.specs.CategoryLists.{category_of_components, category_of_meaning}
+use Rattle.expressions.specs.Validity.{EachIsValid, ValidRecords, ValueMeaning, all_valid, valid_records, written_valid}
+use Rattle.expressions.specs.CategoryValidity.{category_of_is_valid}
 use Rattle.expressions.specs.declared.category.Category.{Category as Knot, Category-F as Knot-F, out-Category as out-Knot, fold-Category as fold-Knot, fold_out-Category as fold_out-Knot, map-Category as map-Knot}
 use Rattle.expressions.specs.declared.category_of.CategoryOf.{CategoryOf}
 
@@ -13,26 +15,34 @@ components V m = category_of_components m
 abbrev pub in_knot : Knot → CategoryOf Knot
 in_knot v = (out-Knot v).0.value
 
--- the records inside a value
-abbrev write : Knot-F (List Record) → List Record
-write f = write_sequence (codes "Category") is_sequence components f.0.value
+-- a value inside another, by its records alone
+abbrev already : Meaning ValidRecords
+already = written_valid (sequence_itself (codes "Category") is_sequence components)
+
+-- the meaning of the content of a value, by these
+abbrev content : CategoryOf ValidRecords → ValueMeaning
+content = (sequence_knot (codes "Category") is_sequence components in_knot (λ _. [])).content ValidRecords already
+
+-- the records inside a value, which are well formed
+abbrev write : Knot-F ValidRecords → ValidRecords
+write f = valid_records (content f.0.value) (λ accepts. category_of_is_valid already (λ a rs. rs.well_formed a) accepts f.0.value)
+
+abbrev pub folded : Knot → ValidRecords
+folded = fold-Knot ValidRecords write
 
 abbrev pub inside : Knot → List Record
-inside = fold-Knot (List Record) write
+inside v = (folded v).records
 
 abbrev pub knot : KnotOf Knot CategoryOf
 knot = sequence_knot (codes "Category") is_sequence components in_knot inside
 
--- a value inside another: as it means by itself, and where it has been written
+-- a value inside another
 abbrev pub within : Meaning Knot
 within = inner knot
 
-abbrev already : Meaning (List Record)
-already = written (sequence_itself (codes "Category") is_sequence components)
-
--- a whole value, where those inside it have been written
-abbrev mapped : Knot-F Knot → CategoryOf Knot → CategoryOf (List Record)
-mapped f v = (map-Knot Knot (List Record) inside (record f { 0 = record f.0 { value = v } })).0.value
+-- a whole value, with these in place of those inside it
+abbrev mapped : Knot-F Knot → CategoryOf Knot → CategoryOf ValidRecords
+mapped f v = (map-Knot Knot ValidRecords folded (record f { 0 = record f.0 { value = v } })).0.value
 
 -- the meaning of a value inside another down to a depth
 abbrev type_level : ℕ → Meaning Knot
@@ -47,14 +57,14 @@ category_of_of_type v = both_at_all (same_at_all) (both_at_all (each_by (λ n. (
 category_of_valid : (accepts : List ℕ → Bool) (v : CategoryOf Knot) → ((n : ℕ) → (category_of_meaning (valid_level n)).IsValid accepts v) ↔ (category_of_meaning within).IsValid accepts v
 category_of_valid accepts v = both_at_all (same_at_all) (both_at_all (each_by (λ n. (valid_level n).IsValid accepts) (within.IsValid accepts) (λ e1. itself_at_all) v.children.items) (same_at_all))
 
-same_records : (f : Knot-F Knot) (v : CategoryOf Knot) → write (map-Knot Knot (List Record) inside (record f { 0 = record f.0 { value = v } })) ≡ (knot.content Knot within v).records
-same_records f v0 = rw (flat_map-map (own_records already) inside v0.children.items) refl
+same_records : (f : Knot-F Knot) (v : CategoryOf Knot) → (write (map-Knot Knot ValidRecords folded (record f { 0 = record f.0 { value = v } }))).records ≡ (knot.content Knot within v).records
+same_records f v0 = rw (flat_map-map (own_records already) folded v0.children.items) refl
 
 pub laws : KnotLaws knot
 laws = record {
   of_type = category_of_of_type;
   valid_inside = category_of_valid;
-  records = λ v. fold_out-Knot (List Record) write v ∙ same_records (out-Knot v) (out-Knot v).0.value;
+  records = λ v. ap (λ rs. rs.records) (fold_out-Knot ValidRecords write v) ∙ same_records (out-Knot v) (out-Knot v).0.value;
 }
 
 -- The meaning of the type.
@@ -67,3 +77,7 @@ unrolled v = record { records = refl; of_type = (λ h. h, λ h. h); valid = λ _
 -- It is the meaning of what a value is made of.
 pub is_made : IsMadeOf in_knot meaning (category_of_meaning meaning)
 is_made = sequence_is_made (codes "Category") is_sequence components in_knot inside laws refl refl unrolled
+
+-- Each value is valid.
+pub each_is_valid : EachIsValid meaning
+each_is_valid accepts v n = all_valid knot (λ _ _ _ h. h) (λ a w. (folded w).well_formed a) (λ m. category_of_is_valid m) n accepts v

@@ -1,8 +1,10 @@
 -- The meaning of `Chain`.
-use Rattle.std.specs.Prelude.{◌≡◌, ◌↔◌, ℕ, ⊤, Bool, List, codes, refl}
-use Rattle.std.proofs.Common.{◌∙◌}
-use Rattle.asn1_circles.specs.Words.{Alternatives, IsMadeOf, KnotLaws, KnotOf, Meaning, MeansTheSame, OneOf, Record, all_of, choice_itself, choice_knot, inner, itself_at_all, knot_is_made, knot_meaning, level, of_type_to, same_at_all, valid_to, well_formed_alone, write_choice, written}
+use Rattle.std.specs.Prelude.{◌≡◌, ◌↔◌, [], ℕ, ⊤, Bool, List, codes, refl}
+use Rattle.std.proofs.Common.{◌∙◌, ap}
+use Rattle.asn1_circles.specs.Words.{Alternatives, IsMadeOf, KnotLaws, KnotOf, Meaning, MeansTheSame, OneOf, Record, all_of, choice_itself, choice_knot, inner, itself_at_all, knot_is_made, knot_meaning, level, of_type_to, same_at_all, valid_to, well_formed_alone}
 use Rattle.expressions.specs.ChainLists.{chain_of_alternatives, chain_of_pick, chain_of_meaning}
+use Rattle.expressions.specs.Validity.{EachIsValid, ValidRecords, ValueMeaning, all_valid, valid_records, written_valid}
+use Rattle.expressions.specs.ChainValidity.{chain_of_is_valid}
 use Rattle.expressions.specs.declared.chain.Chain.{Chain as Knot, Chain-F as Knot-F, out-Chain as out-Knot, fold-Chain as fold-Knot, fold_out-Chain as fold_out-Knot, map-Chain as map-Knot}
 use Rattle.expressions.specs.declared.chain_of.ChainOf.{ChainOf}
 use Rattle.expressions.specs.declared.chain_of.ChainOf.TheVariants.{End as chain_of-End, Link as chain_of-Link}
@@ -17,26 +19,34 @@ pick V m v = chain_of_pick m v
 abbrev pub in_knot : Knot → ChainOf Knot
 in_knot v = (out-Knot v).0.value
 
--- the records inside a value
-abbrev write : Knot-F (List Record) → List Record
-write f = write_choice (codes "Chain") alternatives pick f.0.value
+-- a value inside another, by its records alone
+abbrev already : Meaning ValidRecords
+already = written_valid (choice_itself (codes "Chain") alternatives pick)
+
+-- the meaning of the content of a value, by these
+abbrev content : ChainOf ValidRecords → ValueMeaning
+content = (choice_knot (codes "Chain") alternatives pick in_knot (λ _. [])).content ValidRecords already
+
+-- the records inside a value, which are well formed
+abbrev write : Knot-F ValidRecords → ValidRecords
+write f = valid_records (content f.0.value) (λ accepts. chain_of_is_valid already (λ a rs. rs.well_formed a) accepts f.0.value)
+
+abbrev pub folded : Knot → ValidRecords
+folded = fold-Knot ValidRecords write
 
 abbrev pub inside : Knot → List Record
-inside = fold-Knot (List Record) write
+inside v = (folded v).records
 
 abbrev pub knot : KnotOf Knot ChainOf
 knot = choice_knot (codes "Chain") alternatives pick in_knot inside
 
--- a value inside another: as it means by itself, and where it has been written
+-- a value inside another
 abbrev pub within : Meaning Knot
 within = inner knot
 
-abbrev already : Meaning (List Record)
-already = written (choice_itself (codes "Chain") alternatives pick)
-
--- a whole value, where those inside it have been written
-abbrev mapped : Knot-F Knot → ChainOf Knot → ChainOf (List Record)
-mapped f v = (map-Knot Knot (List Record) inside (record f { 0 = record f.0 { value = v } })).0.value
+-- a whole value, with these in place of those inside it
+abbrev mapped : Knot-F Knot → ChainOf Knot → ChainOf ValidRecords
+mapped f v = (map-Knot Knot ValidRecords folded (record f { 0 = record f.0 { value = v } })).0.value
 
 -- the meaning of a value inside another down to a depth
 abbrev type_level : ℕ → Meaning Knot
@@ -53,7 +63,7 @@ chain_of_valid : (accepts : List ℕ → Bool) (v : ChainOf Knot) → ((n : ℕ)
 chain_of_valid accepts (chain_of-End v) = same_at_all
 chain_of_valid accepts (chain_of-Link v) = itself_at_all
 
-same_records : (f : Knot-F Knot) (v : ChainOf Knot) → write (map-Knot Knot (List Record) inside (record f { 0 = record f.0 { value = v } })) ≡ (knot.content Knot within v).records
+same_records : (f : Knot-F Knot) (v : ChainOf Knot) → (write (map-Knot Knot ValidRecords folded (record f { 0 = record f.0 { value = v } }))).records ≡ (knot.content Knot within v).records
 same_records f (chain_of-End v0) = refl
 same_records f (chain_of-Link v0) = refl
 
@@ -61,7 +71,7 @@ pub laws : KnotLaws knot
 laws = record {
   of_type = chain_of_of_type;
   valid_inside = chain_of_valid;
-  records = λ v. fold_out-Knot (List Record) write v ∙ same_records (out-Knot v) (out-Knot v).0.value;
+  records = λ v. ap (λ rs. rs.records) (fold_out-Knot ValidRecords write v) ∙ same_records (out-Knot v) (out-Knot v).0.value;
 }
 
 -- The meaning of the type.
@@ -75,3 +85,7 @@ unrolled (chain_of-Link v) = record { records = refl; of_type = (λ h. h, λ h. 
 -- It is the meaning of what a value is made of.
 pub is_made : IsMadeOf in_knot meaning (chain_of_meaning meaning)
 is_made = knot_is_made (codes "Chain") alternatives pick in_knot inside laws refl unrolled
+
+-- Each value is valid.
+pub each_is_valid : EachIsValid meaning
+each_is_valid accepts v n = all_valid knot (λ _ _ _ h. h) (λ a w. (folded w).well_formed a) (λ m. chain_of_is_valid m) n accepts v

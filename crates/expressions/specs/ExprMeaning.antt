@@ -1,8 +1,10 @@
 -- The meaning of `Expr`.
 use Rattle.std.specs.Prelude.{◌≡◌, ◌↔◌, [], ◌∷◌, ℕ, ⊤, Bool, List, Option, None, Some, codes, flat_map, refl}
-use Rattle.std.proofs.Common.{◌∙◌}
-use Rattle.asn1_circles.specs.Words.{Alternatives, IsMadeOf, KnotLaws, KnotOf, Meaning, MeansTheSame, OneOf, Record, Vec, all_of, both_at_all, choice_itself, choice_knot, each_by, flat_map-map, if_some_by, inner, itself_at_all, knot_is_made, knot_meaning, level, list_by, list_meaning, of_first, of_some, of_type_to, own_records, same_at_all, set_meaning, valid_to, well_formed_alone, write_choice, written}
+use Rattle.std.proofs.Common.{◌∙◌, ap}
+use Rattle.asn1_circles.specs.Words.{Alternatives, IsMadeOf, KnotLaws, KnotOf, Meaning, MeansTheSame, OneOf, Record, Vec, all_of, both_at_all, choice_itself, choice_knot, each_by, flat_map-map, if_some_by, inner, itself_at_all, knot_is_made, knot_meaning, level, list_by, list_meaning, of_first, of_some, of_type_to, own_records, same_at_all, set_meaning, valid_to, well_formed_alone}
 use Rattle.expressions.specs.ExprLists.{call_has_then, call_has_rest, call_meaning, expr_of_alternatives, expr_of_pick, expr_of_meaning}
+use Rattle.expressions.specs.Validity.{EachIsValid, ValidRecords, ValueMeaning, all_valid, valid_records, written_valid}
+use Rattle.expressions.specs.ExprValidity.{expr_of_is_valid}
 use Rattle.expressions.specs.declared.expr.Expr.{Expr as Knot, Expr-F as Knot-F, out-Expr as out-Knot, fold-Expr as fold-Knot, fold_out-Expr as fold_out-Knot, map-Expr as map-Knot}
 use Rattle.expressions.specs.declared.call.CallOf.{CallOf}
 use Rattle.expressions.specs.declared.expr_of.ExprOf.{ExprOf}
@@ -18,26 +20,34 @@ pick V m v = expr_of_pick m v
 abbrev pub in_knot : Knot → ExprOf Knot
 in_knot v = (out-Knot v).0.value
 
--- the records inside a value
-abbrev write : Knot-F (List Record) → List Record
-write f = write_choice (codes "Expr") alternatives pick f.0.value
+-- a value inside another, by its records alone
+abbrev already : Meaning ValidRecords
+already = written_valid (choice_itself (codes "Expr") alternatives pick)
+
+-- the meaning of the content of a value, by these
+abbrev content : ExprOf ValidRecords → ValueMeaning
+content = (choice_knot (codes "Expr") alternatives pick in_knot (λ _. [])).content ValidRecords already
+
+-- the records inside a value, which are well formed
+abbrev write : Knot-F ValidRecords → ValidRecords
+write f = valid_records (content f.0.value) (λ accepts. expr_of_is_valid already (λ a rs. rs.well_formed a) accepts f.0.value)
+
+abbrev pub folded : Knot → ValidRecords
+folded = fold-Knot ValidRecords write
 
 abbrev pub inside : Knot → List Record
-inside = fold-Knot (List Record) write
+inside v = (folded v).records
 
 abbrev pub knot : KnotOf Knot ExprOf
 knot = choice_knot (codes "Expr") alternatives pick in_knot inside
 
--- a value inside another: as it means by itself, and where it has been written
+-- a value inside another
 abbrev pub within : Meaning Knot
 within = inner knot
 
-abbrev already : Meaning (List Record)
-already = written (choice_itself (codes "Expr") alternatives pick)
-
--- a whole value, where those inside it have been written
-abbrev mapped : Knot-F Knot → ExprOf Knot → ExprOf (List Record)
-mapped f v = (map-Knot Knot (List Record) inside (record f { 0 = record f.0 { value = v } })).0.value
+-- a whole value, with these in place of those inside it
+abbrev mapped : Knot-F Knot → ExprOf Knot → ExprOf ValidRecords
+mapped f v = (map-Knot Knot ValidRecords folded (record f { 0 = record f.0 { value = v } })).0.value
 
 -- the meaning of a value inside another down to a depth
 abbrev type_level : ℕ → Meaning Knot
@@ -64,7 +74,7 @@ expr_of_valid accepts (expr_of-Sum v) = each_by (λ n. (valid_level n).IsValid a
 expr_of_valid accepts (expr_of-Call v) = call_valid accepts v
 expr_of_valid accepts (expr_of-Not v) = itself_at_all
 
-abbrev of-expr_of-Call : ((CallOf (List Record)) → List Record) → ExprOf (List Record) → List Record
+abbrev of-expr_of-Call : ((CallOf ValidRecords) → List Record) → ExprOf ValidRecords → List Record
 of-expr_of-Call g (expr_of-Call v) = g v
 of-expr_of-Call g _ = []
 
@@ -72,27 +82,27 @@ same_records-Call-then : (f : Knot-F Knot) (v0 : (CallOf Knot)) (o : Option Knot
 same_records-Call-then f v0 None = refl
 same_records-Call-then f v0 (Some v1) = refl
 
-same_records-Call-rest-elements-each : (f : Knot-F Knot) (v0 : (CallOf Knot)) (v1 : (List (Vec Knot))) (v2 : (List (Vec Knot))) (v3 : (Vec Knot)) → (of-expr_of-Call (λ x. of_some ((of_first ((own_records (list_meaning already))))) x.rest)) (mapped f ((expr_of-Call (record v0 { rest = Some (v3 ∷ []) })))) ≡ own_records (list_meaning within) v3
-same_records-Call-rest-elements-each f v0 v1 v2 v3 = rw (flat_map-map (own_records already) inside v3.items) refl
+same_records-Call-rest-elements-each : (f : Knot-F Knot) (v0 : (CallOf Knot)) (v1 : (List (Vec Knot))) (v2 : (List (Vec Knot))) (v3 : (Vec Knot)) → (of-expr_of-Call (λ (x : CallOf ValidRecords). of_some ((of_first ((own_records (list_meaning already))))) x.rest)) (mapped f ((expr_of-Call (record v0 { rest = Some (v3 ∷ []) })))) ≡ own_records (list_meaning within) v3
+same_records-Call-rest-elements-each f v0 v1 v2 v3 = rw (flat_map-map (own_records already) folded v3.items) refl
 
-same_records-Call-rest-elements : (f : Knot-F Knot) (v0 : (CallOf Knot)) (v1 : (List (Vec Knot))) (v2 : (List (Vec Knot))) → (of-expr_of-Call (λ x. of_some ((flat_map (own_records (list_meaning already)))) x.rest)) (mapped f ((expr_of-Call (record v0 { rest = Some v2 })))) ≡ flat_map (own_records (list_meaning within)) v2
+same_records-Call-rest-elements : (f : Knot-F Knot) (v0 : (CallOf Knot)) (v1 : (List (Vec Knot))) (v2 : (List (Vec Knot))) → (of-expr_of-Call (λ (x : CallOf ValidRecords). of_some ((flat_map (own_records (list_meaning already)))) x.rest)) (mapped f ((expr_of-Call (record v0 { rest = Some v2 })))) ≡ flat_map (own_records (list_meaning within)) v2
 same_records-Call-rest-elements f v0 v1 v2 = list_by (own_records (list_meaning already)) (own_records (list_meaning within)) _ (λ v3. same_records-Call-rest-elements-each f v0 v1 v2 v3) v2
 
 same_records-Call-rest : (f : Knot-F Knot) (v0 : (CallOf Knot)) (o : Option (List (Vec Knot))) → (of-expr_of-Call (call_has_rest already).records) (mapped f ((expr_of-Call (record v0 { rest = o })))) ≡ (call_has_rest within).records (record v0 { rest = o })
 same_records-Call-rest f v0 None = refl
 same_records-Call-rest f v0 (Some v1) = rw (same_records-Call-rest-elements f v0 v1 v1) refl
 
-same_records : (f : Knot-F Knot) (v : ExprOf Knot) → write (map-Knot Knot (List Record) inside (record f { 0 = record f.0 { value = v } })) ≡ (knot.content Knot within v).records
+same_records : (f : Knot-F Knot) (v : ExprOf Knot) → (write (map-Knot Knot ValidRecords folded (record f { 0 = record f.0 { value = v } }))).records ≡ (knot.content Knot within v).records
 same_records f (expr_of-Number v0) = refl
-same_records f (expr_of-Sum v0) = rw (flat_map-map (own_records already) inside v0.items) refl
-same_records f (expr_of-Call v0) = rw (same_records-Call-then f v0 v0.then, same_records-Call-rest f v0 v0.rest, flat_map-map (own_records already) inside v0.args.items) refl
+same_records f (expr_of-Sum v0) = rw (flat_map-map (own_records already) folded v0.items) refl
+same_records f (expr_of-Call v0) = rw (same_records-Call-then f v0 v0.then, same_records-Call-rest f v0 v0.rest, flat_map-map (own_records already) folded v0.args.items) refl
 same_records f (expr_of-Not v0) = refl
 
 pub laws : KnotLaws knot
 laws = record {
   of_type = expr_of_of_type;
   valid_inside = expr_of_valid;
-  records = λ v. fold_out-Knot (List Record) write v ∙ same_records (out-Knot v) (out-Knot v).0.value;
+  records = λ v. ap (λ rs. rs.records) (fold_out-Knot ValidRecords write v) ∙ same_records (out-Knot v) (out-Knot v).0.value;
 }
 
 -- The meaning of the type.
@@ -108,3 +118,7 @@ unrolled (expr_of-Not v) = record { records = refl; of_type = (λ h. h, λ h. h)
 -- It is the meaning of what a value is made of.
 pub is_made : IsMadeOf in_knot meaning (expr_of_meaning meaning)
 is_made = knot_is_made (codes "Expr") alternatives pick in_knot inside laws refl unrolled
+
+-- Each value is valid.
+pub each_is_valid : EachIsValid meaning
+each_is_valid accepts v n = all_valid knot (λ _ _ _ h. h) (λ a w. (folded w).well_formed a) (λ m. expr_of_is_valid m) n accepts v

@@ -1,9 +1,13 @@
+pub mod Validity
 pub mod ExprLists
+pub mod ExprValidity
 pub mod ExprMeaning
 pub mod ExprReading
 pub mod CategoryLists
+pub mod CategoryValidity
 pub mod CategoryMeaning
 pub mod CategoryReading
 pub mod ChainLists
+pub mod ChainValidity
 pub mod ChainMeaning
 pub mod ChainReading

@@ -2,6 +2,7 @@
 ghost use Rattle.std.specs.Prelude.{IfOk, ◌≡◌};
 ghost use Rattle.asn1_schema.specs.Words.{IsWellTagged};
 ghost use Rattle.expressions.specs.CategoryMeaning.{in_knot, is_made, meaning};
+ghost use Rattle.asn1_schema.specs.model.Premises.{EachIsValid};
 
 use crate::category_of::CategoryOf;
 use crate::category_reader::read_category;
@@ -57,6 +58,11 @@ impl AsnType for Category {
 #[tactic(auto, using(crate::proofs::CategoryTags::knot_can))]
 pub fn category_is_well_tagged()
     ensures { IsWellTagged ⟦<Category as AsnType>⟧.meaning }
+{}
+
+/// Each `Category` is valid.
+pub fn each_category_is_valid()
+    ensures { EachIsValid ⟦<Category as AsnType>⟧.meaning }
 {}
 
 impl Encode for Category {

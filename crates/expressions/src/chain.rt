@@ -3,6 +3,7 @@ ghost use Rattle.std.specs.Prelude.{IfOk, ◌≡◌};
 ghost use Rattle.asn1_schema.specs.Words.{IsWellTagged};
 ghost use Rattle.expressions.specs.ChainMeaning.{in_knot, is_made, meaning};
 ghost use Rattle.expressions.specs.declared.chain_of.ChainOf.TheVariants.{End, Link};
+ghost use Rattle.asn1_schema.specs.model.Premises.{EachIsValid};
 
 use crate::chain_of::{CHAIN_OF, ChainOf};
 use crate::chain_reader::read_chain;
@@ -72,6 +73,11 @@ impl AsnType for Chain {
 #[tactic(auto, using(crate::proofs::ChainTags::knot_can))]
 pub fn chain_is_well_tagged()
     ensures { IsWellTagged ⟦<Chain as AsnType>⟧.meaning }
+{}
+
+/// Each `Chain` is valid.
+pub fn each_chain_is_valid()
+    ensures { EachIsValid ⟦<Chain as AsnType>⟧.meaning }
 {}
 
 impl Encode for Chain {

@@ -3,6 +3,7 @@ ghost use Rattle.std.specs.Prelude.{IfOk, ◌≡◌};
 ghost use Rattle.asn1_schema.specs.Words.{IsWellTagged};
 ghost use Rattle.expressions.specs.ExprMeaning.{in_knot, is_made, meaning};
 ghost use Rattle.expressions.specs.declared.expr_of.ExprOf.TheVariants.{Number, Sum, Call, Not};
+ghost use Rattle.asn1_schema.specs.model.Premises.{EachIsValid};
 
 use crate::call::CallOf;
 use crate::expr_of::{EXPR_OF, ExprOf};
@@ -87,6 +88,16 @@ impl AsnType for Expr {
 #[tactic(auto, using(crate::proofs::ExprTags::knot_can))]
 pub fn expr_is_well_tagged()
     ensures { IsWellTagged ⟦<Expr as AsnType>⟧.meaning }
+{}
+
+/// Each `Expr` is valid.
+pub fn each_expr_is_valid()
+    ensures { EachIsValid ⟦<Expr as AsnType>⟧.meaning }
+{}
+
+/// Each `Call` is valid.
+pub fn each_call_is_valid()
+    ensures { EachIsValid ⟦<CallOf<Expr> as AsnType>⟧.meaning }
 {}
 
 impl Encode for Expr {

@@ -17,12 +17,14 @@ mod expr;
 mod expr_of;
 mod expr_parts;
 mod expr_reader;
+mod rule;
 
 pub use aliases::{Call, Terms};
 pub use call::CallOf;
-pub use category::{Category, category_is_well_tagged};
+pub use category::{Category, category_is_well_tagged, each_category_is_valid};
 pub use category_of::CategoryOf;
-pub use chain::{Chain, chain_is_well_tagged};
+pub use chain::{Chain, chain_is_well_tagged, each_chain_is_valid};
 pub use chain_of::ChainOf;
-pub use expr::{Expr, expr_is_well_tagged};
+pub use expr::{Expr, each_call_is_valid, each_expr_is_valid, expr_is_well_tagged};
 pub use expr_of::ExprOf;
+pub use rule::{Rule, rule_is_well_tagged};

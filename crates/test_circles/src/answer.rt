@@ -3,7 +3,7 @@ use crate::request::{Codec, Request};
 use asn1_ber::BerRules;
 use asn1_der::DerRules;
 use asn1_schema::{Decode, DecodeError, Encode, EncodeError, Rules};
-use expressions::{Category, Chain, ChainOf, Expr};
+use expressions::{Category, Chain, ChainOf, Expr, Rule};
 use std::alloc::Global;
 use std::fmt;
 
@@ -31,6 +31,7 @@ pub(crate) fn answer_to(alloc: Global, request: &Request<'_>) -> Answer {
         "Category" => again::<Category>(alloc, request),
         "Chain" => again::<Chain>(alloc, request),
         "Expr" => again::<Expr>(alloc, request),
+        "Rule" => again::<Rule>(alloc, request),
         _ => Answer::NotUnderstood,
     }
 }

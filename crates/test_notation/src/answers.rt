@@ -7,6 +7,7 @@ use asn1_module_check::{check_extensible_choices, check_tags};
 use asn1_modules::{NameMessages, Source, collect_names};
 use asn1_names::check_names;
 use asn1_notation_text::{Printer, print_module};
+use asn1_objects::objects_of;
 use asn1_resolver::resolve;
 use asn1_tokens::{TokenError, tokens};
 use std::alloc::{AllocError, Global};
@@ -121,7 +122,10 @@ fn answer_schema(alloc: Global, out: &mut Vec<u8>, text: &[u8]) -> io::Result<()
     append_errors(alloc, out, text, &parsed.errors)?;
     let parsed = [parsed];
     let associated = associated_modules(alloc, &parsed)?;
-    let resolution = resolve(alloc, &sources_of(alloc, text, &parsed, &associated)?)?;
+    let sources = sources_of(alloc, text, &parsed, &associated)?;
+    let names = collect_names(alloc, &sources)?;
+    let objects = objects_of(alloc, &sources, &names)?;
+    let resolution = resolve(alloc, &sources, &objects)?;
     append_problems(out, text, &resolution.problems)?;
     if !resolution.is_accepted() {
         return Ok(());

@@ -1,0 +1,412 @@
+//! The proof that each value of a circle is valid.
+use crate::circle::{Circle, elements_of, meaning_term};
+use crate::lists::{all_type_uses, definition_uses, type_uses, variant_name};
+use crate::outside::{Outside, all_known, outside_of, part_types, valid_files};
+use crate::parts::parts_of;
+use crate::terms::{blocks, definitions_file, field_term, spaced, validity_words};
+use asn1_rust_code::TypeName;
+use asn1_rust_components::{Alternative, Component, Held, ListKind, TypeBody, TypeFile, Usage};
+use std::alloc::{AllocError, Global};
+
+/// Whether each value of each type in a circle that holds no type of it is valid, as far as is known.
+pub fn are_all_valid(alloc: Global, circle: Circle<'_>) -> Result<bool, AllocError> {
+    for file in circle.members {
+        if part_types(alloc, &file.body)?.is_none() {
+            return Ok(false);
+        }
+    }
+    let known = valid_files(alloc, circle.surroundings)?;
+    let parts = outer_types(alloc, circle)?;
+    all_known(
+        alloc,
+        circle.surroundings,
+        parts.as_slice(),
+        known.as_slice(),
+    )
+}
+
+// The types in a circle that hold no type of it.
+fn outer_types<'a>(alloc: Global, circle: Circle<'a>) -> Result<Vec<&'a TypeName>, AllocError> {
+    let mut types = Vec::new(alloc);
+    for part in parts_of(alloc, circle)? {
+        types.push(part.definition)?;
+    }
+    Ok(types)
+}
+
+/// The file that proves that values of the types of a circle are valid if those inside them are.
+pub fn validity_file(alloc: Global, circle: Circle<'_>) -> Result<String, AllocError> {
+    let outside = needed_files(alloc, circle)?;
+    let text = all_lemmas(alloc, circle, outside.as_slice())?;
+    let uses = validity_uses(alloc, circle, outside.as_slice(), text.as_str())?;
+    let name = circle.name;
+    let comment = format!(in alloc;
+        "Values of the types in the circle of `{name}` are valid if those inside them are."
+    )?;
+    definitions_file(alloc, comment.as_str(), uses.as_str(), text.as_str())
+}
+
+/// The file with the definitions and lemmas for types that hold themselves, each value of which is valid.
+pub const VALIDITY_FILE: &str = "\
+-- Types that hold themselves, each value of which is valid.
+use Rattle.std.specs.Prelude.{ℕ, zero, suc, ⊤, Bool, List, Option, None, Some, IfSome}
+use Rattle.asn1_circles.specs.Words.{KnotOf, Meaning, Record, level, valid_to}
+pub use Rattle.asn1_schema.specs.components.Alternatives.{ValueMeaning}
+pub use Rattle.asn1_schema.specs.model.Premises.{EachIsValid}
+use Rattle.asn1_schema.specs.model.WellFormed.{AreWellFormed}
+
+-- the records inside a value, which are well formed
+pub record ValidRecords : Type 0 where
+  pub records : List Record
+  pub well_formed : (accepts : List ℕ → Bool) → AreWellFormed accepts records
+
+-- a value inside another, by these
+abbrev pub written_valid : ((V : Type 0) → (V → ValueMeaning) → Meaning V) → Meaning ValidRecords
+written_valid itself = itself ValidRecords (λ rs. record {
+  records = rs.records;
+  IsOfType = ⊤;
+  IsValid = λ accepts. AreWellFormed accepts rs.records;
+  well_formed = λ accepts h. h;
+})
+
+-- the records of what a value is made of, which are well formed since it is valid
+abbrev pub valid_records : (content : ValueMeaning) → ((accepts : List ℕ → Bool) → content.IsValid accepts) → ValidRecords
+valid_records content valid = record { records = content.records; well_formed = λ accepts. content.well_formed accepts (valid accepts) }
+
+-- Each value is valid down to each depth, where a value inside another is valid if it is by itself, the records inside each are well
+-- formed, and what a value is made of is valid if all inside it are.
+pub all_valid : {K : Type 0} {U : Type 0 → Type 0} (k : KnotOf K U) →
+    ((means : K → ValueMeaning) (accepts : List ℕ → Bool) (v : K) → (means v).IsValid accepts → (k.itself K means).IsValid accepts v) →
+    ((accepts : List ℕ → Bool) (v : K) → AreWellFormed accepts (k.inside v)) →
+    ((m : Meaning K) → EachIsValid m → (accepts : List ℕ → Bool) (u : U K) → (k.content K m u).IsValid accepts) →
+    (n : ℕ) (accepts : List ℕ → Bool) (v : K) → (valid_to k n).is accepts v
+all_valid k itself well made zero accepts v = well accepts v
+all_valid k itself well made (suc n) accepts v =
+    (well accepts v, made (level k (λ _. ⊤) (valid_to k n)) (λ a w. itself _ a w (all_valid k itself well made n a w)) accepts (k.of v))
+
+-- a property of each value holds of one that may be absent
+pub if_some_all : {X : Type 0} (o : Option X) (P : X → Type 0) → ((x : X) → P x) → IfSome o P
+if_some_all None P all = tt
+if_some_all (Some x) P all = all x
+";
+
+// The types of the crate that are in a circle or in one of these, each behind those in it.
+fn needed_files<'a>(alloc: Global, circle: Circle<'a>) -> Result<Vec<&'a TypeFile>, AllocError> {
+    let surroundings = circle.surroundings;
+    let known = valid_files(alloc, surroundings)?;
+    let mut waiting = outer_types(alloc, circle)?;
+    let mut needed: Vec<&'a TypeFile> = Vec::new(alloc);
+    for file in known.iter().rev() {
+        if is_in_one(alloc, circle, file, waiting.as_slice())? {
+            needed.push(*file)?;
+            if let Some(parts) = part_types(alloc, &file.body)? {
+                for part in parts {
+                    waiting.push(part)?;
+                }
+            }
+        }
+    }
+    let mut ordered = Vec::new(alloc);
+    for file in needed.iter().rev() {
+        ordered.push(*file)?;
+    }
+    Ok(ordered)
+}
+
+// Whether a type of the crate is one of these, below lists.
+fn is_in_one(
+    alloc: Global,
+    circle: Circle<'_>,
+    file: &TypeFile,
+    types: &[&TypeName],
+) -> Result<bool, AllocError> {
+    for definition in types {
+        if let Some(outside) = outside_of(alloc, circle.surroundings, definition)? {
+            if let Some(found) = outside.file {
+                if found.module.as_str() == file.module.as_str() {
+                    return Ok(true);
+                }
+            }
+        }
+    }
+    Ok(false)
+}
+
+// The lines that bring in the names in these lemmas.
+fn validity_uses(
+    alloc: Global,
+    circle: Circle<'_>,
+    outside: &[&TypeFile],
+    text: &str,
+) -> Result<String, AllocError> {
+    let spaced = spaced(alloc, text)?;
+    let lists = definition_uses(alloc, circle, spaced.as_str())?;
+    let lists = lists.as_str();
+    let types = all_type_uses(alloc, circle)?;
+    let types = types.as_str();
+    let words = validity_words(alloc, circle.crate_name, text)?;
+    let words = words.as_str();
+    let mut uses = format!(in alloc; "{words}{lists}{types}")?;
+    for file in outside {
+        let lines = outside_uses(alloc, circle, file)?;
+        uses.push_str(lines.as_str())?;
+    }
+    Ok(uses)
+}
+
+// The lines that bring in a type outside: its meaning, its name and its variants.
+fn outside_uses(alloc: Global, circle: Circle<'_>, file: &TypeFile) -> Result<String, AllocError> {
+    let crate_name = circle.crate_name;
+    let module = file.module.as_str();
+    let name = file.plain_name();
+    let types = type_uses(alloc, circle, file)?;
+    let types = types.as_str();
+    format!(in alloc;
+        "use Rattle.{crate_name}.specs.contracts.{module}.{name}AsnType.TheImpl.{{ghosts as {module}_ghosts}}\n{types}"
+    )
+}
+
+// The lemmas of types outside, and of the types of a circle.
+fn all_lemmas(
+    alloc: Global,
+    circle: Circle<'_>,
+    outside: &[&TypeFile],
+) -> Result<String, AllocError> {
+    let mut texts = Vec::new(alloc);
+    for file in outside {
+        texts.push(type_lemma(alloc, circle, file, false)?)?;
+    }
+    for file in circle.members {
+        texts.push(type_lemma(alloc, circle, file, true)?)?;
+    }
+    blocks(alloc, texts.as_slice())
+}
+
+// The lemma of a type, which may be one of the circle.
+fn type_lemma(
+    alloc: Global,
+    circle: Circle<'_>,
+    file: &TypeFile,
+    is_member: bool,
+) -> Result<String, AllocError> {
+    let module = file.module.as_str();
+    let name = file.plain_name();
+    let arguments = if is_member { "m each " } else { "" };
+    let statement = if is_member {
+        format!(in alloc;
+            "pub {module}_is_valid : {{T : Type 0}} (m : Meaning T) → EachIsValid m → (accepts : List ℕ → Bool) (v : {name} T) → ({module}_meaning m).IsValid accepts v\n"
+        )?
+    } else {
+        format!(in alloc;
+            "{module}_is_valid : (accepts : List ℕ → Bool) (v : {name}) → {module}_ghosts.meaning.IsValid accepts v\n"
+        )?
+    };
+    let statement = statement.as_str();
+    let equations = equations(alloc, circle, file, arguments)?;
+    let equations = equations.as_str();
+    format!(in alloc; "{statement}{equations}")
+}
+
+// The equations of a lemma with these arguments in front of those of each.
+fn equations(
+    alloc: Global,
+    circle: Circle<'_>,
+    file: &TypeFile,
+    arguments: &str,
+) -> Result<String, AllocError> {
+    let module = file.module.as_str();
+    match &file.body {
+        TypeBody::Choice(choice) => {
+            let mut text = String::new(alloc);
+            for alternative in &choice.alternatives {
+                let equation = alternative_equation(alloc, circle, file, alternative, arguments)?;
+                text.push_str(equation.as_str())?;
+            }
+            Ok(text)
+        }
+        TypeBody::Sequence(body) => {
+            components_equation(alloc, circle, module, body.components.as_slice(), arguments)
+        }
+        TypeBody::Set(body) => {
+            components_equation(alloc, circle, module, body.components.as_slice(), arguments)
+        }
+        _ => format!(in alloc; "{module}_is_valid {arguments}accepts v = tt\n"),
+    }
+}
+
+// The equation for an alternative.
+fn alternative_equation(
+    alloc: Global,
+    circle: Circle<'_>,
+    file: &TypeFile,
+    alternative: &Alternative,
+    arguments: &str,
+) -> Result<String, AllocError> {
+    let own = variant_name(alloc, file, alternative.variant.as_str())?;
+    let own = own.as_str();
+    let value = value_of(alloc, circle, &alternative.held, &alternative.definition)?;
+    let proof = proof_of(alloc, &value, "v")?;
+    let proof = proof.as_str();
+    let module = file.module.as_str();
+    format!(in alloc; "{module}_is_valid {arguments}accepts ({own} v) = {proof}\n")
+}
+
+// The equation for components.
+fn components_equation(
+    alloc: Global,
+    circle: Circle<'_>,
+    module: &str,
+    components: &[Component],
+    arguments: &str,
+) -> Result<String, AllocError> {
+    let mut proof = String::from_str(alloc, "tt")?;
+    for component in components.iter().rev() {
+        let own = component_proof(alloc, circle, component)?;
+        let own = own.as_str();
+        let rest = proof.as_str();
+        proof = format!(in alloc; "({own}, {rest})")?;
+    }
+    let proof = proof.as_str();
+    format!(in alloc; "{module}_is_valid {arguments}accepts v = {proof}\n")
+}
+
+// The proof for a component.
+fn component_proof(
+    alloc: Global,
+    circle: Circle<'_>,
+    component: &Component,
+) -> Result<String, AllocError> {
+    let field = field_term(alloc, component.field.as_str())?;
+    let field = field.as_str();
+    let own = format!(in alloc; "v.{field}")?;
+    let own = own.as_str();
+    let value = value_of(alloc, circle, &component.held, &component.definition)?;
+    match &component.usage {
+        Usage::Required => in_list(alloc, proof_of(alloc, &value, own)?),
+        Usage::Default(_) | Usage::EmptyList(_) => {
+            let proof = proof_of(alloc, &value, own)?;
+            let proof = proof.as_str();
+            format!(in alloc; "(λ _. {proof})")
+        }
+        _ => {
+            let predicate = predicate_of(alloc, &value)?;
+            let predicate = predicate.as_str();
+            let proof = proof_of(alloc, &value, "x")?;
+            let proof = proof.as_str();
+            format!(in alloc; "if_some_all {own} {predicate} (λ x. {proof})")
+        }
+    }
+}
+
+// A proof in a list: a function is in parentheses.
+fn in_list(alloc: Global, proof: String) -> Result<String, AllocError> {
+    if proof.starts_with("λ") {
+        let proof = proof.as_str();
+        format!(in alloc; "({proof})")
+    } else {
+        Ok(proof)
+    }
+}
+
+// A value whose proof is wanted.
+#[derive(Drop)]
+enum Value<'a> {
+    // It holds the parameter.
+    Held(&'a Held),
+    // It is outside the circle.
+    Outside(Outside<'a>),
+}
+
+// A value of a component or an alternative.
+fn value_of<'a>(
+    alloc: Global,
+    circle: Circle<'a>,
+    held: &'a Option<Held>,
+    definition: &'a TypeName,
+) -> Result<Value<'a>, AllocError> {
+    if let Some(held) = held {
+        return Ok(Value::Held(held));
+    }
+    match outside_of(alloc, circle.surroundings, definition)? {
+        Some(outside) => Ok(Value::Outside(outside)),
+        None => Ok(Value::Outside(Outside {
+            lists: Vec::new(alloc),
+            file: None,
+        })),
+    }
+}
+
+// The lists of a value.
+fn lists_of<'v>(value: &'v Value<'_>) -> &'v [ListKind] {
+    match value {
+        Value::Held(held) => held.lists.as_slice(),
+        Value::Outside(outside) => outside.lists.as_slice(),
+    }
+}
+
+// The proof for a value with this name.
+fn proof_of(alloc: Global, value: &Value<'_>, name: &str) -> Result<String, AllocError> {
+    let mut element = String::from_str(alloc, name)?;
+    let mut binders = String::new(alloc);
+    for (index, kind) in lists_of(value).iter().enumerate() {
+        let list = elements_of(alloc, *kind, element.as_str())?;
+        let list = list.as_str();
+        element = format!(in alloc; "(get_or {list} k{index} d{index})")?;
+        let binder = format!(in alloc; "λ k{index} d{index} few{index}. ")?;
+        binders.push_str(binder.as_str())?;
+    }
+    let own = element_proof(alloc, value, element.as_str())?;
+    let own = own.as_str();
+    let binders = binders.as_str();
+    format!(in alloc; "{binders}{own}")
+}
+
+// The proof for an element below all lists.
+fn element_proof(alloc: Global, value: &Value<'_>, element: &str) -> Result<String, AllocError> {
+    match value {
+        Value::Held(held) => match &held.member {
+            Some(module) => {
+                let module = module.as_str();
+                format!(in alloc; "{module}_is_valid m each accepts {element}")
+            }
+            None => format!(in alloc; "each accepts {element}"),
+        },
+        Value::Outside(outside) => match outside.file {
+            Some(file) => {
+                let module = file.module.as_str();
+                format!(in alloc; "{module}_is_valid accepts {element}")
+            }
+            None => String::from_str(alloc, "tt"),
+        },
+    }
+}
+
+// The property that is proved of a value.
+fn predicate_of(alloc: Global, value: &Value<'_>) -> Result<String, AllocError> {
+    match value {
+        Value::Held(held) => {
+            let meaning = meaning_term(alloc, held, 0, "m")?;
+            let meaning = meaning.as_str();
+            format!(in alloc; "({meaning}.IsValid accepts)")
+        }
+        Value::Outside(outside) => outside_predicate(alloc, outside),
+    }
+}
+
+// The same of one outside the circle.
+fn outside_predicate(alloc: Global, outside: &Outside<'_>) -> Result<String, AllocError> {
+    let mut predicate = match outside.file {
+        Some(file) => {
+            let module = file.module.as_str();
+            format!(in alloc; "({module}_ghosts.meaning.IsValid accepts)")?
+        }
+        None => String::from_str(alloc, "(λ _. ⊤)")?,
+    };
+    for kind in outside.lists.iter().rev() {
+        let list = elements_of(alloc, *kind, "l")?;
+        let list = list.as_str();
+        let inner = predicate.as_str();
+        predicate = format!(in alloc; "(λ l. All {inner} {list})")?;
+    }
+    Ok(predicate)
+}

@@ -1,0 +1,23 @@
+//! Files of tables: enums of the values that an open type has, by the objects of a set.
+//!
+//! | Item | What it is |
+//! |---|---|
+//! | [`table_file`] | the file of a table |
+//! | [`OpenTable`], [`OpenRow`] | a table with its rows |
+//! | [`KeyKind`], [`RowKey`] | keys: numbers, or the arcs of object identifiers |
+//!
+//! A printed enum has three calls with a clause each. `read`: under the key of a row the value is one of its type, which `read_open` may
+//! answer of the octets, and under no other key it is these octets. `write`: the value of a row is written under its own type, and
+//! octets as they are. The call named for the field of the key: it answers the key of the row, or that of the octets. The check of the
+//! printed crate proves them. Calls of this library fail only if memory runs out.
+#![tactic(auto)]
+
+mod clause;
+mod definitions;
+mod keys;
+mod reader;
+mod table;
+mod writer;
+
+pub use definitions::{KeyKind, OpenRow, OpenTable, RowKey};
+pub use table::table_file;

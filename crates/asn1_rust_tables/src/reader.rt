@@ -1,0 +1,69 @@
+//! The call that reads a value of a table.
+use crate::clause::append_read_clause;
+use crate::definitions::{KeyKind, OpenTable};
+use crate::keys::{argument_type, key_code};
+use asn1_rust_code::Draft;
+use std::alloc::AllocError;
+
+/// Appends the call that reads a value.
+pub(crate) fn append_reader(draft: &mut Draft, table: &OpenTable) -> Result<(), AllocError> {
+    let alloc = draft.alloc();
+    draft.use_names(&["DecodeError", "Rules"])?;
+    draft.use_foreign("asn1_tables", "read_open")?;
+    draft.use_foreign("std::alloc", "Global")?;
+    let field = table.key_field.as_str();
+    let key = table.key_name.as_str();
+    let argument = argument_type(table);
+    draft.text(format!(in alloc;
+        "    /// Reads the octets of a value under this `&{field}`, with at most `depth` nested scopes.
+    ///
+    /// # Errors
+    /// Those of the type of the row; and [`DecodeError::Memory`], which alone other octets have.
+    pub fn read<R: Rules<Output = Vec<u8>>>(
+        rules: &R,
+        alloc: Global,
+        {key}: {argument},
+        octets: &[u8],
+        depth: usize,
+    ) -> Result<Self, DecodeError>
+"
+    )?)?;
+    append_read_clause(draft, table)?;
+    draft.line(1, "{")?;
+    draft.line(2, format!(in alloc; "match {key} {{")?.as_str())?;
+    for row in &table.rows {
+        let pattern = key_code(draft, &row.key)?;
+        let pattern = pattern.as_str();
+        let variant = row.name.as_str();
+        let front = format!(in alloc; "{pattern} =>")?;
+        let back = format!(in alloc;
+            "Ok(Self::{variant}(read_open(rules, alloc, octets, depth)?)),"
+        )?;
+        draft.definition(3, front.as_str(), back.as_str())?;
+    }
+    append_other(draft, table)?;
+    draft.line(2, "}")?;
+    draft.line(1, "}")
+}
+
+// Appends the arm of an unknown key.
+fn append_other(draft: &mut Draft, table: &OpenTable) -> Result<(), AllocError> {
+    let key = table.key_name.as_str();
+    draft.line(3, "_ => {")?;
+    draft.line(4, "let octets = Any::new(Vec::from_slice(alloc, octets)?);")?;
+    match &table.key {
+        KeyKind::Number(_) => {
+            let line = format!(in draft.alloc(); "Ok(Self::Other({key}, octets))")?;
+            draft.line(4, line.as_str())?;
+        }
+        KeyKind::Arcs => {
+            let line = format!(in draft.alloc();
+                "let {key} = ObjectIdentifier::new(Vec::from_slice(alloc, {key})?);"
+            )?;
+            draft.line(4, line.as_str())?;
+            let line = format!(in draft.alloc(); "Ok(Self::Other({key}, octets))")?;
+            draft.line(4, line.as_str())?;
+        }
+    }
+    draft.line(3, "}")
+}

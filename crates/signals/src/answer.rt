@@ -1,0 +1,116 @@
+//! `Answer ::= SEQUENCE { parts [0] Parts {{AnswerParts}}, others [1] Parts {{NoParts}} OPTIONAL, ... }`
+ghost use Rattle.std.specs.Prelude.{[], codes, ◌∷◌};
+ghost use Rattle.asn1_schema.specs.Words.{IsWellTagged, constructed_agrees, constructed_type, context, extensible_sequence_after, optional_slot, required_slot, tagged};
+
+use crate::aliases::Parts;
+use asn1_schema::{
+    AsnType, Constraints, ConstructedType, Decode, DecodeByIndex, DecodeError, Decoded, Decoder,
+    Encode, EncodeError, EncodeFields, Encoder, Field, FieldTable, Identifier, Tag, Tagging,
+    TypeTable, decode_sequence_naming_errors, optional, required,
+};
+use asn1_tags::tag;
+use std::alloc::{AllocError, Global};
+
+/// `Answer` of the module `Signals`.
+#[derive(PartialEq, Eq, Debug, Drop)]
+pub struct Answer {
+    /// `parts [0] Parts {{AnswerParts}}`
+    pub parts: Parts,
+    /// `others [1] Parts {{NoParts}} OPTIONAL`
+    pub others: Option<Parts>,
+}
+
+impl DecodeByIndex for Answer {
+    type Slots = (Option<Parts>, Option<Parts>);
+
+    ghost layout = { required_slot (codes "parts") (λ v. v.parts) (λ s. s.0) (tagged (context 0) ⟦<Parts as AsnType>⟧.meaning) ⟦<Parts as PartialEq>⟧.eq ∷
+        optional_slot (codes "others") (λ v. v.others) (λ s. s.1) (tagged (context 1) ⟦<Parts as AsnType>⟧.meaning) ⟦<Parts as PartialEq>⟧.eq ∷ [] };
+
+    fn full(_alloc: Global, slots: Self::Slots) -> Result<Self, AllocError> {
+        Ok(Self {
+            parts: slots.0.unwrap(),
+            others: slots.1,
+        })
+    }
+
+    fn decode_field<D: Decoder>(index: usize, slots: &mut Self::Slots, decoder: &mut D) -> Decoded {
+        match index {
+            0 => required(&mut slots.0, decoder, Tagging::Tagged(tag!(context 0))),
+            1 => optional(&mut slots.1, decoder, Tagging::Tagged(tag!(context 1))),
+            _ => Ok(()),
+        }
+    }
+}
+
+impl FieldTable for Answer {
+    ghost components = { extensible_sequence_after 2 ⟦<Answer as DecodeByIndex>⟧.layout };
+
+    fn field_count() -> usize {
+        2
+    }
+
+    fn field_at(index: usize) -> Option<Field<'static>> {
+        match index {
+            0 => Some(Field::new_required_type_with_tag::<Parts>(0, tag!(context 0), "parts")),
+            1 => Some(Field::new_optional_type_with_tag::<Parts>(1, tag!(context 1), "others")),
+            _ => None,
+        }
+    }
+
+    fn extension_index() -> Option<usize> {
+        Some(2)
+    }
+}
+
+impl AsnType for Answer {
+    ghost meaning = { constructed_type (codes "Answer") ⟦<Answer as FieldTable>⟧.components };
+
+    fn table() -> TypeTable {
+        TypeTable::new(Tag::SEQUENCE, Identifier(Some("Answer")))
+    }
+
+    fn is_present(&self) -> bool {
+        true
+    }
+}
+
+impl ConstructedType for Answer {
+    ghost agrees = { constructed_agrees };
+}
+
+/// An `Answer` can be inside other types.
+pub fn answer_is_well_tagged()
+    ensures { IsWellTagged ⟦<Answer as AsnType>⟧.meaning }
+{}
+
+impl Encode for Answer {
+    fn encode_with_tag_and_constraints<E: Encoder>(
+        &self,
+        encoder: &mut E,
+        tag: Tag,
+        _constraints: &Constraints<'_>,
+        name: Identifier,
+    ) -> Result<(), EncodeError> {
+        encoder.encode_sequence(tag, self, name)
+    }
+}
+
+impl EncodeFields for Answer {
+    fn encode_field<E: Encoder>(&self, index: usize, encoder: &mut E) -> Result<(), EncodeError> {
+        match index {
+            0 => self.parts.encode_with_tag(encoder, tag!(context 0)),
+            1 => self.others.encode_with_tag(encoder, tag!(context 1)),
+            _ => Ok(()),
+        }
+    }
+}
+
+impl Decode for Answer {
+    fn decode_with_tag_and_constraints<D: Decoder>(
+        decoder: &mut D,
+        tag: Tag,
+        constraints: &Constraints<'_>,
+    ) -> Result<Self, DecodeError> {
+        decode_sequence_naming_errors(decoder, tag, constraints)
+    }
+}

@@ -1,0 +1,104 @@
+//! A value of `PART.&Content`, by the objects of `AnswerParts` of the module `Signals`.
+ghost use Rattle.std.specs.Prelude.{IfOk, Ok, ◌≡◌, ◌≢◌};
+ghost use Rattle.asn1_tables.specs.OpenValues.{MayAnswerOf, WritesOpen};
+ghost use Rattle.signals.specs.declared.answer_parts.AnswerParts.TheVariants as variants;
+
+use crate::cause::Cause;
+use asn1_schema::{Any, AsnType, Decode, DecodeError, EncodeError, Rules};
+use asn1_tables::read_open;
+use std::alloc::Global;
+
+/// A value of `PART.&Content`, by the objects of `AnswerParts` of the module `Signals`.
+#[derive(PartialEq, Eq, Debug, Drop)]
+pub enum AnswerParts {
+    /// `{ PART cause IF UNKNOWN pass HOLDS Cause }`
+    Cause(Cause),
+    /// `{ PART 300 IF UNKNOWN report HOLDS INTEGER (0..255) }`
+    Speed(u8),
+    /// `{ PART 301 IF UNKNOWN pass HOLDS BOOLEAN }`
+    Object3(bool),
+    /// The octets of a value under another `&number`.
+    Other(u16, Any),
+}
+
+impl AnswerParts {
+    /// Reads the octets of a value under this `&number`, with at most `depth` nested scopes.
+    ///
+    /// # Errors
+    /// Those of the type of the row; and [`DecodeError::Memory`], which alone other octets have.
+    pub fn read<R: Rules<Output = Vec<u8>>>(
+        rules: &R,
+        alloc: Global,
+        number: u16,
+        octets: &[u8],
+        depth: usize,
+    ) -> Result<Self, DecodeError>
+        // Under the key of a row the value is one of its type, and under no other it is the octets.
+        ensures row { IfOk result (λ value. elim value as (λ _. Type 0) [
+          | variants.Cause x ↦ (number ≡ 4) × MayAnswerOf R.format ⟦<Cause as AsnType>⟧.meaning
+              ⟦<Cause as PartialEq>⟧.eq ⟦<Cause as Decode>⟧.refusals depth octets.now (Ok x)
+          | variants.Speed x ↦ (number ≡ 300) × MayAnswerOf R.format ⟦<u8 as AsnType>⟧.meaning
+              ⟦<u8 as PartialEq>⟧.eq ⟦<u8 as Decode>⟧.refusals depth octets.now (Ok x)
+          | variants.Object3 x ↦ (number ≡ 301) × MayAnswerOf R.format ⟦<bool as AsnType>⟧.meaning
+              ⟦<bool as PartialEq>⟧.eq ⟦<bool as Decode>⟧.refusals depth octets.now (Ok x)
+          | variants.Other other kept ↦ (other ≡ number) × (kept ≡ octets.now)
+              × (number ≢ 4)
+              × (number ≢ 300)
+              × (number ≢ 301)
+        ]) }
+    {
+        match number {
+            4 => Ok(Self::Cause(read_open(rules, alloc, octets, depth)?)),
+            300 => Ok(Self::Speed(read_open(rules, alloc, octets, depth)?)),
+            301 => Ok(Self::Object3(read_open(rules, alloc, octets, depth)?)),
+            _ => {
+                let octets = Any::new(Vec::from_slice(alloc, octets)?);
+                Ok(Self::Other(number, octets))
+            }
+        }
+    }
+
+    /// Writes the octets of the value, with at most `depth` nested scopes.
+    ///
+    /// # Errors
+    /// Those of [`Rules::write_value`].
+    pub fn write<R: Rules<Output = Vec<u8>>>(
+        &self,
+        rules: &R,
+        alloc: Global,
+        depth: usize,
+    ) -> Result<Vec<u8>, EncodeError>
+        // The value of a row is written under its own type, and the octets under another key as they are.
+        ensures written { elim self.now as (λ _. Type 0) [
+          | variants.Cause x ↦ WritesOpen R.format ⟦<Cause as AsnType>⟧.meaning x depth result
+          | variants.Speed x ↦ WritesOpen R.format ⟦<u8 as AsnType>⟧.meaning x depth result
+          | variants.Object3 x ↦ WritesOpen R.format ⟦<bool as AsnType>⟧.meaning x depth result
+          | variants.Other other kept ↦ IfOk result (λ octets. octets.items ≡ kept)
+        ] }
+    {
+        match self {
+            Self::Cause(value) => rules.write_value(value, depth),
+            Self::Speed(value) => rules.write_value(value, depth),
+            Self::Object3(value) => rules.write_value(value, depth),
+            Self::Other(_, octets) => Ok(Vec::from_slice(alloc, octets.as_bytes())?),
+        }
+    }
+
+    /// The `&number` of the value.
+    pub fn number(&self) -> u16
+        // The key is that of the row, or the one that was kept.
+        ensures told { elim self.now as (λ _. Type 0) [
+          | variants.Cause x ↦ result ≡ 4
+          | variants.Speed x ↦ result ≡ 300
+          | variants.Object3 x ↦ result ≡ 301
+          | variants.Other other kept ↦ result ≡ other
+        ] }
+    {
+        match self {
+            Self::Cause(_) => 4,
+            Self::Speed(_) => 300,
+            Self::Object3(_) => 301,
+            Self::Other(number, _) => *number,
+        }
+    }
+}
