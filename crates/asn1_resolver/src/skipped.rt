@@ -9,7 +9,7 @@ use asn1_resolved::Severity;
 use std::alloc::AllocError;
 use std::collections::HashSet;
 
-impl<'a> Resolver<'_, 'a> {
+impl<'r, 'a> Resolver<'r, 'a> {
     /// Keeps that a type names an object set, from brace to brace. The name of a parameter is no such set.
     pub(crate) fn keep_set(&mut self, scope: Scope<'a>, set: Span) -> Result<(), Fault> {
         let (qualifier, name) = name_in(scope.octets(set));
