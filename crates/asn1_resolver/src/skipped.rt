@@ -1,4 +1,4 @@
-//! Definitions that are not read: objects, object sets and macros.
+//! Object sets that types name, and definitions that are not read.
 use crate::fault::Fault;
 use crate::governed::Scope;
 use crate::resolver::Resolver;
@@ -17,9 +17,10 @@ impl<'r, 'a> Resolver<'r, 'a> {
             .definitions
             .classes
             .is_skipped(scope.name, qualifier, name);
-        if is_set && self.known_sets.insert((scope.name, name))? {
+        let module = qualifier.unwrap_or(scope.name);
+        if is_set && self.known_sets.insert((module, name))? {
             self.used_sets.push(UsedSet {
-                module: qualifier.unwrap_or(scope.name),
+                module,
                 name,
                 place: scope.place(set),
             })?;

@@ -43,6 +43,8 @@ struct Element<'r, 'a> {
 // The objects of a set, as far as they were met.
 #[derive(Drop)]
 struct Collected<'r, 'a> {
+    // The index of the class.
+    class: usize,
     objects: Vec<Listed<'r, 'a>>,
     // The elements that are still to be met, the next one last.
     pending: Vec<Element<'r, 'a>>,
@@ -123,6 +125,7 @@ impl<'r, 'a> Resolver<'r, 'a> {
         set: &'r ReadSet,
     ) -> Result<Collected<'r, 'a>, AllocError> {
         let mut collected = Collected {
+            class: set.class,
             objects: Vec::new(self.alloc),
             pending: Vec::new(self.alloc),
             known: HashSet::new(self.alloc),
@@ -167,24 +170,43 @@ impl<'r, 'a> Resolver<'r, 'a> {
         reference: &Reference,
     ) -> Result<(), AllocError> {
         let objects = self.objects;
+        let element = home;
         let Some(definition) = objects.find_reference(home, reference) else {
             return self.warn_of_element(home, reference);
         };
         let home = definition.home;
         match &definition.contents {
-            ReadDefinition::Object(object) => {
+            ReadDefinition::Object(object) if object.class == collected.class => {
                 let name = Some(definition.name.octets(home.text));
                 add_object(collected, Listed { home, name, object })
             }
-            ReadDefinition::Set(set) => {
+            ReadDefinition::Set(set) if set.class == collected.class => {
                 let place = (home.source, definition.name.start);
                 if collected.known.insert(place)? {
                     collect_set(collected, home, set)?;
                 }
                 Ok(())
             }
+            ReadDefinition::Object(_) | ReadDefinition::Set(_) => {
+                self.warn_of_class(element, reference)
+            }
             ReadDefinition::Unread => Ok(()),
         }
+    }
+
+    // Warns of an element of another class than that of the set.
+    fn warn_of_class(&mut self, home: Home<'a>, reference: &Reference) -> Result<(), AllocError> {
+        let scope = scope_of(home);
+        let name = scope.octets(reference.name);
+        self.report(
+            scope.place(reference.name),
+            Severity::Warning,
+            &[
+                b"'",
+                name,
+                b"' is of another class than the object set that it is in",
+            ],
+        )
     }
 
     // Warns of an element that no definition is, or one that is not read.
