@@ -74,6 +74,9 @@ fn add_table(plan: &mut Plan<'_, '_>, table: &Table<'_>) -> Result<(), AllocErro
     let name = plan.new_name(name.as_str())?;
     let module = plan.new_module(name.as_str())?;
     let rows = rows_of(plan, table, name.as_str())?;
+    if rows.is_empty() {
+        return Ok(());
+    }
     let summary = summary_of(plan, table)?;
     let open = OpenTable {
         page: page_of(plan, summary.as_str())?,
