@@ -78,6 +78,7 @@ const RESERVED: &[&str] = &[
     "ListOf",
     "MayAnswerOf",
     "Meant",
+    "MemoryRanOut",
     "None",
     "NumericString",
     "ObjectDescriptor",
@@ -113,6 +114,7 @@ const RESERVED: &[&str] = &[
     "Vec",
     "VisibleString",
     "Whole",
+    "WritesKept",
     "WritesOpen",
 ];
 
