@@ -274,20 +274,21 @@ fn add_circle(
 }
 
 // The files of a circle of these types with a parameter, its knot, and the names of the theorems on which values are valid.
-fn files_of_circle(
-    plan: &Plan<'_, '_>,
-    own: &TypeFile,
-    modules: &KnotModules,
-    members: &[TypeFile],
-    printed: &[TypeFile],
+fn files_of_circle<'x>(
+    plan: &'x Plan<'_, '_>,
+    own: &'x TypeFile,
+    modules: &'x KnotModules,
+    members: &'x [TypeFile],
+    printed: &'x [TypeFile],
     name: String,
 ) -> Result<(Vec<ProofFile>, KnotName, Vec<String>), AllocError> {
+    let crate_name = plan.text(plan.request.crate_name)?;
     let surroundings = Surroundings {
         files: printed,
         aliases: plan.aliases.as_slice(),
     };
     let circle = Circle {
-        crate_name: plan.request.crate_name,
+        crate_name: crate_name.as_str(),
         name: own.name.as_str(),
         module: own.module.as_str(),
         reader: modules.reader.as_str(),
