@@ -9,6 +9,7 @@ use std::alloc::Global;
 ///
 /// # Errors
 /// Those that [`Rules::read_value`] may answer of an output of these octets, and [`DecodeError::Memory`].
+#[tactic(auto, unfolding(crate::specs::OpenValues::MayAnswerOf))]
 pub fn read_open<T: Decode, R: Rules<Output = Vec<u8>>>(
     rules: &R,
     alloc: Global,

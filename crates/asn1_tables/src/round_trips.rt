@@ -18,6 +18,7 @@ use std::alloc::Global;
 ///
 /// # Errors
 /// [`RoundTripError::Writing`] with the error of writing, and [`RoundTripError::Reading`] with that of reading.
+#[tactic(auto, unfolding(crate::specs::OpenValues::MayAnswerOf))]
 pub fn open_round_trip<R: Rules<Output = Vec<u8>>, T: Encode + Decode>(
     rules: &R,
     alloc: Global,
