@@ -1,3 +1,4 @@
 pub mod Checking
 pub mod Converting
+pub mod Digits
 mod Reading

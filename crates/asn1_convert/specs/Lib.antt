@@ -1,3 +1,5 @@
+pub mod Answers
 pub mod Checks
 pub mod Conversions
+pub mod Digits
 pub mod Forms
