@@ -1,9 +1,9 @@
 -- Why octets are not the DER of a value of a type.
-use Rattle.std.specs.Prelude.{◌≡◌, ℕ, Bool, List, Ok, Vec}
+use Rattle.std.specs.Prelude.{◌≡◌, ℕ, ⊤, Bool, List, Option, Some, Ok, Vec}
 use Rattle.std.specs.declared.alloc.Global.{Global}
 use Rattle.asn1_certificate_rules.specs.Departures.{KeepsRules}
 use Rattle.asn1_certificate_rules.specs.Depths.{LiesDeeper}
-use Rattle.asn1_certificate_rules.specs.Findings.{Finds, IsAsked}
+use Rattle.asn1_certificate_rules.specs.Findings.{Finds, IsAsked, position_of}
 use Rattle.asn1_certificate_rules.specs.declared.finding.Finding.TheVariants.{Deeper}
 use Rattle.asn1_certificate_rules.specs.declared.notation.Part.TheVariants as part
 use Rattle.asn1_certificate_rules.specs.declared.rule.RuleSet.TheVariants as rules
@@ -25,6 +25,11 @@ IsCheckError m eq refusals depth octets (NotCanonical e) = DepartsAs der_format 
 abbrev pub AreRefusedFor : {V : Type 0} → Meaning V → ℕ → V → List ℕ → CheckError → Type 0
 AreRefusedFor m depth v octets (Broken finding) = (position : ℕ) × (finding ≡ Deeper position) × LiesDeeper depth part.Other octets position
 AreRefusedFor m depth v octets (NotCanonical e) = IsRefusedFor der_format m depth v e
+
+-- The position that is shown is that of a rule that the octets break, or of elements that lie deeper; of other octets it may be any.
+abbrev pub IsFaultPosition : CheckError → Option ℕ → Type 0
+IsFaultPosition (Broken finding) position = position ≡ Some (position_of finding)
+IsFaultPosition (NotCanonical e) position = ⊤
 
 module _ {V : Type 0} (m : Meaning V) (eq : V → V → Bool) (refusals : Refusals) (depth : ℕ) (octets : Vec ℕ Global) where
   -- The octets are the DER of a value, as which they may be read, and break no rule of X.690 that reading asks for.

@@ -3,3 +3,4 @@ pub mod Checks
 pub mod Conversions
 pub mod Digits
 pub mod Forms
+pub mod Lines

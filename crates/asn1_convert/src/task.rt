@@ -89,7 +89,7 @@ impl<'a> Task<'a> {
     /// [`AllocError`] if memory runs out for the answer. A value for whose conversion it does is a failure.
     pub fn perform<T: Encode + Decode + Drop>(self) -> Result<Answer, AllocError>
         ensures { IfOk result (IsAnswer T.meaning T.eq T.refusals self.entry.depth
-            self.entry.input.now self.entry.action) }
+            self.entry.input.now self.entry.before self.entry.action) }
     {
         match self.action {
             Action::Convert { from, to } => self.convert::<T>(from, to),
@@ -103,7 +103,7 @@ impl<'a> Task<'a> {
         to: OutputForm,
     ) -> Result<Answer, AllocError>
         ensures { IfOk result (IsConversion T.meaning T.eq T.refusals self.entry.depth
-            self.entry.input.now from to) }
+            self.entry.input.now self.entry.before from to) }
     {
         let conversion = convert_values::<T>(self.alloc, from, self.input, to, self.depth);
         let values = conversion.count;
