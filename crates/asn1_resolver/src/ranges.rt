@@ -5,13 +5,13 @@ use crate::resolver::Resolver;
 use asn1_notation::{Constraint, ConstraintKind, EndPoint, EndValue, NumberName, ValueKind};
 use asn1_resolved::{Range, Value};
 
-impl<'a> Resolver<'_, 'a> {
+impl<'r, 'a> Resolver<'r, 'a> {
     /// The range that a constraint on whole numbers is, if it is one. The base is the type of the numbers; sizes have none.
     pub(crate) fn range(
         &mut self,
-        base: Option<Governed<'a>>,
+        base: Option<Governed<'r, 'a>>,
         scope: Scope<'a>,
-        constraint: &'a Constraint,
+        constraint: &'r Constraint,
     ) -> Result<Option<Range>, Fault> {
         match &constraint.kind {
             ConstraintKind::Value(value) => {
@@ -61,9 +61,9 @@ impl<'a> Resolver<'_, 'a> {
     // The number at an end of a range. One that is left out is a step away from the end.
     fn end_point(
         &mut self,
-        base: Option<Governed<'a>>,
+        base: Option<Governed<'r, 'a>>,
         scope: Scope<'a>,
-        end: &'a EndPoint,
+        end: &'r EndPoint,
         step: i128,
     ) -> Result<Option<i128>, Fault> {
         match &end.value {
@@ -80,7 +80,11 @@ impl<'a> Resolver<'_, 'a> {
     }
 
     // The whole number that a value is.
-    fn bound(&mut self, base: Option<Governed<'a>>, written: Written<'a>) -> Result<i128, Fault> {
+    fn bound(
+        &mut self,
+        base: Option<Governed<'r, 'a>>,
+        written: Written<'r, 'a>,
+    ) -> Result<i128, Fault> {
         match base {
             Some(base) => match self.value(base, written)? {
                 Value::Integer(number) => Ok(number),
@@ -98,7 +102,7 @@ impl<'a> Resolver<'_, 'a> {
     }
 
     // Refuses a value that is no whole number.
-    fn refuse_bound(&mut self, written: Written<'a>) -> Fault {
+    fn refuse_bound(&mut self, written: Written<'r, 'a>) -> Fault {
         self.refuse(written.place(), &[b"a value of INTEGER is expected here"])
     }
 }

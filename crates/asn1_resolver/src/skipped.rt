@@ -1,4 +1,4 @@
-//! Definitions that are not read: objects, object sets and macros.
+//! Object sets that types name, and definitions that are not read.
 use crate::fault::Fault;
 use crate::governed::Scope;
 use crate::resolver::Resolver;
@@ -9,7 +9,7 @@ use asn1_resolved::Severity;
 use std::alloc::AllocError;
 use std::collections::HashSet;
 
-impl<'a> Resolver<'_, 'a> {
+impl<'r, 'a> Resolver<'r, 'a> {
     /// Keeps that a type names an object set, from brace to brace. The name of a parameter is no such set.
     pub(crate) fn keep_set(&mut self, scope: Scope<'a>, set: Span) -> Result<(), Fault> {
         let (qualifier, name) = name_in(scope.octets(set));
@@ -17,9 +17,10 @@ impl<'a> Resolver<'_, 'a> {
             .definitions
             .classes
             .is_skipped(scope.name, qualifier, name);
-        if is_set && self.known_sets.insert((scope.name, name))? {
+        let module = qualifier.unwrap_or(scope.name);
+        if is_set && self.known_sets.insert((module, name))? {
             self.used_sets.push(UsedSet {
-                module: qualifier.unwrap_or(scope.name),
+                module,
                 name,
                 place: scope.place(set),
             })?;
