@@ -1,3 +1,5 @@
 pub mod Checking
 pub mod Converting
+pub mod Digits
+pub mod Lines
 mod Reading

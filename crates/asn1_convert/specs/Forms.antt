@@ -1,5 +1,5 @@
--- The formats of the forms, and the first octets of an input that are one value's.
-use Rattle.std.specs.Prelude.{ℕ, List, Vec}
+-- The words and the formats of the forms, and the first octets of an input that are one value's.
+use Rattle.std.specs.Prelude.{ℕ, List, Vec, codes}
 use Rattle.std.specs.declared.alloc.Global.{Global}
 use Rattle.asn1_ber.specs.Cuts as ber
 use Rattle.asn1_ber.specs.Format.{ber_format}
@@ -10,6 +10,19 @@ use Rattle.asn1_der.specs.Format.{der_format}
 use Rattle.asn1_rules.specs.Rules.{Format}
 use Rattle.asn1_convert.specs.declared.form.CodecForm.{CodecForm}
 use Rattle.asn1_convert.specs.declared.form.CodecForm.TheVariants.{Der, Ber, Packed}
+use Rattle.asn1_convert.specs.declared.form.OutputForm.{OutputForm}
+use Rattle.asn1_convert.specs.declared.form.OutputForm.TheVariants.{Codec, Notation, Json}
+
+-- the words of a command line for the forms
+abbrev pub codec_word : CodecForm → List ℕ
+codec_word Der = codes "der"
+codec_word Ber = codes "ber"
+codec_word Packed = codes "packed"
+
+abbrev pub output_word : OutputForm → List ℕ
+output_word (Codec form) = codec_word form
+output_word Notation = codes "text"
+output_word Json = codes "json"
 
 -- which records the octets of a form carry
 abbrev pub format_of : CodecForm → Format (Vec ℕ Global)

@@ -2,7 +2,7 @@
 ghost use Rattle.asn1_certificate_rules.specs.Departures.{KeepsRules};
 ghost use Rattle.asn1_certificate_rules.specs.declared.notation.Part.TheVariants as part;
 ghost use Rattle.asn1_certificate_rules.specs.declared.rule.RuleSet.TheVariants as rules;
-ghost use Rattle.asn1_convert.specs.Checks.{AreRefusedFor, IsCheckError};
+ghost use Rattle.asn1_convert.specs.Checks.{AreRefusedFor, IsCheckError, IsFaultPosition};
 ghost use Rattle.asn1_der.specs.Format.{der_format};
 ghost use Rattle.asn1_model.specs.Meaning.{IsWellTagged, own_records};
 ghost use Rattle.asn1_rules.specs.CanonicalReading.{HasOneSpelling, IsWrittenAs, MayAnswer};
@@ -79,13 +79,19 @@ pub struct CheckFault {
     pub position: Option<usize>,
 }
 
-/// The octet at which octets are not the DER of a type, and the reason, for this error of [`check_der`]. No contract covers the words and the position.
+/// The octet at which octets are not the DER of a type, and the reason, for this error of [`check_der`]. No contract covers the words, nor
+/// the position in octets that break no rule.
+///
+/// # Errors
+/// [`AllocError`] if memory runs out.
 pub fn check_fault<T: Encode + Decode>(
     alloc: Global,
     octets: &Vec<u8>,
     error: CheckError,
     depth: usize,
-) -> Result<CheckFault, AllocError> {
+) -> Result<CheckFault, AllocError>
+    ensures position { IfOk result (λ fault. IsFaultPosition error fault.position) }
+{
     match error {
         CheckError::Broken(Finding::Broken(broken)) => Ok(CheckFault {
             cause: cause_at::<T>(

@@ -1,4 +1,8 @@
 //! The forms in which values come and go.
+ghost use Rattle.asn1_convert.specs.Forms.{codec_word, output_word};
+ghost use Rattle.asn1_convert.specs.declared.form.CodecForm.{CodecForm};
+ghost use Rattle.asn1_convert.specs.declared.form.OutputForm.{OutputForm};
+ghost use Rattle.std.specs.Prelude.{◌≡◌, IfSome};
 
 /// A codec of which values are read, and by which they are written.
 #[derive(Clone, Copy, Debug, Drop, PartialEq, Eq)]
@@ -24,7 +28,10 @@ pub enum OutputForm {
 
 impl CodecForm {
     /// The codec that a word of a command line names: `der`, `ber` or `packed`.
-    pub fn from_word(word: &str) -> Option<CodecForm> {
+    pub fn from_word(word: &str) -> Option<CodecForm>
+        ensures named { IfSome result (λ form. word.now ≡ codec_word form) }
+        ensures found { (form : CodecForm) → word.now ≡ codec_word form → result ≡ Some form }
+    {
         match word {
             "der" => Some(CodecForm::Der),
             "ber" => Some(CodecForm::Ber),
@@ -36,7 +43,10 @@ impl CodecForm {
 
 impl OutputForm {
     /// The form that a word of a command line names: that of a codec, `text` or `json`.
-    pub fn from_word(word: &str) -> Option<OutputForm> {
+    pub fn from_word(word: &str) -> Option<OutputForm>
+        ensures named { IfSome result (λ form. word.now ≡ output_word form) }
+        ensures found { (form : OutputForm) → word.now ≡ output_word form → result ≡ Some form }
+    {
         match word {
             "text" => Some(OutputForm::Notation),
             "json" => Some(OutputForm::Json),

@@ -4,13 +4,13 @@
 //! |---|---|---|
 //! | [`run`], [`TypeList`] | the program over a list of types | |
 //! | [`Pieces`] | an input that comes in pieces | |
-//! | [`Task`], [`Action`], [`Answer`], [`Converted`] | what is asked of the octets of values of a type, and what is written for it | |
+//! | [`Task`], [`Action`], [`Answer`], [`Converted`] | what is asked of the octets of values of a type, and what is written for it | `Answers`, `Lines` |
 //! | [`convert_values`], [`Conversion`], [`Stop`], [`Cause`] | values one after another, in another form | `Conversions` |
 //! | [`convert_value`], [`recode_between`] | the octets of one value | `Conversions` |
 //! | [`front_length`] | how many octets the first value of an input has | `Forms` |
 //! | [`check_der`], [`CheckError`] | whether octets are the DER of a type, and if not why | `Checks` |
-//! | [`check_fault`], [`CheckFault`] | where they are not, and the reason in words | |
-//! | [`CodecForm`], [`OutputForm`] | the forms of values: DER, BER, packed octets, X.680's notation and JSON | |
+//! | [`check_fault`], [`CheckFault`] | where they are not, and the reason in words | `Checks` |
+//! | [`CodecForm`], [`OutputForm`] | the forms of values: DER, BER, packed octets, X.680's notation and JSON | `Forms` |
 //!
 //! The contracts promise:
 //!
@@ -25,10 +25,16 @@
 //!   (`keeps`). An error is a true reason (`departs`). Octets that keep these rules and are the only DER of a valid value are read, unless
 //!   memory or depth refuses (`read`).
 //!
-//! No contract covers texts in X.680's notation (`asn1_value_text`), nor the words of a line on standard error, nor the place that it
-//! names (`asn1_paths`); the stored run of test_converters shows them. A program converts its input as it comes
-//! ([`Pieces`], of which no contract says more than that it ends), and keeps the octets of the value that is not there whole, and all
-//! those of `--check` and `--hex`.
+//! - The answer to a task ([`Task::perform`]) is such a conversion, with a failure exactly if it was stopped; or it tells whether the
+//!   octets are the DER of a value, with a failure exactly if they are refused (`IsAnswer` of `specs/Answers.antt`). The line of a stop
+//!   begins with the number of the value in the whole input and its first octet there (`IsLineOf` of `specs/Lines.antt`).
+//! - Hexadecimal digits are read as the octets that they stand for, with white space anywhere; another text is refused with the first
+//!   position at which it is none (`AreDigitsOf`, `IsFirstFault` of `specs/Digits.antt`).
+//!
+//! No contract covers texts in X.680's notation (`asn1_value_text`), nor the cause in a line on standard error, nor the place inside a
+//! value that it names (`asn1_paths`); the stored run of test_converters shows them. None covers what [`run`] does with the answers.
+//! A program converts its input as it comes ([`Pieces`], of which no contract says more than that it ends), and keeps the octets of the
+//! value that is not there whole, and all those of `--check` and `--hex`.
 #![tactic(auto)]
 
 mod arguments;

@@ -2,7 +2,7 @@
 
 use crate::arguments::{action_of, matches_of};
 use crate::form::{CodecForm, OutputForm};
-use crate::hexadecimal::octets_of_digits;
+use crate::hexadecimal::{DigitsError, octets_of_digits};
 use crate::pieces::Pieces;
 use crate::task::{Action, Answer, Converted, Task, TypeList};
 use std::env;
@@ -68,7 +68,7 @@ pub fn run<L: TypeList>(rt: &HostRuntime, program: &'static str) -> ExitCode {
                 Ok(answer) => give(rt, &answer),
                 Err(message) => fail(rt, message),
             },
-            Err(message) => fail(rt, message),
+            Err(status) => status,
         },
     }
 }
@@ -129,19 +129,19 @@ fn answer_of<L: TypeList>(
     }
 }
 
-/// The octets of standard input.
-fn input_of(rt: &HostRuntime, is_hexadecimal: bool) -> Result<Vec<u8>, &'static str> {
+/// The octets of standard input, or the status where there are none.
+fn input_of(rt: &HostRuntime, is_hexadecimal: bool) -> Result<Vec<u8>, ExitCode> {
     let mut input = Vec::new(rt.alloc());
     if rt.reader().read_to_end(&mut input).is_err() {
-        return Err(NOT_READ);
+        return Err(fail(rt, NOT_READ));
     }
     if !is_hexadecimal {
         return Ok(input);
     }
     match octets_of_digits(rt.alloc(), input.as_slice()) {
-        Ok(Some(octets)) => Ok(octets),
-        Ok(None) => Err("the input is no pairs of hexadecimal digits"),
-        Err(_) => Err(NO_MEMORY),
+        Ok(octets) => Ok(octets),
+        Err(DigitsError::Memory) => Err(fail(rt, NO_MEMORY)),
+        Err(DigitsError::At(position)) => Err(fail_at(rt, position)),
     }
 }
 
@@ -167,5 +167,13 @@ fn give(rt: &HostRuntime, answer: &Answer) -> ExitCode {
 /// Tells why the program did not do what was asked.
 fn fail(rt: &HostRuntime, message: &str) -> ExitCode {
     let _ = eprintln!(rt; "error: {message}");
+    ExitCode::from(FAILED)
+}
+
+/// Tells at which octet the input is not of hexadecimal digits.
+fn fail_at(rt: &HostRuntime, position: usize) -> ExitCode {
+    let _ = eprintln!(rt;
+        "error: the input is no pairs of hexadecimal digits, at octet {position}"
+    );
     ExitCode::from(FAILED)
 }

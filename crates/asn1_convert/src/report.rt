@@ -1,4 +1,7 @@
 //! The line for a value that was not converted.
+ghost use Rattle.asn1_convert.specs.Lines.{IsLineOf, last_octet, place_text};
+ghost use Rattle.std.specs.Prelude.{◌≡◌, IfOk};
+ghost use Rattle.std.specs.String.{string_bytes};
 
 use crate::form::CodecForm;
 use crate::places::{ReadFailure, malformed_failure, read_failure};
@@ -8,7 +11,7 @@ use asn1_dec::Decode;
 use asn1_der_items::find_element;
 use asn1_items::ItemError;
 use asn1_rules::RecodeError;
-use std::alloc::AllocError;
+use std::alloc::{AllocError, Global};
 use std::fmt::Write;
 
 /// The line for a value of a task that was not converted: its number in the input, from 1, its octets, and where in it and why.
@@ -16,35 +19,66 @@ pub(crate) fn stop_line<T: Decode>(
     task: Task<'_>,
     from: CodecForm,
     stop: Stop,
-) -> Result<String, AllocError> {
-    let alloc = task.alloc;
-    let number = task
-        .before
-        .values
-        .saturating_add(stop.before)
-        .saturating_add(1);
+) -> Result<String, AllocError>
+    ensures { IfOk result (λ line. IsLineOf task.entry.before stop (string_bytes line)) }
+{
+    let number = task.before.values.saturating_add(stop.before);
     let start = task.before.octets.saturating_add(stop.start);
     let length = known_length(task.input, from, stop);
     let octets = octets_of(task.input, stop.start, length);
-    let mut text = format!(in alloc; "value {number}, ")?;
-    push_octets(&mut text, start, length)?;
-    text.push_str(": ")?;
-    match stop.cause {
-        Cause::NotRecoded(RecodeError::Read(error)) => {
-            let failure = read_failure::<T>(alloc, from, octets, error, task.depth)?;
-            push_failure(&mut text, start, failure)?;
-        }
-        Cause::NoFront(ItemError::Malformed) if length.is_some() => {
-            let failure = malformed_failure::<T>(alloc, octets, task.depth)?;
-            push_failure(&mut text, start, failure)?;
-        }
-        Cause::NotRecoded(RecodeError::Write(error)) => write!(&mut text, "not written: {error}")?,
-        Cause::NoFront(ItemError::Missing(_)) => text.push_str("the input ends inside it")?,
-        Cause::NoFront(ItemError::Malformed) => text.push_str("no value begins here")?,
-        Cause::NoFront(ItemError::Memory) | Cause::Memory => text.push_str("no memory")?,
-    }
+    let cause = cause_of::<T>(task, from, stop.cause, octets, length, start)?;
+    let mut text = place_text(task.alloc, number.saturating_add(1), start, length)?;
+    text.push_str(cause.as_str())?;
     text.push('\n')?;
     Ok(text)
+}
+
+/// The number of a value, and its first and its last octet, or the first alone.
+fn place_text(
+    alloc: Global,
+    number: usize,
+    start: usize,
+    length: Option<usize>,
+) -> Result<String, AllocError>
+    ensures { IfOk result (λ text.
+        string_bytes text ≡ place_text number start (last_octet start length)) }
+{
+    match length {
+        Some(length) if length > 0 => {
+            let last = start.saturating_add(length - 1);
+            format!(in alloc; "value {number}, octets {start} to {last}: ")
+        }
+        _ => format!(in alloc; "value {number}, octet {start}: "),
+    }
+}
+
+/// Why the octets of a value that begins at an octet were not converted, and where.
+fn cause_of<T: Decode>(
+    task: Task<'_>,
+    from: CodecForm,
+    cause: Cause,
+    octets: &[u8],
+    length: Option<usize>,
+    start: usize,
+) -> Result<String, AllocError> {
+    let alloc = task.alloc;
+    match cause {
+        Cause::NotRecoded(RecodeError::Read(error)) => {
+            failure_text(
+                read_failure::<T>(alloc, from, octets, error, task.depth)?,
+                start,
+            )
+        }
+        Cause::NoFront(ItemError::Malformed) if length.is_some() => {
+            failure_text(malformed_failure::<T>(alloc, octets, task.depth)?, start)
+        }
+        Cause::NotRecoded(RecodeError::Write(error)) => format!(in alloc; "not written: {error}"),
+        Cause::NoFront(ItemError::Missing(_)) => {
+            String::from_str(alloc, "the input ends inside it")
+        }
+        Cause::NoFront(ItemError::Malformed) => String::from_str(alloc, "no value begins here"),
+        Cause::NoFront(ItemError::Memory) | Cause::Memory => String::from_str(alloc, "no memory"),
+    }
 }
 
 /// How many octets a value has that was not converted, if that is known: of an element whose inside is malformed by its own length.
@@ -61,24 +95,11 @@ fn known_length(input: &[u8], from: CodecForm, stop: Stop) -> Option<usize> {
     }
 }
 
-/// Appends why and where a value was not read that begins at an octet.
-fn push_failure(text: &mut String, start: usize, failure: ReadFailure) -> Result<(), AllocError> {
-    text.push_str(failure.words.as_str())?;
-    push_position(text, start, failure.position)
-}
-
-/// Appends the first and the last octet of a value, or the first alone.
-fn push_octets(text: &mut String, start: usize, length: Option<usize>) -> Result<(), AllocError> {
-    match length {
-        Some(length) if length > 0 => {
-            write!(
-                text,
-                "octets {start} to {}",
-                start.saturating_add(length - 1)
-            )
-        }
-        _ => write!(text, "octet {start}"),
-    }
+/// Why and where a value was not read that begins at an octet.
+fn failure_text(failure: ReadFailure, start: usize) -> Result<String, AllocError> {
+    let mut text = failure.words;
+    push_position(&mut text, start, failure.position)?;
+    Ok(text)
 }
 
 /// Appends the octet of a position in octets that begin here, if it is known.

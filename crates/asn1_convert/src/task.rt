@@ -1,4 +1,6 @@
 //! The work of a program on the octets of values of a type.
+ghost use Rattle.asn1_convert.specs.Answers.{IsAnswer, IsConversion, IsVerdict, missing_octets};
+ghost use Rattle.std.specs.Prelude.{◌≡◌, IfOk};
 
 use crate::check::{check_der, check_line};
 use crate::form::{CodecForm, OutputForm};
@@ -80,8 +82,15 @@ pub trait TypeList {
 }
 
 impl<'a> Task<'a> {
-    /// The answer for a type. It fails only if memory runs out.
-    pub fn perform<T: Encode + Decode + Drop>(self) -> Result<Answer, AllocError> {
+    /// The answer for a type: the conversions of the values of the input, up to the first that is not converted; or whether the input is
+    /// the DER of a value. There is a failure exactly if a value is not converted, or the input refused.
+    ///
+    /// # Errors
+    /// [`AllocError`] if memory runs out for the answer. A value for whose conversion it does is a failure.
+    pub fn perform<T: Encode + Decode + Drop>(self) -> Result<Answer, AllocError>
+        ensures { IfOk result (IsAnswer T.meaning T.eq T.refusals self.entry.depth
+            self.entry.input.now self.entry.before self.entry.action) }
+    {
         match self.action {
             Action::Convert { from, to } => self.convert::<T>(from, to),
             Action::Check => self.check::<T>(),
@@ -92,7 +101,10 @@ impl<'a> Task<'a> {
         self,
         from: CodecForm,
         to: OutputForm,
-    ) -> Result<Answer, AllocError> {
+    ) -> Result<Answer, AllocError>
+        ensures { IfOk result (IsConversion T.meaning T.eq T.refusals self.entry.depth
+            self.entry.input.now self.entry.before from to) }
+    {
         let conversion = convert_values::<T>(self.alloc, from, self.input, to, self.depth);
         let values = conversion.count;
         match conversion.stop {
@@ -117,7 +129,10 @@ impl<'a> Task<'a> {
         }
     }
 
-    fn check<T: Encode + Decode + Drop>(self) -> Result<Answer, AllocError> {
+    fn check<T: Encode + Decode + Drop>(self) -> Result<Answer, AllocError>
+        ensures { IfOk result (IsVerdict T.meaning T.eq T.refusals self.entry.depth
+            self.entry.input.now) }
+    {
         let failure = match check_der::<T>(self.alloc, self.input, self.depth) {
             Ok(_value) => None,
             Err(error) => Some(check_line::<T>(self.alloc, self.input, error, self.depth)?),
@@ -132,7 +147,9 @@ impl<'a> Task<'a> {
 }
 
 /// How many octets a value lacks at least that was not converted, if the input ends inside it.
-fn missing_octets(cause: Cause) -> Option<usize> {
+fn missing_octets(cause: Cause) -> Option<usize>
+    ensures { result ≡ missing_octets cause }
+{
     match cause {
         Cause::NoFront(ItemError::Missing(count)) => Some(count),
         _ => None,

@@ -49,7 +49,7 @@ impl fmt::Display for TypeRule {
     fn fmt<W: fmt::Write>(&self, f: &mut fmt::Formatter<W>) -> fmt::Result {
         match self {
             TypeRule::Listed(rule) => write!(f, "{rule}"),
-            TypeRule::OfContents(fault) => f.write_str(fault.words()),
+            TypeRule::OfContents(fault) => f.write_str(fault.words),
         }
     }
 }
@@ -156,7 +156,7 @@ fn check_contents(tags: ElementTags, octets: &[u8], element: Element<'_>) -> Typ
 
 /// The position at which the element with which octets begin breaks a rule: that of its contents octets, unless it has none.
 fn position_of(fault: ContentsFault, octets: &[u8], element: Element<'_>) -> usize {
-    if fault.is_of_identifier() || element.contents.is_empty() {
+    if fault.is_of_identifier || element.contents.is_empty() {
         0
     } else {
         header_length(octets)
