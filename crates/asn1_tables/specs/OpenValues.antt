@@ -32,7 +32,7 @@ module _ (F : Format (Vec ℕ Global)) where
       pub may_answer : MayAnswer F m eq refusals depth output answer
 
     -- The same, or memory ran out.
-    pub MayAnswerOf : Type 0
+    unfoldable pub MayAnswerOf : Type 0
     MayAnswerOf = IsAnswerOf ⊎ (answer ≡ Err Memory)
 
   -- A call that writes the value, under the tag, the constraints and the name of its type, as the octets of an open type.
