@@ -3,7 +3,7 @@
 //! | Words | Work |
 //! |---|---|
 //! | `CODEC TYPE DEPTH OCTETS` | the codec `der` or `ber` reads a value of the octets, in at most DEPTH scopes, and DER writes it |
-//! | `levels COUNT DEPTH` | BER reads a `Chain` of so many links, each in an element of indefinite length |
+//! | `levels COUNT DEPTH` | BER reads a `Chain` of that many links, each in an element of indefinite length |
 //!
 //! OCTETS are in hexadecimal. After ` ; ` comes the source of a line. The program writes the line, and behind an arrow the octets,
 //! or the number of links, or why the value was refused. Lines that are empty or begin with `#` are written as they are. The stored

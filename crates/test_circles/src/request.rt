@@ -48,7 +48,7 @@ impl<'a> Request<'a> {
         })
     }
 
-    // The request to read so many links.
+    // The request to read that many links.
     fn of_links(alloc: Global, links: usize, depth: &str) -> Option<Request<'static>> {
         Some(Request {
             codec: Codec::Ber,
@@ -60,7 +60,7 @@ impl<'a> Request<'a> {
     }
 }
 
-// The BER of a chain of so many links: each is an element under tag 1 of indefinite length, and the end is a NULL under tag 0.
+// The BER of a chain of that many links: each is an element under tag 1 of indefinite length, and the end is a NULL under tag 0.
 fn chain_octets(alloc: Global, links: usize) -> Result<Vec<u8>, AllocError> {
     let mut octets = Vec::new(alloc);
     for _ in 0..links {
