@@ -27,5 +27,11 @@ returns-clause-lines g c = record {
     are = refl;
     may = record { read = c.in_ok-message.ensures.read; refuses = c.in_ok-message.ensures.refuses };
   };
+  message_id = c.in-Some._beginning.message_id.now;
+  operation = c.in-Some._beginning.operation.now;
+  begins = c.in-Some.ensures;
   lines = c.in_ok-text.ensures.text;
 }
+
+pub returns-in_default-clause-not_read : goal.returns-in_default-clause-not_read
+returns-in_default-clause-not_read g c = memory_runs_out g.M.Rules.format c.args.self.now.depth c.args.octets.now
