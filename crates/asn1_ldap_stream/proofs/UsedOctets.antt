@@ -56,7 +56,7 @@ lead depth octets _ _ (one_more text lines used count before more) =
     later octets 0 used count (lead depth octets text used before) (step depth (drop used octets) count lines more)
 
 -- nothing is there, or no message
-Stop : List ℕ → Type 0
+abbrev Stop : List ℕ → Type 0
 Stop octets = EndInside octets ⊎ BeginNoMessage octets
 
 no_step : (octets : List ℕ) (count : ℕ) → Stop octets → Step octets count → ⊥
