@@ -63,9 +63,9 @@ module _ {V : Type 0} (m : Meaning V) where
 
     -- what was read is none of what the type refuses
     pub none_refused : (refusals : Refusals) (w : V) → MayAnswer der_format m eq refusals 64 own (Ok w) → AreOfNoneRefused m refusals octets
-    none_refused refusals w answered = record {
-      none = λ rs e refused formed carried. answered.refuses rs e refused formed (subst (λ l. Carries l rs) (sym same) carried);
-    }
+    unfolding AreOfNoneRefused
+    none_refused refusals w answered = λ rs e refused formed carried.
+        answered.refuses rs e refused formed (subst (λ l. Carries l rs) (sym same) carried)
 
     module _ (e : CheckError) where
       -- each value of which the octets are the only DER is refused for memory or depth

@@ -38,10 +38,11 @@ module _ {V : Type 0} (m : Meaning V) where
   unfoldable pub IsDerOf : List ℕ → Type 0
   IsDerOf octets = ValueOf octets
 
-  -- The octets are the DER of no records that the type refuses, as an INTEGER type refuses a number outside its limits.
-  pub record AreOfNoneRefused (refusals : Refusals) (octets : List ℕ) : Type 0 where
-    pub none : (rs : List Record) (e : DecodeError) → refusals der_format.accepts m.tag m.constraints rs e →
-        AreWellFormed der_format.accepts rs → ¬ Carries octets rs
+  -- The octets are the DER of no records that the type refuses, as an INTEGER type refuses a number outside its limits; at a concrete
+  -- type a proof does not look for them.
+  unfoldable pub AreOfNoneRefused : Refusals → List ℕ → Type 0
+  AreOfNoneRefused refusals octets =
+      (rs : List Record) (e : DecodeError) → refusals der_format.accepts m.tag m.constraints rs e → AreWellFormed der_format.accepts rs → ¬ Carries octets rs
 
   -- The octets are the DER of this value, which is valid, and no other octets are; and they break no rule.
   pub record IsOnlyDerOf (eq : V → V → Bool) (value : V) (octets : List ℕ) : Type 0 where
