@@ -62,7 +62,7 @@ impl<M: Rules<Output = Vec<u8>>> MessageRules<M> {
     {
         let message: LdapMessage = self.rules.read_value(octets, self.depth)?;
         // No message begins otherwise, but no contract says so.
-        let Some(_beginning) = beginning_of(octets) else {
+        let Some(_beginning) = beginning_of(octets.as_slice()) else {
             return Err(DecodeError::Memory);
         };
         let text = message_text(self.alloc, &message)?;

@@ -1,5 +1,6 @@
-use Rattle.std.proofs.Common.{refl}
+use Rattle.std.proofs.Common.{List, refl, subst, ℕ}
 use Rattle.std.proofs.lemmas.Result.{err_from_is_err_and}
+use Rattle.asn1_ldap_stream.specs.Beginnings.{IsBeginning}
 use Rattle.asn1_ldap_stream.proofs.Elements.{memory_runs_out}
 use Rattle.asn1_ldap_stream.proofs.messages.MessageRules.message_lines.Goals as goal
 
@@ -29,7 +30,7 @@ returns-clause-lines g c = record {
   };
   message_id = c.in-Some._beginning.message_id.now;
   operation = c.in-Some._beginning.operation.now;
-  begins = c.in-Some.ensures;
+  begins = subst (λ (l : List ℕ). IsBeginning l c.in-Some._beginning.message_id.now c.in-Some._beginning.operation.now) c.as_slice.ensures.value c.in-Some.ensures;
   lines = c.in_ok-text.ensures.text;
 }
 
