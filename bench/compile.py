@@ -425,6 +425,8 @@ CIRCLES = ("M DEFINITIONS AUTOMATIC TAGS ::= BEGIN\nA ::= SEQUENCE { b B }\nB ::
            "D ::= CHOICE { d D, e SEQUENCE OF E }\nE ::= CHOICE { d D, e SEQUENCE OF E, f NULL }\nEND\n")
 BESIDE = ("M DEFINITIONS AUTOMATIC TAGS ::= BEGIN\nTree ::= CHOICE { leaf NULL, trees SEQUENCE OF Tree }\nTreeReader ::= SEQUENCE { a NULL }\n"
           "TreeOf ::= SEQUENCE { a NULL }\nEND\n")
+PARTS = ("M DEFINITIONS AUTOMATIC TAGS ::= BEGIN\nTree ::= CHOICE { leaf NULL, node Node }\n"
+         "Node ::= SEQUENCE { args-x INTEGER, args SEQUENCE { x BOOLEAN, inner Tree OPTIONAL } }\nEND\n")
 CLASH = "M DEFINITIONS ::= BEGIN\nA ::= SEQUENCE { a NULL OPTIONAL, b NULL }\nEND\n"
 
 
@@ -470,6 +472,9 @@ def try_arguments():
                  "-:5:1: no CHOICE or SEQUENCE without a tag is in each circle of the types 'D', 'E'"], 1))
     expect("types with the names of files of a circle", sorted(path for path in files_of(run(["x"], BESIDE)[0]) if path.startswith("src/tree")),
            ["src/tree.rt", "src/tree_of.rt", "src/tree_of2.rt", "src/tree_parts.rt", "src/tree_reader.rt", "src/tree_reader2.rt"])
+    parts = files_of(run(["x"], PARTS)[0]).get("src/tree_parts.rt", "")
+    expect("two parts of a circle with one name", [line for line in parts.splitlines() if " struct " in line],
+           [f"pub(crate) struct {name};" for name in ("NodeArgsXPart", "NodeArgsXPart2", "TreeOfLeafPart")])
     expect("--check", run(["x", "--check"], RIGHT), ("", "", 0))
     written, told, status = run(["x", "--help"])
     expect("--help", ("--extern" in written, told, status), (True, "", 0))
