@@ -53,6 +53,7 @@ mod literals;
 mod modules;
 mod named_numbers;
 mod numbers;
+mod object_fields;
 mod open_values;
 mod ranges;
 mod references;

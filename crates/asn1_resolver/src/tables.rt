@@ -235,8 +235,8 @@ impl<'a> Resolver<'_, 'a> {
         }
     }
 
-    // The type of the values that a field of a class holds.
-    fn type_of_values(&self, class: &ObjectClass<'a>, field: usize) -> Option<Governed<'a>> {
+    /// The type of the values that a field of a class holds.
+    pub(crate) fn type_of_values(&self, class: &ObjectClass<'a>, field: usize) -> Option<Governed<'a>> {
         match (class.fields.get(field)?.contents, class.home) {
             (FieldContents::Value(definition), Some(home)) => Some(Governed {
                 scope: scope_of(home),
@@ -465,7 +465,7 @@ fn cause_of(operation: SetOperation) -> &'static [u8] {
     }
 }
 
-// The module of an object.
-fn scope_of(home: Home<'_>) -> Scope<'_> {
+/// The module of an object.
+pub(crate) fn scope_of(home: Home<'_>) -> Scope<'_> {
     Scope::of(home.text, home.source, home.module)
 }

@@ -267,7 +267,12 @@ impl<'a> Resolver<'_, 'a> {
             asn1_notation::Usage::Required => Ok(Usage::Required),
             asn1_notation::Usage::Optional => Ok(Usage::Optional),
             asn1_notation::Usage::Default(value) => {
-                match self.value(listed.governed(), listed.written(value)) {
+                let written = listed.written(value);
+                if self.is_open_field(written.scope, value) {
+                    self.warn_of_open_field(written)?;
+                    return Ok(Usage::Optional);
+                }
+                match self.value(listed.governed(), written) {
                     Ok(value) => Ok(Usage::Default(value)),
                     Err(Fault::Refused) => Ok(Usage::Optional),
                     Err(Fault::Memory) => Err(Fault::Memory),
