@@ -9,7 +9,7 @@ use crate::written::in_one_line;
 use asn1_names::Place;
 use asn1_resolved::{Range, Type, TypeKind, Value};
 use asn1_resolved_tables::{Row, Table};
-use asn1_rust_names::{TakenNames, camel_case, snake_case};
+use asn1_rust_names::{TakenNames, snake_case};
 use asn1_rust_tables::{KeyKind, OpenRow, OpenTable, RowKey, table_file};
 use std::alloc::AllocError;
 
@@ -100,9 +100,9 @@ fn page_of(plan: &Plan<'_, '_>, summary: &str) -> Result<Vec<String>, AllocError
 
 // The name of the enum: that of the set; and of the column, where its class has several.
 fn enum_name(plan: &Plan<'_, '_>, table: &Table<'_>) -> Result<String, AllocError> {
-    let mut name = camel_case(plan.alloc, table.name)?;
+    let mut name = plan.camel(table.name)?;
     if table.is_one_of_many {
-        let column = camel_case(plan.alloc, table.column)?;
+        let column = plan.camel(table.column)?;
         name.push_str(column.as_str())?;
     }
     Ok(name)
@@ -114,7 +114,8 @@ fn key_name(plan: &Plan<'_, '_>, table: &Table<'_>) -> Result<String, AllocError
     for name in CALL_NAMES {
         let _taken = names.take(name)?;
     }
-    let name = snake_case(plan.alloc, table.key)?;
+    let name = plan.words.separated(table.key)?;
+    let name = snake_case(plan.alloc, name.as_slice())?;
     names.take(name.as_str())
 }
 
@@ -195,7 +196,7 @@ fn rows_of(
     for (index, row) in table.rows.iter().enumerate() {
         if let Some(key) = row_key(plan, &row.key)? {
             let wanted = row_name(plan, row, index)?;
-            let wanted = new_variant(plan.alloc, wanted.as_bytes(), &mut names)?;
+            let wanted = new_variant(plan, wanted.as_bytes(), &mut names)?;
             let written = written(plan, row.place)?;
             let texts = part_texts(plan, name, wanted.as_str(), written.as_str())?;
             let definition = type_name(plan, &row.cell, texts.owner())?;
@@ -224,7 +225,7 @@ fn row_key(plan: &Plan<'_, '_>, key: &Value<'_>) -> Result<Option<RowKey>, Alloc
 // The name of a variant: that of the object or of its key, without `id-`, or else its number.
 fn row_name(plan: &Plan<'_, '_>, row: &Row<'_>, index: usize) -> Result<String, AllocError> {
     match row.name {
-        Some(name) => camel_case(plan.alloc, name.strip_prefix(b"id-").unwrap_or(name)),
+        Some(name) => plan.camel(name.strip_prefix(b"id-").unwrap_or(name)),
         None => {
             let number = index.saturating_add(1);
             format!(in plan.alloc; "Object{number}")

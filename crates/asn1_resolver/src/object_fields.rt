@@ -146,7 +146,11 @@ impl<'a> Resolver<'_, 'a> {
         if scope.parameter(&reference).is_some() {
             return self.refuse(
                 place,
-                &[b"an argument tells the fields of '", name, b"', so none is a value here"],
+                &[
+                    b"an argument tells the fields of '",
+                    name,
+                    b"', so none is a value here",
+                ],
             );
         }
         if self.object_definition(scope, &reference).is_some() {
@@ -234,7 +238,11 @@ impl<'a> Resolver<'_, 'a> {
         let text = scope.octets(name);
         self.refuse(
             scope.place(name),
-            &[b"field '&", text, b"' of an object is no value of a type of its own"],
+            &[
+                b"field '&",
+                text,
+                b"' of an object is no value of a type of its own",
+            ],
         )
     }
 

@@ -17,10 +17,7 @@ impl<'a> Resolver<'_, 'a> {
         match &constraint.kind {
             ConstraintKind::Value(value) if self.is_open_field(scope, value) => Ok(None),
             ConstraintKind::Range(lower, upper)
-                if self.is_open_end(scope, lower) || self.is_open_end(scope, upper) =>
-            {
-                Ok(None)
-            }
+                if self.is_open_end(scope, lower) || self.is_open_end(scope, upper) => { Ok(None) }
             ConstraintKind::Value(value) => {
                 let number = self.bound(base, Written { scope, value })?;
                 Ok(Some(Range {

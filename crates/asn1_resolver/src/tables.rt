@@ -236,7 +236,11 @@ impl<'a> Resolver<'_, 'a> {
     }
 
     /// The type of the values that a field of a class holds.
-    pub(crate) fn type_of_values(&self, class: &ObjectClass<'a>, field: usize) -> Option<Governed<'a>> {
+    pub(crate) fn type_of_values(
+        &self,
+        class: &ObjectClass<'a>,
+        field: usize,
+    ) -> Option<Governed<'a>> {
         match (class.fields.get(field)?.contents, class.home) {
             (FieldContents::Value(definition), Some(home)) => Some(Governed {
                 scope: scope_of(home),

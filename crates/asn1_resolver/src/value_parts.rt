@@ -271,11 +271,7 @@ impl<'a> Resolver<'_, 'a> {
         }
         let scope = written.scope;
         let word = type_word(&base.definition.kind);
-        Err(self.refuse_name(
-            scope.place(name),
-            scope.octets(name),
-            word,
-        ))
+        Err(self.refuse_name(scope.place(name), scope.octets(name), word))
     }
 
     // Whether a value is one of a field of a class that has no tree of its own.
