@@ -77,7 +77,7 @@ fn add_table(plan: &mut Plan<'_, '_>, table: &Table<'_>) -> Result<(), AllocErro
         crate_name: plan.text(plan.request.crate_name)?,
         module: plan.text(module.as_str())?,
         summary,
-        key_field: text_of(plan.alloc, table.key)?,
+        key_field: key_field(plan, table)?,
         key_name: key_name(plan, table)?,
         key,
         rows,
@@ -98,12 +98,33 @@ fn page_of(plan: &Plan<'_, '_>, summary: &str) -> Result<Vec<String>, AllocError
     Ok(lines)
 }
 
-// The name of the enum: that of the set; and of the column, where its class has several.
+// The name of the enum: that of the set; of the column, where its class has several; of the key, where another is UNIQUE; and of the
+// alternative, where the key is a CHOICE.
 fn enum_name(plan: &Plan<'_, '_>, table: &Table<'_>) -> Result<String, AllocError> {
     let mut name = plan.camel(table.name)?;
     if table.is_one_of_many {
         let column = plan.camel(table.column)?;
         name.push_str(column.as_str())?;
+    }
+    if table.is_by_other_key {
+        let key = plan.camel(table.key)?;
+        name.push_str("By")?;
+        name.push_str(key.as_str())?;
+    }
+    if let Some(alternative) = table.alternative {
+        let alternative = plan.camel(alternative)?;
+        name.push_str(alternative.as_str())?;
+    }
+    Ok(name)
+}
+
+// The name of the field that is the key, with the alternative of its value behind a colon.
+fn key_field(plan: &Plan<'_, '_>, table: &Table<'_>) -> Result<String, AllocError> {
+    let mut name = text_of(plan.alloc, table.key)?;
+    if let Some(alternative) = table.alternative {
+        let alternative = text_of(plan.alloc, alternative)?;
+        name.push_str(": ")?;
+        name.push_str(alternative.as_str())?;
     }
     Ok(name)
 }
@@ -114,7 +135,9 @@ fn key_name(plan: &Plan<'_, '_>, table: &Table<'_>) -> Result<String, AllocError
     for name in CALL_NAMES {
         let _taken = names.take(name)?;
     }
-    let name = plan.words.separated(table.key)?;
+    let name = plan
+        .words
+        .separated(table.alternative.unwrap_or(table.key))?;
     let name = snake_case(plan.alloc, name.as_slice())?;
     names.take(name.as_str())
 }

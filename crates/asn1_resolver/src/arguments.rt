@@ -141,7 +141,7 @@ impl<'a> Resolver<'_, 'a> {
         )?;
         for argument in named.arguments {
             if let Argument::Braced(span) = argument {
-                self.keep_set(named.scope, *span)?;
+                self.keep_set(named.scope, *span, None)?;
             }
         }
         Ok(())
@@ -207,7 +207,7 @@ impl<'a> Resolver<'_, 'a> {
     ) -> Result<(), Fault> {
         let Some(wanted) = wanted_of(template.scope, parameter, argument) else {
             if let Argument::Braced(span) = argument {
-                self.keep_set(named.scope, *span)?;
+                self.keep_set(named.scope, *span, None)?;
             }
             return Ok(());
         };

@@ -57,6 +57,7 @@ mod object_fields;
 mod open_values;
 mod ranges;
 mod references;
+mod relations;
 mod resolution;
 mod resolver;
 mod skipped;

@@ -1,5 +1,6 @@
 //! Values of the fields of information objects (X.681, 15).
 use crate::fault::Fault;
+use crate::fields::FieldType;
 use crate::governed::{Governed, Scope, Written};
 use crate::resolver::Resolver;
 use crate::tables::scope_of;
@@ -71,16 +72,51 @@ impl<'a> Resolver<'_, 'a> {
         object: &Reference,
         names: &[Span],
     ) -> Result<(Governed<'a>, Written<'a>), Fault> {
-        let mut named = self.behind_objects(scope, object);
         let Some((last, inner)) = names.split_last() else {
             return Err(Fault::Refused);
         };
-        for name in inner {
+        let found = self.inner_object(scope, object, inner)?;
+        self.value_of_field(scope, found, *last)
+    }
+
+    /// The type to which the names of fields lead from an object.
+    pub(crate) fn type_of_object(
+        &mut self,
+        scope: Scope<'a>,
+        object: &Reference,
+        names: &[Span],
+    ) -> Result<FieldType<'a>, Fault> {
+        let Some((last, inner)) = names.split_last() else {
+            return Err(Fault::Refused);
+        };
+        let found = self.inner_object(scope, object, inner)?;
+        match self.held_by(scope, found, *last)? {
+            (scope, Held::Type(definition)) => {
+                Ok(FieldType::Fixed(Governed { scope, definition }))
+            }
+            _ => {
+                let name = scope.octets(*last);
+                Err(self.refuse(
+                    scope.place(*last),
+                    &[b"field '&", name, b"' of an object is no type"],
+                ))
+            }
+        }
+    }
+
+    // The object to which the names of fields lead from another.
+    fn inner_object(
+        &mut self,
+        scope: Scope<'a>,
+        object: &Reference,
+        names: &[Span],
+    ) -> Result<Found<'a>, Fault> {
+        let mut named = self.behind_objects(scope, object);
+        for name in names {
             let found = self.find_object(named)?;
             named = self.object_of_field(scope, found, *name)?;
         }
-        let found = self.find_object(named)?;
-        self.value_of_field(scope, found, *last)
+        self.find_object(named)
     }
 
     // The name of an object behind parameters.
@@ -214,13 +250,7 @@ impl<'a> Resolver<'_, 'a> {
         let Some(governed) = self.type_of_values(found.class, index) else {
             return Err(self.refuse_field_value(scope, name));
         };
-        let (held_scope, held) = match found.object.setting(index) {
-            Some(setting) => (found.scope, &setting.held),
-            None => match default_held(found.class, index) {
-                Some(default) => default,
-                None => return Err(self.refuse_lack(scope, name)),
-            },
-        };
+        let (held_scope, held) = self.held_by(scope, found, name)?;
         match held {
             Held::Value(value) => Ok((
                 governed,
@@ -230,6 +260,23 @@ impl<'a> Resolver<'_, 'a> {
                 },
             )),
             _ => Err(self.refuse_field_value(scope, name)),
+        }
+    }
+
+    // What a field of an object holds, or the DEFAULT of its class, with its module.
+    fn held_by(
+        &mut self,
+        scope: Scope<'a>,
+        found: Found<'a>,
+        name: Span,
+    ) -> Result<(Scope<'a>, &'a Held), Fault> {
+        let index = self.index_of_field(scope, found, name)?;
+        match found.object.setting(index) {
+            Some(setting) => Ok((found.scope, &setting.held)),
+            None => match default_held(found.class, index) {
+                Some(default) => Ok(default),
+                None => Err(self.refuse_lack(scope, name)),
+            },
         }
     }
 

@@ -10,18 +10,26 @@ use std::alloc::AllocError;
 use std::collections::HashSet;
 
 impl<'a> Resolver<'_, 'a> {
-    /// Keeps that a type names an object set, from brace to brace. The name of a parameter is no such set.
-    pub(crate) fn keep_set(&mut self, scope: Scope<'a>, set: Span) -> Result<(), Fault> {
+    /// Keeps that a type names an object set, from brace to brace, and the field of its class that tells the row, if a component is
+    /// named. The name of a parameter is no such set.
+    pub(crate) fn keep_set(
+        &mut self,
+        scope: Scope<'a>,
+        set: Span,
+        key: Option<&'a [u8]>,
+    ) -> Result<(), Fault> {
         let (qualifier, name) = name_in(scope.octets(set));
         let is_set = self
             .definitions
             .classes
             .is_skipped(scope.name, qualifier, name);
-        if is_set && self.known_sets.insert((scope.name, name))? {
+        let field = key.unwrap_or(b"");
+        if is_set && self.known_sets.insert((scope.name, name, field))? {
             self.used_sets.push(UsedSet {
                 module: qualifier.unwrap_or(scope.name),
                 name,
                 place: scope.place(set),
+                key,
             })?;
         }
         Ok(())
