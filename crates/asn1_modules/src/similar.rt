@@ -5,8 +5,8 @@ use std::alloc::{AllocError, Global};
 // How many classes of letters there are: a capital and its small letter are of one.
 const CLASSES: usize = 32;
 
-/// The definitions whose names `nearest_name` may find, in the order of the list. Left out are names in which so many letters are others
-/// that more edits lead to them: these need no table of edits.
+/// The definitions whose names `nearest_name` may find, in the order of the list. A name of which more letters are others than may
+/// differ is left out: it needs no table of edits.
 pub(crate) fn similar_names<'a>(
     alloc: Global,
     defined: &[DefinedName<'a>],

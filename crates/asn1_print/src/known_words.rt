@@ -3,7 +3,7 @@ use asn1_resolved::{Alternative, Component, EnumerationItem, Schema, TypeDefinit
 use asn1_rust_names::KnownWords;
 use std::alloc::{AllocError, Global};
 
-/// The words of capitals in the names of definitions, of their components, alternatives and items. Of a module alone, if one is named.
+/// The words of capitals in the names of definitions, of their components, alternatives and items; of a module alone, if one is named.
 pub fn known_words(
     alloc: Global,
     schema: &Schema<'_>,

@@ -263,7 +263,7 @@ impl<'a> Resolver<'_, 'a> {
         }
     }
 
-    // What a field of an object holds, or the DEFAULT of its class, with its module.
+    // The setting of a field of an object, or the DEFAULT of its class, with its module.
     fn held_by(
         &mut self,
         scope: Scope<'a>,

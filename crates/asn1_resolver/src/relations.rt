@@ -13,7 +13,7 @@ pub(crate) struct Enclosing<'a> {
     pub(crate) scope: Scope<'a>,
     /// The items.
     pub(crate) items: &'a [ComponentItem],
-    /// What they are of.
+    /// The construct that they are of.
     pub(crate) construct: Construct,
 }
 
