@@ -376,14 +376,26 @@ def refuse_growths():
     print(f"{number - 1} growths refused")
 
 
+def object_of(number, count):
+    """An object; in front of the first its class, a type, and the set of all objects, which the type names."""
+    own = f"o{number} ITEM ::= {{ &id {number}, &Type NULL }}"
+    if number:
+        return own
+    objects = " | ".join(f"o{other}" for other in range(count))
+    return ("ITEM ::= CLASS { &id INTEGER (0..65535) UNIQUE, &Type }\n"
+            f"Holder ::= SEQUENCE {{ id ITEM.&id ({{Items}}), value ITEM.&Type ({{Items}}{{@id}}) }}\nItems ITEM ::= {{ {objects} }}\n{own}")
+
+
 # The definition of a number of a large module, by the shape of the module: components of a type that follows, aliases one of another,
-# values one of another, and names that are not defined.
+# values one of another, names that are not defined, types that hold one that holds itself, and objects of one set.
 SHAPES = {
     "components": lambda number, count: f"T{number} ::= SEQUENCE {{ a INTEGER (0..255), b OCTET STRING OPTIONAL, c T{(number + 1) % count}Ref }}\n"
                                         f"T{number}Ref ::= UTF8String",
     "aliases": lambda number, count: f"A{number} ::= " + (f"A{number + 1}" if number + 1 < count else "INTEGER"),
     "values": lambda number, count: f"v{number} INTEGER ::= " + (f"v{number + 1}" if number % 50 < 49 and number + 1 < count else "5"),
     "names": lambda number, _: f"T{number} ::= SEQUENCE {{ a Missing{number}, b BOOLEAN }}",
+    "circles": lambda number, _: f"T{number} ::= " + ("SEQUENCE { a INTEGER, b T0 OPTIONAL }" if number else "CHOICE { end NULL, link T0 }"),
+    "objects": object_of,
 }
 
 
@@ -424,6 +436,9 @@ TOGETHER = ("M DEFINITIONS ::= BEGIN\nA ::= SEQUENCE { a NULL b NULL }\nB ::= SE
 FRONT = "M DEFINITIONS ::= BEGIN\nA ::= SEQUENCE { a NULL OPTIONAL, b NULL, c B }\nC ::= SEQUENCE { a NULL OPTIONAL, b NULL }\nD ::= $\nB ::= A\n"
 CIRCLES = ("M DEFINITIONS AUTOMATIC TAGS ::= BEGIN\nA ::= SEQUENCE { b B }\nB ::= SEQUENCE { a A }\nC ::= SET { c C OPTIONAL }\n"
            "D ::= CHOICE { d D, e SEQUENCE OF E }\nE ::= CHOICE { d D, e SEQUENCE OF E, f NULL }\nEND\n")
+TABLES = ("M DEFINITIONS AUTOMATIC TAGS ::= BEGIN\nITEM ::= CLASS { &id INTEGER (0..255) UNIQUE, &Type } WITH SYNTAX { &Type BY &id }\n"
+          "A ::= SEQUENCE { id ITEM.&id ({Same}), a ITEM.&Type ({Same}{@id}), b ITEM.&Type ({Less}{@id}), c ITEM.&Type ({Empty}{@id}) }\n"
+          "Same ITEM ::= { a | b }\nLess ITEM ::= { a EXCEPT b }\nEmpty ITEM ::= { ... }\na ITEM ::= { NULL BY 1 }\nb ITEM ::= { BOOLEAN BY 1 }\nEND\n")
 BESIDE = ("M DEFINITIONS AUTOMATIC TAGS ::= BEGIN\nTree ::= CHOICE { leaf NULL, trees SEQUENCE OF Tree }\nTreeReader ::= SEQUENCE { a NULL }\n"
           "TreeOf ::= SEQUENCE { a NULL }\nEND\n")
 CLASH = "M DEFINITIONS ::= BEGIN\nA ::= SEQUENCE { a NULL OPTIONAL, b NULL }\nEND\n"
@@ -469,6 +484,10 @@ def try_arguments():
     expect("circles that are not printed", (written, [line.split("; ")[0] for line in told.splitlines()], status),
            ("", ["-:2:1: no value of the types 'A', 'B' ends: each holds another", "-:4:1: no CHOICE or SEQUENCE without a tag is in each circle of the types 'C'",
                  "-:5:1: no CHOICE or SEQUENCE without a tag is in each circle of the types 'D', 'E'"], 1))
+    written, told, status = run(["x"], TABLES)
+    expect("tables of object sets", (sorted(files_of(written)), [line.split(" warning: ")[-1] for line in told.splitlines()], status),
+           (["src/a.rt", "src/lib.rt", "src/same.rt"],
+            ["object set 'Less' has no table: it has EXCEPT", "objects 'a' and 'b' have the same &id"], 0))
     expect("types with the names of files of a circle", sorted(path for path in files_of(run(["x"], BESIDE)[0]) if path.startswith("src/tree")),
            ["src/tree.rt", "src/tree_of.rt", "src/tree_of2.rt", "src/tree_parts.rt", "src/tree_reader.rt", "src/tree_reader2.rt"])
     expect("--check", run(["x", "--check"], RIGHT), ("", "", 0))

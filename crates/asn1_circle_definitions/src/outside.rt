@@ -45,17 +45,17 @@ pub struct Surroundings<'a> {
 
 /// A type that holds no type of the circle: below its lists it is a type of the crate, or one without parts.
 #[derive(Drop)]
-pub(crate) struct Outside<'a> {
+pub(crate) struct Outside {
     /// The lists, the outermost first.
     pub(crate) lists: Vec<ListKind>,
-    /// The type of the crate.
-    pub(crate) file: Option<&'a TypeFile>,
+    /// The index of the type of the crate.
+    pub(crate) file: Option<usize>,
 }
 
 // A name below lists: of a type, of another name for one, or of something else.
 enum Core<'a> {
     Plain,
-    Type(&'a TypeFile),
+    Type(usize),
     Name(&'a TypeName),
     Unknown,
 }
@@ -65,7 +65,7 @@ pub(crate) fn outside_of<'a>(
     alloc: Global,
     surroundings: Surroundings<'a>,
     definition: &'a TypeName,
-) -> Result<Option<Outside<'a>>, AllocError> {
+) -> Result<Option<Outside>, AllocError> {
     let mut lists: Vec<ListKind> = Vec::new(alloc);
     let mut name = definition;
     for _ in 0..=surroundings.aliases.len() {
@@ -131,7 +131,7 @@ fn named<'a>(surroundings: Surroundings<'a>, name: &'a TypeName, text: &str) -> 
         Some(module) => match surroundings
             .files
             .iter()
-            .find(|file| file.module.as_str() == module)
+            .position(|file| file.module.as_str() == module)
         {
             Some(file) => Core::Type(file),
             None => Core::Unknown,
@@ -149,54 +149,27 @@ fn module_of<'t>(name: &'t TypeName, text: &str) -> Option<&'t str> {
     import.path.as_str().strip_prefix("crate::")
 }
 
-/// The types of the parts of a type outside: none if it has a part whose values need not be valid.
-pub(crate) fn part_types<'a>(
-    alloc: Global,
-    body: &'a TypeBody,
-) -> Result<Option<Vec<&'a TypeName>>, AllocError> {
-    let mut parts: Vec<&'a TypeName> = Vec::new(alloc);
-    match body {
-        TypeBody::Choice(choice) => {
-            for alternative in &choice.alternatives {
-                parts.push(&alternative.definition)?;
-            }
-        }
-        TypeBody::Sequence(body) => return component_types(alloc, body.components.as_slice()),
-        TypeBody::Set(body) => return component_types(alloc, body.components.as_slice()),
-        TypeBody::Group(_) => return Ok(None),
-        TypeBody::Enumerated(_) | TypeBody::RestrictedString(_) => {}
-    }
-    Ok(Some(parts))
-}
-
-// The types of components: none if there is a group, which has to write a component.
-fn component_types(
-    alloc: Global,
-    components: &[Component],
-) -> Result<Option<Vec<&TypeName>>, AllocError> {
-    let mut parts = Vec::new(alloc);
-    for component in components {
-        if is_group(&component.usage) {
-            return Ok(None);
-        }
-        parts.push(&component.definition)?;
-    }
-    Ok(Some(parts))
-}
-
-/// The types outside each value of which is valid, each behind those in it.
-pub(crate) fn valid_files<'a>(
-    alloc: Global,
+/// The module of the type of this index.
+pub(crate) fn module_at<'a>(
     surroundings: Surroundings<'a>,
-) -> Result<Vec<&'a TypeFile>, AllocError> {
-    let mut known: Vec<&'a TypeFile> = Vec::new(alloc);
+    file: Option<usize>,
+) -> Option<&'a str> {
+    Some(surroundings.files.get(file?)?.module.as_str())
+}
+
+/// The indices of the types outside each value of which is valid, each behind those in it.
+pub(crate) fn valid_files(
+    alloc: Global,
+    surroundings: Surroundings<'_>,
+) -> Result<Vec<usize>, AllocError> {
+    let mut known: Vec<usize> = Vec::new(alloc);
     for _ in surroundings.files {
         let before = known.len();
-        for file in surroundings.files {
-            if !is_among(file, known.as_slice())
-                && is_valid(alloc, surroundings, file, known.as_slice())?
+        for (index, file) in surroundings.files.iter().enumerate() {
+            if !known.contains(&index)
+                && has_known_parts(alloc, surroundings, &file.body, known.as_slice())?
             {
-                known.push(file)?;
+                known.push(index)?;
             }
         }
         if known.len() == before {
@@ -206,44 +179,124 @@ pub(crate) fn valid_files<'a>(
     Ok(known)
 }
 
-/// Whether a type is one of these.
-pub(crate) fn is_among(file: &TypeFile, files: &[&TypeFile]) -> bool {
-    files
-        .iter()
-        .any(|known| known.module.as_str() == file.module.as_str())
+// Whether each part of a type is without parts, or one of the types that are known.
+fn has_known_parts<'a>(
+    alloc: Global,
+    surroundings: Surroundings<'a>,
+    body: &'a TypeBody,
+    known: &[usize],
+) -> Result<bool, AllocError> {
+    match body {
+        TypeBody::Choice(choice) => {
+            for alternative in &choice.alternatives {
+                if !is_known(alloc, surroundings, &alternative.definition, known)? {
+                    return Ok(false);
+                }
+            }
+            Ok(true)
+        }
+        TypeBody::Sequence(body) => {
+            are_known(alloc, surroundings, body.components.as_slice(), known)
+        }
+        TypeBody::Set(body) => are_known(alloc, surroundings, body.components.as_slice(), known),
+        TypeBody::Group(_) => Ok(false),
+        TypeBody::Enumerated(_) | TypeBody::RestrictedString(_) => Ok(true),
+    }
 }
 
-// Whether each value of a type is valid, if those of these types are.
-fn is_valid(
+// The same of components. A value with a group has to write a component of it, so not each is valid.
+fn are_known<'a>(
     alloc: Global,
-    surroundings: Surroundings<'_>,
-    file: &TypeFile,
-    known: &[&TypeFile],
+    surroundings: Surroundings<'a>,
+    components: &'a [Component],
+    known: &[usize],
 ) -> Result<bool, AllocError> {
-    match part_types(alloc, &file.body)? {
-        Some(parts) => all_known(alloc, surroundings, parts.as_slice(), known),
+    for component in components {
+        if is_group(&component.usage)
+            || !is_known(alloc, surroundings, &component.definition, known)?
+        {
+            return Ok(false);
+        }
+    }
+    Ok(true)
+}
+
+/// Whether a type outside is without parts below its lists, or one of the types that are known.
+pub(crate) fn is_known<'a>(
+    alloc: Global,
+    surroundings: Surroundings<'a>,
+    definition: &'a TypeName,
+    known: &[usize],
+) -> Result<bool, AllocError> {
+    match outside_of(alloc, surroundings, definition)? {
+        Some(Outside { file, .. }) => Ok(match file {
+            Some(index) => known.contains(&index),
+            None => true,
+        }),
         None => Ok(false),
     }
 }
 
-/// Whether each of these types outside is without parts, or one of the types that are known.
-pub(crate) fn all_known(
+/// Whether a type has a group of components.
+pub(crate) fn has_group(body: &TypeBody) -> bool {
+    match body {
+        TypeBody::Sequence(body) => body.components.iter().any(|part| is_group(&part.usage)),
+        TypeBody::Set(body) => body.components.iter().any(|part| is_group(&part.usage)),
+        TypeBody::Group(_) => true,
+        _ => false,
+    }
+}
+
+/// Marks the types of the crate in a type.
+pub(crate) fn mark_parts<'a>(
     alloc: Global,
-    surroundings: Surroundings<'_>,
-    parts: &[&TypeName],
-    known: &[&TypeFile],
-) -> Result<bool, AllocError> {
-    for part in parts {
-        match outside_of(alloc, surroundings, part)? {
-            Some(outside) => {
-                if let Some(file) = outside.file {
-                    if !is_among(file, known) {
-                        return Ok(false);
-                    }
-                }
+    surroundings: Surroundings<'a>,
+    body: &'a TypeBody,
+    marks: &mut Vec<bool>,
+) -> Result<(), AllocError> {
+    match body {
+        TypeBody::Choice(choice) => {
+            for alternative in &choice.alternatives {
+                mark(alloc, surroundings, &alternative.definition, marks)?;
             }
-            None => return Ok(false),
+            Ok(())
+        }
+        TypeBody::Sequence(body) => {
+            mark_components(alloc, surroundings, body.components.as_slice(), marks)
+        }
+        TypeBody::Set(body) => {
+            mark_components(alloc, surroundings, body.components.as_slice(), marks)
+        }
+        _ => Ok(()),
+    }
+}
+
+// The same of components.
+fn mark_components<'a>(
+    alloc: Global,
+    surroundings: Surroundings<'a>,
+    components: &'a [Component],
+    marks: &mut Vec<bool>,
+) -> Result<(), AllocError> {
+    for component in components {
+        mark(alloc, surroundings, &component.definition, marks)?;
+    }
+    Ok(())
+}
+
+/// Marks a type of the crate, which may be below lists.
+pub(crate) fn mark<'a>(
+    alloc: Global,
+    surroundings: Surroundings<'a>,
+    definition: &'a TypeName,
+    marks: &mut Vec<bool>,
+) -> Result<(), AllocError> {
+    if let Some(Outside { file, .. }) = outside_of(alloc, surroundings, definition)? {
+        if let Some(index) = file {
+            if let Some(flag) = marks.get_mut(index) {
+                *flag = true;
+            }
         }
     }
-    Ok(true)
+    Ok(())
 }

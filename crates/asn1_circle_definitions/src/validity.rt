@@ -1,7 +1,9 @@
 //! The proof that each value of a circle is valid.
 use crate::circle::{Circle, elements_of, meaning_term};
 use crate::lists::{all_type_uses, definition_uses, type_uses, variant_name};
-use crate::outside::{Outside, all_known, outside_of, part_types, valid_files};
+use crate::outside::{
+    Outside, has_group, is_known, mark, mark_parts, module_at, outside_of, valid_files,
+};
 use crate::parts::parts_of;
 use crate::terms::{blocks, definitions_file, field_term, spaced, validity_words};
 use asn1_rust_code::TypeName;
@@ -11,27 +13,22 @@ use std::alloc::{AllocError, Global};
 /// Whether each value of each type in a circle that holds no type of it is valid, as far as is known.
 pub fn are_all_valid(alloc: Global, circle: Circle<'_>) -> Result<bool, AllocError> {
     for file in circle.members {
-        if part_types(alloc, &file.body)?.is_none() {
+        if has_group(&file.body) {
             return Ok(false);
         }
     }
     let known = valid_files(alloc, circle.surroundings)?;
-    let parts = outer_types(alloc, circle)?;
-    all_known(
-        alloc,
-        circle.surroundings,
-        parts.as_slice(),
-        known.as_slice(),
-    )
-}
-
-// The types in a circle that hold no type of it.
-fn outer_types<'a>(alloc: Global, circle: Circle<'a>) -> Result<Vec<&'a TypeName>, AllocError> {
-    let mut types = Vec::new(alloc);
     for part in parts_of(alloc, circle)? {
-        types.push(part.definition)?;
+        if !is_known(
+            alloc,
+            circle.surroundings,
+            part.definition,
+            known.as_slice(),
+        )? {
+            return Ok(false);
+        }
     }
-    Ok(types)
+    Ok(true)
 }
 
 /// The file that proves that values of the types of a circle are valid if those inside them are.
@@ -90,53 +87,38 @@ if_some_all None P all = tt
 if_some_all (Some x) P all = all x
 ";
 
-// The types of the crate that are in a circle or in one of these, each behind those in it.
-fn needed_files<'a>(alloc: Global, circle: Circle<'a>) -> Result<Vec<&'a TypeFile>, AllocError> {
+// The indices of the types of the crate that are in a circle or in one of these, each behind those in it.
+fn needed_files(alloc: Global, circle: Circle<'_>) -> Result<Vec<usize>, AllocError> {
     let surroundings = circle.surroundings;
     let known = valid_files(alloc, surroundings)?;
-    let mut waiting = outer_types(alloc, circle)?;
-    let mut needed: Vec<&'a TypeFile> = Vec::new(alloc);
-    for file in known.iter().rev() {
-        if is_in_one(alloc, circle, file, waiting.as_slice())? {
-            needed.push(*file)?;
-            if let Some(parts) = part_types(alloc, &file.body)? {
-                for part in parts {
-                    waiting.push(part)?;
-                }
+    let mut is_needed: Vec<bool> = Vec::new(alloc);
+    for _ in surroundings.files {
+        is_needed.push(false)?;
+    }
+    for part in parts_of(alloc, circle)? {
+        mark(alloc, surroundings, part.definition, &mut is_needed)?;
+    }
+    for index in known.iter().rev() {
+        if is_needed.get(*index) == Some(&true) {
+            if let Some(file) = surroundings.files.get(*index) {
+                mark_parts(alloc, surroundings, &file.body, &mut is_needed)?;
             }
         }
     }
-    let mut ordered = Vec::new(alloc);
-    for file in needed.iter().rev() {
-        ordered.push(*file)?;
-    }
-    Ok(ordered)
-}
-
-// Whether a type of the crate is one of these, below lists.
-fn is_in_one(
-    alloc: Global,
-    circle: Circle<'_>,
-    file: &TypeFile,
-    types: &[&TypeName],
-) -> Result<bool, AllocError> {
-    for definition in types {
-        if let Some(outside) = outside_of(alloc, circle.surroundings, definition)? {
-            if let Some(found) = outside.file {
-                if found.module.as_str() == file.module.as_str() {
-                    return Ok(true);
-                }
-            }
+    let mut needed: Vec<usize> = Vec::new(alloc);
+    for index in &known {
+        if is_needed.get(*index) == Some(&true) {
+            needed.push(*index)?;
         }
     }
-    Ok(false)
+    Ok(needed)
 }
 
 // The lines that bring in the names in these lemmas.
 fn validity_uses(
     alloc: Global,
     circle: Circle<'_>,
-    outside: &[&TypeFile],
+    outside: &[usize],
     text: &str,
 ) -> Result<String, AllocError> {
     let spaced = spaced(alloc, text)?;
@@ -147,9 +129,11 @@ fn validity_uses(
     let words = validity_words(alloc, circle.crate_name, text)?;
     let words = words.as_str();
     let mut uses = format!(in alloc; "{words}{lists}{types}")?;
-    for file in outside {
-        let lines = outside_uses(alloc, circle, file)?;
-        uses.push_str(lines.as_str())?;
+    for index in outside {
+        if let Some(file) = circle.surroundings.files.get(*index) {
+            let lines = outside_uses(alloc, circle, file)?;
+            uses.push_str(lines.as_str())?;
+        }
     }
     Ok(uses)
 }
@@ -167,14 +151,12 @@ fn outside_uses(alloc: Global, circle: Circle<'_>, file: &TypeFile) -> Result<St
 }
 
 // The lemmas of types outside, and of the types of a circle.
-fn all_lemmas(
-    alloc: Global,
-    circle: Circle<'_>,
-    outside: &[&TypeFile],
-) -> Result<String, AllocError> {
+fn all_lemmas(alloc: Global, circle: Circle<'_>, outside: &[usize]) -> Result<String, AllocError> {
     let mut texts = Vec::new(alloc);
-    for file in outside {
-        texts.push(type_lemma(alloc, circle, file, false)?)?;
+    for index in outside {
+        if let Some(file) = circle.surroundings.files.get(*index) {
+            texts.push(type_lemma(alloc, circle, file, false)?)?;
+        }
     }
     for file in circle.members {
         texts.push(type_lemma(alloc, circle, file, true)?)?;
@@ -313,8 +295,8 @@ fn in_list(alloc: Global, proof: String) -> Result<String, AllocError> {
 enum Value<'a> {
     // It holds the parameter.
     Held(&'a Held),
-    // It is outside the circle.
-    Outside(Outside<'a>),
+    // It is outside the circle, in these lists: of the type of a module of the crate, or of one without parts.
+    Outside(Vec<ListKind>, Option<&'a str>),
 }
 
 // A value of a component or an alternative.
@@ -328,11 +310,10 @@ fn value_of<'a>(
         return Ok(Value::Held(held));
     }
     match outside_of(alloc, circle.surroundings, definition)? {
-        Some(outside) => Ok(Value::Outside(outside)),
-        None => Ok(Value::Outside(Outside {
-            lists: Vec::new(alloc),
-            file: None,
-        })),
+        Some(Outside { lists, file }) => {
+            Ok(Value::Outside(lists, module_at(circle.surroundings, file)))
+        }
+        None => Ok(Value::Outside(Vec::new(alloc), None)),
     }
 }
 
@@ -340,7 +321,7 @@ fn value_of<'a>(
 fn lists_of<'v>(value: &'v Value<'_>) -> &'v [ListKind] {
     match value {
         Value::Held(held) => held.lists.as_slice(),
-        Value::Outside(outside) => outside.lists.as_slice(),
+        Value::Outside(lists, _) => lists.as_slice(),
     }
 }
 
@@ -371,11 +352,8 @@ fn element_proof(alloc: Global, value: &Value<'_>, element: &str) -> Result<Stri
             }
             None => format!(in alloc; "each accepts {element}"),
         },
-        Value::Outside(outside) => match outside.file {
-            Some(file) => {
-                let module = file.module.as_str();
-                format!(in alloc; "{module}_is_valid accepts {element}")
-            }
+        Value::Outside(_, module) => match *module {
+            Some(module) => format!(in alloc; "{module}_is_valid accepts {element}"),
             None => String::from_str(alloc, "tt"),
         },
     }
@@ -389,20 +367,21 @@ fn predicate_of(alloc: Global, value: &Value<'_>) -> Result<String, AllocError> 
             let meaning = meaning.as_str();
             format!(in alloc; "({meaning}.IsValid accepts)")
         }
-        Value::Outside(outside) => outside_predicate(alloc, outside),
+        Value::Outside(lists, module) => outside_predicate(alloc, lists.as_slice(), *module),
     }
 }
 
 // The same of one outside the circle.
-fn outside_predicate(alloc: Global, outside: &Outside<'_>) -> Result<String, AllocError> {
-    let mut predicate = match outside.file {
-        Some(file) => {
-            let module = file.module.as_str();
-            format!(in alloc; "({module}_ghosts.meaning.IsValid accepts)")?
-        }
+fn outside_predicate(
+    alloc: Global,
+    lists: &[ListKind],
+    module: Option<&str>,
+) -> Result<String, AllocError> {
+    let mut predicate = match module {
+        Some(module) => format!(in alloc; "({module}_ghosts.meaning.IsValid accepts)")?,
         None => String::from_str(alloc, "(λ _. ⊤)")?,
     };
-    for kind in outside.lists.iter().rev() {
+    for kind in lists.iter().rev() {
         let list = elements_of(alloc, *kind, "l")?;
         let list = list.as_str();
         let inner = predicate.as_str();

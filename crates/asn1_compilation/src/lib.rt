@@ -7,10 +7,10 @@
 //! | [`listing_of`] | the files as one text |
 //! | [`extern_of`], [`extern_module_of`], [`is_crate_name`] | what a command line says of types that exist already, and of the name of the crate |
 //!
-//! The texts go through `parse` of `asn1_grammar`, `resolve` of `asn1_resolver`, `check_tags` of `asn1_module_check` and `print_crate`
-//! of `asn1_print`. The errors of all stages are told together. After an error every stage goes on with what there is, and what the
-//! error may have caused is left out: names whose definitions were not read (`left_out`), and errors in tags and in printing of
-//! definitions that rest on another error (`doubtful`).
+//! The texts go through `parse` of `asn1_grammar`, `objects_of` of `asn1_objects`, `resolve` of `asn1_resolver`, `check_tags` of
+//! `asn1_module_check` and `print_crate` of `asn1_print`. The errors of all stages are told together. After an error every stage goes
+//! on with what there is, and what the error may have caused is left out: names whose definitions were not read (`left_out`), and
+//! errors in tags and in printing of definitions that rest on another error (`doubtful`).
 //!
 //! The contracts promise:
 //!

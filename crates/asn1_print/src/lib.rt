@@ -2,7 +2,8 @@
 //!
 //! [`print_crate`] makes a file for each SEQUENCE, SET, CHOICE and ENUMERATED, and for each definition of a string with a size or an
 //! alphabet, with its definition in ASN.1 as its comment. Types without a name get one from where they are used; a type that is
-//! another under a name is an alias. Values, named numbers and named bits are constants.
+//! another under a name is an alias. Values, named numbers and named bits are constants. A table of an object set is an enum of its rows
+//! (asn1_rust_tables). Types that hold themselves are printed with their definitions and proofs (asn1_rust_circles).
 //!
 //! | Item | What it is |
 //! |---|---|

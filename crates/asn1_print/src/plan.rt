@@ -1,6 +1,7 @@
 //! The names of the definitions of a schema, and the files as far as they were made.
 use crate::circles::{CurrentCircle, GenericType, PlannedCircle, plan_circles};
 use crate::known_words::known_words;
+use crate::recursion::list_references;
 use crate::request::{Extern, PrintedFile, Request};
 use crate::strings::is_restricted_string;
 use crate::templates::Templates;
@@ -66,6 +67,7 @@ const RESERVED: &[&str] = &[
     "HoldsItself",
     "Ia5String",
     "Identifier",
+    "IfOk",
     "Implicit",
     "Integer",
     "IsMadeOf",
@@ -75,7 +77,9 @@ const RESERVED: &[&str] = &[
     "KnotOf",
     "Lib",
     "ListOf",
+    "MayAnswerOf",
     "Meant",
+    "MemoryRanOut",
     "None",
     "NumericString",
     "ObjectDescriptor",
@@ -111,6 +115,8 @@ const RESERVED: &[&str] = &[
     "Vec",
     "VisibleString",
     "Whole",
+    "WritesKept",
+    "WritesOpen",
 ];
 
 /// The modules that a crate has beside those of types, and the libraries of each crate.
@@ -169,6 +175,8 @@ pub(crate) struct Plan<'r, 'a> {
     pub(crate) markers: Vec<Marker>,
     pub(crate) constants: Vec<Constant>,
     pub(crate) problems: Vec<Problem>,
+    /// The references of each type to types that do not exist already.
+    pub(crate) references: Vec<Vec<usize>>,
     /// The circles of the schema, and that of which a type is printed.
     pub(crate) circles: Vec<PlannedCircle>,
     pub(crate) current_circle: Option<CurrentCircle>,
@@ -260,6 +268,7 @@ pub(crate) fn plan_of<'r, 'a>(
     let mut plan = empty_plan(alloc, request, templates, words);
     plan.reserve_names()?;
     plan.name_types()?;
+    plan.references = list_references(&plan)?;
     plan_circles(&mut plan)?;
     plan.find_explicit_tags()?;
     Ok(plan)
@@ -288,6 +297,7 @@ fn empty_plan<'r, 'a>(
         markers: Vec::new(alloc),
         constants: Vec::new(alloc),
         problems: Vec::new(alloc),
+        references: Vec::new(alloc),
         circles: Vec::new(alloc),
         current_circle: None,
         current_knots: Vec::new(alloc),
@@ -539,6 +549,20 @@ impl Plan<'_, '_> {
     /// Reports what is not printed.
     pub(crate) fn warn(&mut self, place: Place, text: &str) -> Result<(), AllocError> {
         self.report(place, Severity::Warning, text)
+    }
+
+    /// Makes warnings of the errors behind this many problems, and answers whether there were any.
+    pub(crate) fn lessen_errors(&mut self, first: usize) -> bool {
+        let mut is_lessened = false;
+        for index in first..self.problems.len() {
+            if let Some(problem) = self.problems.get_mut(index) {
+                if problem.severity == Severity::Error {
+                    problem.severity = Severity::Warning;
+                    is_lessened = true;
+                }
+            }
+        }
+        is_lessened
     }
 
     fn report(&mut self, place: Place, severity: Severity, text: &str) -> Result<(), AllocError> {

@@ -69,7 +69,8 @@ fn add_named(
     name: String,
     module: &str,
 ) -> Result<(), AllocError> {
-    plan.current_knots = knots_in(plan, index)?;
+    let circles = circles_in(plan, index)?;
+    plan.current_knots = knot_names(plan, circles.as_slice())?;
     let texts = definition_texts(plan, definition, name.as_str())?;
     if !has_file(&definition.definition) {
         return add_alias(plan, &definition.definition, name, texts.owner());
@@ -92,11 +93,14 @@ fn add_named(
     add_own_file(plan, &definition.definition, names, texts.owner())
 }
 
-// The names of the types that hold themselves in a definition, but for that of its own circle.
-fn knots_in(plan: &Plan<'_, '_>, index: usize) -> Result<Vec<String>, AllocError> {
+/// The names of the types at which these circles are cut.
+pub(crate) fn knot_names(
+    plan: &Plan<'_, '_>,
+    circles: &[usize],
+) -> Result<Vec<String>, AllocError> {
     let mut names = Vec::new(plan.alloc);
-    for circle in circles_in(plan, index)? {
-        if let Some(known) = plan.circles.get(circle) {
+    for circle in circles {
+        if let Some(known) = plan.circles.get(*circle) {
             names.push(plan.text(known.name.as_str())?)?;
         }
     }

@@ -5,7 +5,7 @@ use std::alloc::{AllocError, Global};
 
 /// The circles of a schema, by references to types that do not exist already: the types of each hold one another.
 pub(crate) fn circle_groups(plan: &Plan<'_, '_>) -> Result<Vec<Vec<usize>>, AllocError> {
-    let references = list_references(plan)?;
+    let references = &plan.references;
     let groups = groups_of(plan.alloc, references.as_slice())?;
     let groups = groups.as_slice();
     let mut circles: Vec<Vec<usize>> = Vec::new(plan.alloc);
@@ -47,8 +47,8 @@ pub(crate) fn is_acyclic_without(
     members: &[usize],
     cut: usize,
 ) -> Result<bool, AllocError> {
-    let all = list_references(plan)?;
-    let references = references_without(plan.alloc, all.as_slice(), members, cut)?;
+    let all = plan.references.as_slice();
+    let references = references_without(plan.alloc, all, members, cut)?;
     let groups = groups_of(plan.alloc, references.as_slice())?;
     Ok(is_acyclic(groups.as_slice(), references.as_slice()))
 }
@@ -95,23 +95,40 @@ fn others_than(alloc: Global, indices: &[usize], cut: usize) -> Result<Vec<usize
 
 /// The circles of types in a definition, but for its own: each once.
 pub(crate) fn circles_in(plan: &Plan<'_, '_>, index: usize) -> Result<Vec<usize>, AllocError> {
+    let mut starts: Vec<usize> = Vec::new(plan.alloc);
+    starts.push(index)?;
+    circles_behind(plan, starts.as_slice(), plan.circle_of(index))
+}
+
+/// The circles of types in a type that no definition is: each once.
+pub(crate) fn circles_in_type(
+    plan: &Plan<'_, '_>,
+    definition: &Type<'_>,
+) -> Result<Vec<usize>, AllocError> {
+    let mut starts: Vec<usize> = Vec::new(plan.alloc);
+    push_type(&mut starts, definition)?;
+    circles_behind(plan, starts.as_slice(), None)
+}
+
+// The circles of these types and of those in them, but for one circle: each once.
+fn circles_behind(
+    plan: &Plan<'_, '_>,
+    starts: &[usize],
+    own: Option<usize>,
+) -> Result<Vec<usize>, AllocError> {
     let mut circles: Vec<usize> = Vec::new(plan.alloc);
     if plan.circles.is_empty() {
         return Ok(circles);
     }
-    let references = list_references(plan)?;
+    let references = plan.references.as_slice();
     let mut reached = flags(plan.alloc, references.len())?;
     let mut types: Vec<usize> = Vec::new(plan.alloc);
-    walk(
-        plan.alloc,
-        references.as_slice(),
-        index,
-        &mut reached,
-        &mut types,
-    )?;
+    for start in starts {
+        walk(plan.alloc, references, *start, &mut reached, &mut types)?;
+    }
     for other in &types {
         if let Some(circle) = plan.circle_of(*other) {
-            if plan.circle_of(index) != Some(circle) && !circles.contains(&circle) {
+            if own != Some(circle) && !circles.contains(&circle) {
                 circles.push(circle)?;
             }
         }
@@ -119,8 +136,8 @@ pub(crate) fn circles_in(plan: &Plan<'_, '_>, index: usize) -> Result<Vec<usize>
     Ok(circles)
 }
 
-// The references of each type to types that do not exist already.
-fn list_references(plan: &Plan<'_, '_>) -> Result<Vec<Vec<usize>>, AllocError> {
+/// The references of each type to types that do not exist already.
+pub(crate) fn list_references(plan: &Plan<'_, '_>) -> Result<Vec<Vec<usize>>, AllocError> {
     let mut list = Vec::new(plan.alloc);
     for (index, definition) in plan.request.schema.types.iter().enumerate() {
         let mut all = Vec::new(plan.alloc);

@@ -4,11 +4,14 @@ use crate::integers::{built_in, is_of_integer, range_of};
 use crate::lowering::type_name;
 use crate::notation::{quoted_part, text_of};
 use crate::plan::Plan;
-use crate::types::part_texts;
+use crate::printing::knot_names;
+use crate::recursion::circles_in_type;
+use crate::types::{Owner, part_texts};
 use crate::written::in_one_line;
 use asn1_names::Place;
 use asn1_resolved::{Range, Type, TypeKind, Value};
 use asn1_resolved_tables::{Row, Table};
+use asn1_rust_code::TypeName;
 use asn1_rust_names::{TakenNames, snake_case};
 use asn1_rust_tables::{KeyKind, OpenRow, OpenTable, RowKey, table_file};
 use std::alloc::AllocError;
@@ -71,6 +74,9 @@ fn add_table(plan: &mut Plan<'_, '_>, table: &Table<'_>) -> Result<(), AllocErro
     let name = plan.new_name(name.as_str())?;
     let module = plan.new_module(name.as_str())?;
     let rows = rows_of(plan, table, name.as_str())?;
+    if rows.is_empty() {
+        return Ok(());
+    }
     let summary = summary_of(plan, table)?;
     let open = OpenTable {
         page: page_of(plan, summary.as_str())?,
@@ -207,7 +213,7 @@ fn referred(definition: &Type<'_>) -> Option<usize> {
     }
 }
 
-// The rows with their names and types.
+// The rows with their names and types, but for those whose type cannot be printed.
 fn rows_of(
     plan: &mut Plan<'_, '_>,
     table: &Table<'_>,
@@ -222,16 +228,34 @@ fn rows_of(
             let wanted = new_variant(plan, wanted.as_bytes(), &mut names)?;
             let written = written(plan, row.place)?;
             let texts = part_texts(plan, name, wanted.as_str(), written.as_str())?;
-            let definition = type_name(plan, &row.cell, texts.owner())?;
-            rows.push(OpenRow {
-                name: wanted,
-                notation: quoted_part(plan.alloc, written.as_str())?,
-                key,
-                definition,
-            })?;
+            if let Some(definition) = cell_name(plan, &row.cell, texts.owner())? {
+                rows.push(OpenRow {
+                    name: wanted,
+                    notation: quoted_part(plan.alloc, written.as_str())?,
+                    key,
+                    definition,
+                })?;
+            }
         }
     }
     Ok(rows)
+}
+
+// The name of the type of a row; none if it cannot be printed, which is a warning: no definition needs it.
+fn cell_name(
+    plan: &mut Plan<'_, '_>,
+    cell: &Type<'_>,
+    owner: Owner<'_>,
+) -> Result<Option<TypeName>, AllocError> {
+    let circles = circles_in_type(plan, cell)?;
+    plan.current_knots = knot_names(plan, circles.as_slice())?;
+    let first = plan.problems.len();
+    let definition = type_name(plan, cell, owner)?;
+    Ok(if plan.lessen_errors(first) {
+        None
+    } else {
+        Some(definition)
+    })
 }
 
 // The key of a row.

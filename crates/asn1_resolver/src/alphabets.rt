@@ -6,13 +6,13 @@ use asn1_names::Place;
 use asn1_notation::{Constraint, EndPoint, EndValue, StringKind, TypeKind, Value};
 use asn1_resolved::{CharacterRange, ConstraintKind};
 
-impl<'a> Resolver<'_, 'a> {
+impl<'r, 'a> Resolver<'r, 'a> {
     /// The constraint of the characters of a string.
     pub(crate) fn alphabet(
         &mut self,
-        base: Governed<'a>,
+        base: Governed<'r, 'a>,
         scope: Scope<'a>,
-        constraint: &'a Constraint,
+        constraint: &'r Constraint,
     ) -> Result<ConstraintKind, Fault> {
         let mut ranges = Vec::new(self.alloc);
         let is_known = self.add_characters(&mut ranges, base, scope, constraint)?;
@@ -27,9 +27,9 @@ impl<'a> Resolver<'_, 'a> {
     fn add_characters(
         &mut self,
         ranges: &mut Vec<CharacterRange>,
-        base: Governed<'a>,
+        base: Governed<'r, 'a>,
         scope: Scope<'a>,
-        constraint: &'a Constraint,
+        constraint: &'r Constraint,
     ) -> Result<bool, Fault> {
         match &constraint.kind {
             asn1_notation::ConstraintKind::Value(value) => {
@@ -54,9 +54,9 @@ impl<'a> Resolver<'_, 'a> {
     fn add_each_character(
         &mut self,
         ranges: &mut Vec<CharacterRange>,
-        base: Governed<'a>,
+        base: Governed<'r, 'a>,
         scope: Scope<'a>,
-        value: &'a Value,
+        value: &'r Value,
     ) -> Result<bool, Fault> {
         let place = scope.place_at(value.start);
         let value = self.value(base, Written { scope, value })?;
@@ -78,10 +78,10 @@ impl<'a> Resolver<'_, 'a> {
     fn add_range(
         &mut self,
         ranges: &mut Vec<CharacterRange>,
-        base: Governed<'a>,
+        base: Governed<'r, 'a>,
         scope: Scope<'a>,
-        lower: &'a EndPoint,
-        upper: &'a EndPoint,
+        lower: &'r EndPoint,
+        upper: &'r EndPoint,
     ) -> Result<bool, Fault> {
         let first = self.character(base, scope, lower)?;
         let last = self.character(base, scope, upper)?;
@@ -97,9 +97,9 @@ impl<'a> Resolver<'_, 'a> {
     // The character at an end of a range, if it is one of ASCII.
     fn character(
         &mut self,
-        base: Governed<'a>,
+        base: Governed<'r, 'a>,
         scope: Scope<'a>,
-        end: &'a EndPoint,
+        end: &'r EndPoint,
     ) -> Result<Option<u32>, Fault> {
         match &end.value {
             EndValue::Value(value) if !end.is_open => {
@@ -118,7 +118,7 @@ impl<'a> Resolver<'_, 'a> {
     /// Refuses a character that the type of the string does not have.
     pub(crate) fn require_character(
         &mut self,
-        base: Governed<'a>,
+        base: Governed<'r, 'a>,
         place: Place,
         character: u8,
     ) -> Result<(), Fault> {

@@ -18,23 +18,23 @@ pub(crate) enum Meant {
 
 // A name with its arguments.
 #[derive(Clone, Copy)]
-struct Use<'a> {
+struct Use<'r, 'a> {
     // The module.
     scope: Scope<'a>,
     // The name.
     reference: Reference,
     // The arguments.
-    arguments: &'a [Argument],
+    arguments: &'r [Argument],
 }
 
-impl<'a> Resolver<'_, 'a> {
+impl<'r, 'a> Resolver<'r, 'a> {
     /// The index in the schema of a type with arguments.
     #[cycle(instances)]
     pub(crate) fn completed_type(
         &mut self,
         scope: Scope<'a>,
         reference: &Reference,
-        arguments: &'a [Argument],
+        arguments: &'r [Argument],
         depth: usize,
     ) -> Result<usize, Fault> {
         match self.meant(scope, reference, arguments, None, depth)? {
@@ -52,7 +52,7 @@ impl<'a> Resolver<'_, 'a> {
         &mut self,
         scope: Scope<'a>,
         reference: &Reference,
-        arguments: &'a [Argument],
+        arguments: &'r [Argument],
         home: Option<usize>,
         depth: usize,
     ) -> Result<Meant, Fault> {
@@ -71,7 +71,7 @@ impl<'a> Resolver<'_, 'a> {
     }
 
     // The definition of a name whose arguments are objects and object sets.
-    fn meant_definition(&mut self, named: Use<'a>) -> Result<Meant, Fault> {
+    fn meant_definition(&mut self, named: Use<'r, 'a>) -> Result<Meant, Fault> {
         let index = self.find_type(named.scope, &named.reference)?;
         self.require_objects(named, index)?;
         Ok(Meant::Definition(index))
@@ -81,7 +81,7 @@ impl<'a> Resolver<'_, 'a> {
     #[cycle(instances)]
     fn meant_instance(
         &mut self,
-        named: Use<'a>,
+        named: Use<'r, 'a>,
         index: usize,
         template: Defined<'a>,
         home: Option<usize>,
@@ -99,7 +99,7 @@ impl<'a> Resolver<'_, 'a> {
     // Adds an instance.
     fn new_instance(
         &mut self,
-        named: Use<'a>,
+        named: Use<'r, 'a>,
         key: Vec<u8>,
         template: Defined<'a>,
         home: Option<usize>,
@@ -121,14 +121,14 @@ impl<'a> Resolver<'_, 'a> {
     }
 
     // The template of this name, with its index.
-    fn find_template(&self, named: Use<'a>) -> Option<(usize, Defined<'a>)> {
+    fn find_template(&self, named: Use<'r, 'a>) -> Option<(usize, Defined<'a>)> {
         let index = self.index_of_template(named.scope, &named.reference)?;
         let template = self.definitions.templates.get(index)?;
         Some((index, *template))
     }
 
     // Refuses arguments of a definition whose parameters are others than objects and object sets.
-    fn require_objects(&mut self, named: Use<'a>, index: usize) -> Result<(), Fault> {
+    fn require_objects(&mut self, named: Use<'r, 'a>, index: usize) -> Result<(), Fault> {
         let parameters = match self.definitions.types.get(index) {
             Some(defined) => defined.parameters,
             None => &[],
@@ -178,7 +178,11 @@ impl<'a> Resolver<'_, 'a> {
     }
 
     // Refuses arguments that are not what the parameters of a template are.
-    fn require_arguments(&mut self, named: Use<'a>, template: Defined<'a>) -> Result<(), Fault> {
+    fn require_arguments(
+        &mut self,
+        named: Use<'r, 'a>,
+        template: Defined<'a>,
+    ) -> Result<(), Fault> {
         self.require_count(
             named.scope,
             &named.reference,
@@ -199,11 +203,11 @@ impl<'a> Resolver<'_, 'a> {
     // Refuses an argument that is not what its parameter is.
     fn require_argument(
         &mut self,
-        named: Use<'a>,
+        named: Use<'r, 'a>,
         template: Defined<'a>,
         index: usize,
         parameter: &Parameter,
-        argument: &'a Argument,
+        argument: &'r Argument,
     ) -> Result<(), Fault> {
         let Some(wanted) = wanted_of(template.scope, parameter, argument) else {
             if let Argument::Braced(span) = argument {
@@ -222,7 +226,7 @@ impl<'a> Resolver<'_, 'a> {
     }
 
     // Refuses INSTANCE OF a class that is not TYPE-IDENTIFIER (X.681, annex C).
-    fn require_class(&mut self, named: Use<'a>) -> Result<(), Fault> {
+    fn require_class(&mut self, named: Use<'r, 'a>) -> Result<(), Fault> {
         let is_instance_of = matches!(named.scope.octets(named.reference.name), b"INSTANCE");
         match named.arguments {
             [Argument::Type(definition)] if is_instance_of => {
@@ -241,7 +245,12 @@ impl<'a> Resolver<'_, 'a> {
 
     // The key of an instance: the index of its template, and its arguments.
     #[cycle(instances)]
-    fn key_of(&mut self, named: Use<'a>, template: usize, depth: usize) -> Result<Vec<u8>, Fault> {
+    fn key_of(
+        &mut self,
+        named: Use<'r, 'a>,
+        template: usize,
+        depth: usize,
+    ) -> Result<Vec<u8>, Fault> {
         let mut key = Vec::new(self.alloc);
         self.push_number(&mut key, template)?;
         for argument in named.arguments {
@@ -256,7 +265,7 @@ impl<'a> Resolver<'_, 'a> {
         &mut self,
         key: &mut Vec<u8>,
         scope: Scope<'a>,
-        argument: &'a Argument,
+        argument: &'r Argument,
         depth: usize,
     ) -> Result<(), Fault> {
         match argument {
@@ -276,7 +285,7 @@ impl<'a> Resolver<'_, 'a> {
     fn push_type_key(
         &mut self,
         key: &mut Vec<u8>,
-        governed: Governed<'a>,
+        governed: Governed<'r, 'a>,
         depth: usize,
     ) -> Result<(), Fault> {
         let governed = self.behind_parameters(governed);
@@ -348,7 +357,7 @@ impl<'a> Resolver<'_, 'a> {
     fn push_value_key(
         &mut self,
         key: &mut Vec<u8>,
-        written: Written<'a>,
+        written: Written<'r, 'a>,
     ) -> Result<(), AllocError> {
         let written = self.behind_value_parameters(written);
         let scope = written.scope;
@@ -386,7 +395,7 @@ impl<'a> Resolver<'_, 'a> {
     }
 
     /// The type behind parameters that are arguments of others.
-    pub(crate) fn behind_parameters(&self, governed: Governed<'a>) -> Governed<'a> {
+    pub(crate) fn behind_parameters(&self, governed: Governed<'r, 'a>) -> Governed<'r, 'a> {
         let mut current = governed;
         for _ in 0..MAX_PARAMETERS {
             match self.argument_type(current) {
@@ -398,7 +407,7 @@ impl<'a> Resolver<'_, 'a> {
     }
 
     /// The value behind parameters that are arguments of others.
-    pub(crate) fn behind_value_parameters(&self, written: Written<'a>) -> Written<'a> {
+    pub(crate) fn behind_value_parameters(&self, written: Written<'r, 'a>) -> Written<'r, 'a> {
         let mut current = written;
         for _ in 0..MAX_PARAMETERS {
             let next = match &current.value.kind {
@@ -414,7 +423,7 @@ impl<'a> Resolver<'_, 'a> {
     }
 
     /// The argument of a type that is the name of a parameter.
-    pub(crate) fn argument_type(&self, governed: Governed<'a>) -> Option<Governed<'a>> {
+    pub(crate) fn argument_type(&self, governed: Governed<'r, 'a>) -> Option<Governed<'r, 'a>> {
         let TypeKind::Reference(reference) = &governed.definition.kind else {
             return None;
         };
@@ -433,7 +442,7 @@ impl<'a> Resolver<'_, 'a> {
         &self,
         scope: Scope<'a>,
         reference: &Reference,
-    ) -> Option<Written<'a>> {
+    ) -> Option<Written<'r, 'a>> {
         let bound = self.instances.argument(scope, reference)?;
         match bound.argument {
             Argument::Value(value) => Some(Written {
@@ -445,7 +454,7 @@ impl<'a> Resolver<'_, 'a> {
     }
 
     /// Whether a type is the name of a parameter.
-    pub(crate) fn is_parameter(&self, governed: Governed<'a>) -> bool {
+    pub(crate) fn is_parameter(&self, governed: Governed<'r, 'a>) -> bool {
         self.argument_type(governed).is_some()
     }
 }

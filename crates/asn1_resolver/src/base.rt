@@ -12,22 +12,22 @@ const MAX_TAGS: usize = 100;
 
 /// The type behind the references and tags of a definition.
 #[derive(Clone, Copy)]
-pub(crate) enum Base<'a> {
+pub(crate) enum Base<'r, 'a> {
     /// They were not followed.
     Unknown,
     /// This type.
-    Found(Governed<'a>),
+    Found(Governed<'r, 'a>),
     /// The definition leads to itself.
     Missing,
 }
 
 // A step from a type to the one behind it.
 #[derive(Clone, Copy)]
-enum Step<'a> {
+enum Step<'r, 'a> {
     // To this type.
-    Next(Governed<'a>),
+    Next(Governed<'r, 'a>),
     // From the alternative of a name to its CHOICE.
-    Choice(Span, Governed<'a>),
+    Choice(Span, Governed<'r, 'a>),
     // There is none.
     Last,
     // To a definition that leads to itself.
@@ -45,9 +45,12 @@ struct Selected<'a> {
     depth: usize,
 }
 
-impl<'a> Resolver<'_, 'a> {
+impl<'r, 'a> Resolver<'r, 'a> {
     // The type that another is by a parameter, by the field of a class or by its arguments.
-    fn inner_type(&mut self, governed: Governed<'a>) -> Result<Option<Governed<'a>>, Fault> {
+    fn inner_type(
+        &mut self,
+        governed: Governed<'r, 'a>,
+    ) -> Result<Option<Governed<'r, 'a>>, Fault> {
         match &governed.definition.kind {
             TypeKind::Instance(reference, arguments) => {
                 let scope = governed.scope;
@@ -67,8 +70,8 @@ impl<'a> Resolver<'_, 'a> {
     /// The argument of a parameter, or the type of the field of a class.
     pub(crate) fn stand_in(
         &mut self,
-        governed: Governed<'a>,
-    ) -> Result<Option<Governed<'a>>, Fault> {
+        governed: Governed<'r, 'a>,
+    ) -> Result<Option<Governed<'r, 'a>>, Fault> {
         match &governed.definition.kind {
             TypeKind::Reference(_) => Ok(self.argument_type(governed)),
             TypeKind::Field(class, names) => {
@@ -86,10 +89,10 @@ impl<'a> Resolver<'_, 'a> {
     // The type of an alternative, which may be in version brackets.
     fn selected_type(
         &mut self,
-        base: Governed<'a>,
+        base: Governed<'r, 'a>,
         scope: Scope<'a>,
         name: Span,
-    ) -> Result<Governed<'a>, Fault> {
+    ) -> Result<Governed<'r, 'a>, Fault> {
         let text = scope.octets(name);
         let TypeKind::Choice(items) = &base.definition.kind else {
             return Err(self.refuse(
@@ -116,7 +119,7 @@ impl<'a> Resolver<'_, 'a> {
     }
 
     /// The type behind references and tags. Each definition on the way keeps it.
-    pub(crate) fn base(&mut self, governed: Governed<'a>) -> Result<Governed<'a>, Fault> {
+    pub(crate) fn base(&mut self, governed: Governed<'r, 'a>) -> Result<Governed<'r, 'a>, Fault> {
         let mut current = governed;
         let mut passed = Vec::new(self.alloc);
         let mut selected: Vec<Selected<'a>> = Vec::new(self.alloc);
@@ -149,7 +152,11 @@ impl<'a> Resolver<'_, 'a> {
     }
 
     // The step from a type to the one behind it. The index of a definition that is passed is added.
-    fn step(&mut self, governed: Governed<'a>, passed: &mut Vec<usize>) -> Result<Step<'a>, Fault> {
+    fn step(
+        &mut self,
+        governed: Governed<'r, 'a>,
+        passed: &mut Vec<usize>,
+    ) -> Result<Step<'r, 'a>, Fault> {
         let scope = governed.scope;
         match &governed.definition.kind {
             TypeKind::Tagged(_, definition) => Ok(Step::Next(Governed { scope, definition })),
@@ -176,7 +183,7 @@ impl<'a> Resolver<'_, 'a> {
     }
 
     // Keeps the type behind the references and tags of definitions.
-    fn keep_base(&mut self, passed: &[usize], base: Base<'a>) {
+    fn keep_base(&mut self, passed: &[usize], base: Base<'r, 'a>) {
         for index in passed {
             if let Some(known) = self.bases.get_mut(*index) {
                 *known = base;
@@ -185,7 +192,7 @@ impl<'a> Resolver<'_, 'a> {
     }
 
     // Whether tags are put on the alternatives of a CHOICE.
-    fn has_automatic_tags(&mut self, choice: Governed<'a>) -> Result<bool, Fault> {
+    fn has_automatic_tags(&mut self, choice: Governed<'r, 'a>) -> Result<bool, Fault> {
         match &choice.definition.kind {
             TypeKind::Choice(items) => self.is_automatic(choice.scope, items.as_slice()),
             _ => Ok(false),
@@ -193,7 +200,7 @@ impl<'a> Resolver<'_, 'a> {
     }
 
     /// Whether a type with none behind it is an open type.
-    pub(crate) fn is_open(&mut self, governed: Governed<'a>) -> Result<bool, Fault> {
+    pub(crate) fn is_open(&mut self, governed: Governed<'r, 'a>) -> Result<bool, Fault> {
         match &governed.definition.kind {
             TypeKind::Any(_) => Ok(true),
             TypeKind::Field(class, names) => {
@@ -205,7 +212,7 @@ impl<'a> Resolver<'_, 'a> {
     }
 
     /// Whether a type with none behind it is the identifier of a class of the language.
-    pub(crate) fn is_identifier(&mut self, governed: Governed<'a>) -> Result<bool, Fault> {
+    pub(crate) fn is_identifier(&mut self, governed: Governed<'r, 'a>) -> Result<bool, Fault> {
         match &governed.definition.kind {
             TypeKind::Field(class, names) => {
                 let field = self.field_type(governed.scope, class, names.as_slice())?;
@@ -216,7 +223,7 @@ impl<'a> Resolver<'_, 'a> {
     }
 
     /// Whether a type is a CHOICE or an open type, and under no tag.
-    pub(crate) fn has_no_tag(&mut self, governed: Governed<'a>) -> Result<bool, Fault> {
+    pub(crate) fn has_no_tag(&mut self, governed: Governed<'r, 'a>) -> Result<bool, Fault> {
         self.base(governed)?;
         let mut current = governed;
         for _ in 0..self.most_steps() {
@@ -247,11 +254,11 @@ impl<'a> Resolver<'_, 'a> {
 }
 
 // The type of the alternative of this name.
-fn alternative_in<'a>(
+fn alternative_in<'r, 'a>(
     scope: Scope<'a>,
-    items: &'a [ComponentItem],
+    items: &'r [ComponentItem],
     name: &[u8],
-) -> Option<&'a Type> {
+) -> Option<&'r Type> {
     for item in items {
         let found = match item {
             ComponentItem::Component(component) => named_type(scope, component, name),
@@ -266,7 +273,11 @@ fn alternative_in<'a>(
 }
 
 // The type of the alternative of this name in version brackets.
-fn grouped_type<'a>(scope: Scope<'a>, items: &'a [ComponentItem], name: &[u8]) -> Option<&'a Type> {
+fn grouped_type<'r, 'a>(
+    scope: Scope<'a>,
+    items: &'r [ComponentItem],
+    name: &[u8],
+) -> Option<&'r Type> {
     for item in items {
         if let ComponentItem::Component(component) = item {
             let found = named_type(scope, component, name);
@@ -279,7 +290,7 @@ fn grouped_type<'a>(scope: Scope<'a>, items: &'a [ComponentItem], name: &[u8]) -
 }
 
 // The type of a component, if it has this name.
-fn named_type<'a>(scope: Scope<'a>, component: &'a Component, name: &[u8]) -> Option<&'a Type> {
+fn named_type<'r, 'a>(scope: Scope<'a>, component: &'r Component, name: &[u8]) -> Option<&'r Type> {
     if scope.octets(component.name) == name {
         Some(&component.definition)
     } else {

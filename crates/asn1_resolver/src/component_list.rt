@@ -21,16 +21,16 @@ pub(crate) enum Construct {
 
 /// A component of a SEQUENCE or a SET, or an alternative of a CHOICE.
 #[derive(Clone, Copy)]
-pub(crate) struct Listed<'a> {
+pub(crate) struct Listed<'r, 'a> {
     /// The module that it is written in.
     pub(crate) scope: Scope<'a>,
     /// The component.
-    pub(crate) component: &'a Component,
+    pub(crate) component: &'r Component,
     /// The number of its automatic tag, if it has one.
     pub(crate) tag: Option<u32>,
 }
 
-impl<'a> Listed<'a> {
+impl<'r, 'a> Listed<'r, 'a> {
     /// The name.
     pub(crate) fn name(self) -> &'a [u8] {
         self.scope.octets(self.component.name)
@@ -42,7 +42,7 @@ impl<'a> Listed<'a> {
     }
 
     /// The type.
-    pub(crate) fn governed(self) -> Governed<'a> {
+    pub(crate) fn governed(self) -> Governed<'r, 'a> {
         Governed {
             scope: self.scope,
             definition: &self.component.definition,
@@ -50,7 +50,7 @@ impl<'a> Listed<'a> {
     }
 
     /// A value that is written at the component.
-    pub(crate) fn written(self, value: &'a Value) -> Written<'a> {
+    pub(crate) fn written(self, value: &'r Value) -> Written<'r, 'a> {
         Written {
             scope: self.scope,
             value,
@@ -78,9 +78,9 @@ impl Extent {
 
 /// The components, with those of COMPONENTS OF.
 #[derive(Drop)]
-pub(crate) struct ComponentList<'a> {
+pub(crate) struct ComponentList<'r, 'a> {
     /// All components: the root, then the additions.
-    pub(crate) listed: Vec<Listed<'a>>,
+    pub(crate) listed: Vec<Listed<'r, 'a>>,
     /// How many are of the root.
     pub(crate) root_count: usize,
     /// The additions.
@@ -95,9 +95,9 @@ pub(crate) struct ComponentList<'a> {
     markers: usize,
 }
 
-impl<'a> ComponentList<'a> {
+impl<'r, 'a> ComponentList<'r, 'a> {
     // A list of no components.
-    fn new(alloc: Global, is_extensible: bool, is_automatic: bool) -> ComponentList<'a> {
+    fn new(alloc: Global, is_extensible: bool, is_automatic: bool) -> ComponentList<'r, 'a> {
         ComponentList {
             listed: Vec::new(alloc),
             root_count: 0,
@@ -110,7 +110,7 @@ impl<'a> ComponentList<'a> {
     }
 
     /// Adds a component.
-    pub(crate) fn add(&mut self, scope: Scope<'a>, component: &'a Component) -> Result<(), Fault> {
+    pub(crate) fn add(&mut self, scope: Scope<'a>, component: &'r Component) -> Result<(), Fault> {
         self.add_included(scope, component, None)
     }
 
@@ -119,7 +119,7 @@ impl<'a> ComponentList<'a> {
     pub(crate) fn add_included(
         &mut self,
         scope: Scope<'a>,
-        component: &'a Component,
+        component: &'r Component,
         first: Option<usize>,
     ) -> Result<(), Fault> {
         let first = if self.is_automatic { Some(0) } else { first };
@@ -154,7 +154,7 @@ impl<'a> ComponentList<'a> {
     }
 
     /// The component of this name.
-    pub(crate) fn find(&self, name: &[u8]) -> Option<Listed<'a>> {
+    pub(crate) fn find(&self, name: &[u8]) -> Option<Listed<'r, 'a>> {
         for listed in &self.listed {
             if listed.name() == name {
                 return Some(*listed);
@@ -164,14 +164,14 @@ impl<'a> ComponentList<'a> {
     }
 }
 
-impl<'a> Resolver<'_, 'a> {
+impl<'r, 'a> Resolver<'r, 'a> {
     /// The components of a type, with those of COMPONENTS OF, and with the numbers of automatic tags.
     pub(crate) fn list_components(
         &mut self,
         scope: Scope<'a>,
-        items: &'a [ComponentItem],
+        items: &'r [ComponentItem],
         construct: Construct,
-    ) -> Result<ComponentList<'a>, Fault> {
+    ) -> Result<ComponentList<'r, 'a>, Fault> {
         let is_automatic = self.is_automatic(scope, items)?;
         let mut list = ComponentList::new(self.alloc, scope.module.is_extensible, is_automatic);
         self.list_items(&mut list, scope, items, construct)?;
@@ -181,9 +181,9 @@ impl<'a> Resolver<'_, 'a> {
     // Adds items to an empty list.
     fn list_items(
         &mut self,
-        list: &mut ComponentList<'a>,
+        list: &mut ComponentList<'r, 'a>,
         scope: Scope<'a>,
-        items: &'a [ComponentItem],
+        items: &'r [ComponentItem],
         construct: Construct,
     ) -> Result<(), Fault> {
         for item in items {
@@ -198,9 +198,9 @@ impl<'a> Resolver<'_, 'a> {
     // Adds an item to the list.
     fn list_item(
         &mut self,
-        list: &mut ComponentList<'a>,
+        list: &mut ComponentList<'r, 'a>,
         scope: Scope<'a>,
-        item: &'a ComponentItem,
+        item: &'r ComponentItem,
         construct: Construct,
     ) -> Result<(), Fault> {
         match item {
@@ -226,7 +226,7 @@ impl<'a> Resolver<'_, 'a> {
     // Passes an extension marker.
     fn list_marker(
         &mut self,
-        list: &mut ComponentList<'a>,
+        list: &mut ComponentList<'r, 'a>,
         scope: Scope<'a>,
         start: usize,
     ) -> Result<(), Fault> {
@@ -251,7 +251,7 @@ impl<'a> Resolver<'_, 'a> {
     // Refuses components behind a second extension marker.
     fn require_open(
         &mut self,
-        list: &ComponentList<'a>,
+        list: &ComponentList<'r, 'a>,
         scope: Scope<'a>,
         start: usize,
     ) -> Result<(), Fault> {
@@ -268,10 +268,10 @@ impl<'a> Resolver<'_, 'a> {
     // Adds the components in version brackets.
     fn list_group(
         &mut self,
-        list: &mut ComponentList<'a>,
+        list: &mut ComponentList<'r, 'a>,
         scope: Scope<'a>,
         start: usize,
-        items: &'a [ComponentItem],
+        items: &'r [ComponentItem],
         construct: Construct,
     ) -> Result<(), Fault> {
         if list.markers != 1 {
@@ -295,9 +295,9 @@ impl<'a> Resolver<'_, 'a> {
     // Adds an item in version brackets.
     fn list_grouped(
         &mut self,
-        list: &mut ComponentList<'a>,
+        list: &mut ComponentList<'r, 'a>,
         scope: Scope<'a>,
-        item: &'a ComponentItem,
+        item: &'r ComponentItem,
         construct: Construct,
     ) -> Result<(), Fault> {
         match item {
@@ -313,7 +313,7 @@ impl<'a> Resolver<'_, 'a> {
     }
 
     // Refuses two components of one name.
-    fn require_distinct_names(&mut self, list: &ComponentList<'a>) -> Result<(), Fault> {
+    fn require_distinct_names(&mut self, list: &ComponentList<'r, 'a>) -> Result<(), Fault> {
         let mut named = Vec::new(self.alloc);
         for listed in &list.listed {
             named.push(NamedNumber {
@@ -329,7 +329,7 @@ impl<'a> Resolver<'_, 'a> {
     pub(crate) fn is_automatic(
         &mut self,
         scope: Scope<'a>,
-        items: &'a [ComponentItem],
+        items: &'r [ComponentItem],
     ) -> Result<bool, Fault> {
         if scope.module.tagging != TagDefault::Automatic || has_tag_in_root(items) {
             return Ok(false);
@@ -349,7 +349,7 @@ impl<'a> Resolver<'_, 'a> {
 }
 
 // Ends an addition that is in no version brackets. Each of its components is one.
-fn end_addition(list: &mut ComponentList<'_>, first: usize) -> Result<(), Fault> {
+fn end_addition(list: &mut ComponentList<'_, '_>, first: usize) -> Result<(), Fault> {
     if list.markers == 1 {
         for index in first..list.listed.len() {
             list.additions.push(Extent {

@@ -5,9 +5,12 @@ use crate::resolver::Resolver;
 use asn1_notation::TypeKind;
 use asn1_resolved::{Constraint, ConstraintKind, Range};
 
-impl<'a> Resolver<'_, 'a> {
+impl<'r, 'a> Resolver<'r, 'a> {
     /// The constraints of a type.
-    pub(crate) fn constraints(&mut self, governed: Governed<'a>) -> Result<Vec<Constraint>, Fault> {
+    pub(crate) fn constraints(
+        &mut self,
+        governed: Governed<'r, 'a>,
+    ) -> Result<Vec<Constraint>, Fault> {
         let mut constraints = Vec::new(self.alloc);
         if governed.definition.constraints.is_empty() {
             return Ok(constraints);
@@ -28,8 +31,8 @@ impl<'a> Resolver<'_, 'a> {
     fn add_constraint(
         &mut self,
         constraints: &mut Vec<Constraint>,
-        bounded: Bounded<'a>,
-        constraint: &'a asn1_notation::Constraint,
+        bounded: Bounded<'r, 'a>,
+        constraint: &'r asn1_notation::Constraint,
     ) -> Result<(), Fault> {
         match &constraint.kind {
             asn1_notation::ConstraintKind::Intersection(parts) => {
@@ -62,8 +65,8 @@ impl<'a> Resolver<'_, 'a> {
     // A constraint that is no intersection. One that is in error is one that no type can carry.
     fn constraint(
         &mut self,
-        bounded: Bounded<'a>,
-        constraint: &'a asn1_notation::Constraint,
+        bounded: Bounded<'r, 'a>,
+        constraint: &'r asn1_notation::Constraint,
     ) -> Result<Constraint, Fault> {
         let inner = inner_root(constraint);
         let kind = match self.constraint_kind(bounded, constraint, inner.root) {
@@ -81,9 +84,9 @@ impl<'a> Resolver<'_, 'a> {
     // A constraint without its extension marker.
     fn constraint_kind(
         &mut self,
-        bounded: Bounded<'a>,
-        constraint: &'a asn1_notation::Constraint,
-        inner: &'a asn1_notation::Constraint,
+        bounded: Bounded<'r, 'a>,
+        constraint: &'r asn1_notation::Constraint,
+        inner: &'r asn1_notation::Constraint,
     ) -> Result<ConstraintKind, Fault> {
         let scope = bounded.of.scope;
         let kind = &bounded.base.definition.kind;
@@ -128,18 +131,18 @@ fn has_alphabet(kind: &TypeKind) -> bool {
 
 // A type whose constraints are resolved.
 #[derive(Clone, Copy)]
-struct Bounded<'a> {
+struct Bounded<'r, 'a> {
     // The type behind references and tags.
-    base: Governed<'a>,
+    base: Governed<'r, 'a>,
     // The type with the constraints.
-    of: Governed<'a>,
+    of: Governed<'r, 'a>,
     // Whether an extension marker was passed.
     is_extensible: bool,
 }
 
-impl<'a> Bounded<'a> {
+impl<'r, 'a> Bounded<'r, 'a> {
     // The same, behind an extension marker.
-    fn with_marker(self) -> Bounded<'a> {
+    fn with_marker(self) -> Bounded<'r, 'a> {
         Bounded {
             base: self.base,
             of: self.of,

@@ -30,7 +30,7 @@ pub(crate) struct Defined<'a> {
 
 impl<'a> Defined<'a> {
     /// The type, with its module.
-    pub(crate) fn governed(self) -> Governed<'a> {
+    pub(crate) fn governed(self) -> Governed<'a, 'a> {
         Governed {
             scope: self.scope,
             definition: self.definition,

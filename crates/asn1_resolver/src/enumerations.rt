@@ -22,12 +22,12 @@ struct WrittenItem<'a> {
     number: Option<i128>,
 }
 
-impl<'a> Resolver<'_, 'a> {
+impl<'r, 'a> Resolver<'r, 'a> {
     /// The items of an ENUMERATED, each with its number (X.680, 20.3 to 20.6).
     pub(crate) fn enumeration(
         &mut self,
         scope: Scope<'a>,
-        items: &'a [asn1_notation::EnumerationItem],
+        items: &'r [asn1_notation::EnumerationItem],
     ) -> Result<Enumeration<'a>, Fault> {
         let written = self.written_items(scope, items)?;
         let mut numbered = number_root(self.alloc, scope, written.root.as_slice())?;
@@ -47,7 +47,7 @@ impl<'a> Resolver<'_, 'a> {
     fn written_items(
         &mut self,
         scope: Scope<'a>,
-        items: &'a [asn1_notation::EnumerationItem],
+        items: &'r [asn1_notation::EnumerationItem],
     ) -> Result<WrittenItems<'a>, Fault> {
         let mut root = Vec::new(self.alloc);
         let mut additions = Vec::new(self.alloc);

@@ -7,7 +7,7 @@ use asn1_resolved::Severity;
 use std::alloc::{AllocError, Global};
 use std::collections::HashSet;
 
-impl<'a> Resolver<'_, 'a> {
+impl<'r, 'a> Resolver<'r, 'a> {
     /// Warns of each imported name that its module defines, and does not export (X.680, 13.16).
     pub(crate) fn report_exports(&mut self, sources: &[Source<'a>]) -> Result<(), AllocError> {
         let names = self.names;

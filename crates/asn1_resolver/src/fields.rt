@@ -10,41 +10,41 @@ const MAX_ALIASES: usize = 100;
 
 /// The type of a field.
 #[derive(Clone, Copy)]
-pub(crate) enum FieldType<'a> {
+pub(crate) enum FieldType<'r, 'a> {
     /// An open type.
     Open,
     /// OBJECT IDENTIFIER, of a class of the language.
     ObjectIdentifier,
     /// This type.
-    Fixed(Governed<'a>),
+    Fixed(Governed<'r, 'a>),
 }
 
 // The contents of a field.
 #[derive(Clone, Copy)]
-enum Held<'a> {
+enum Held<'r, 'a> {
     // A type.
-    Type(FieldType<'a>),
+    Type(FieldType<'r, 'a>),
     // A value of this type, or an object of this class.
-    Fixed(Scope<'a>, &'a Type),
+    Fixed(Scope<'a>, &'r Type),
 }
 
 // A class.
 #[derive(Clone, Copy)]
-enum Fields<'a> {
+enum Fields<'r, 'a> {
     // One of the language (X.681, annexes A and B), by its name.
     Known(&'a [u8]),
     // One of a module, with its fields.
-    Listed(Scope<'a>, &'a [ClassField]),
+    Listed(Scope<'a>, &'r [ClassField]),
 }
 
-impl<'a> Resolver<'_, 'a> {
+impl<'r, 'a> Resolver<'r, 'a> {
     /// The type of the field to which names lead from a class, or the type in a field of an object.
     pub(crate) fn field_type(
         &mut self,
         scope: Scope<'a>,
         class: &Reference,
         names: &[Span],
-    ) -> Result<FieldType<'a>, Fault> {
+    ) -> Result<FieldType<'r, 'a>, Fault> {
         if matches!(scope.octets(class.name), [b'a'..=b'z', ..]) {
             return self.type_of_object(scope, class, names);
         }
@@ -85,7 +85,7 @@ impl<'a> Resolver<'_, 'a> {
         class_scope: Scope<'a>,
         class: &Reference,
         name: Span,
-    ) -> Result<Held<'a>, Fault> {
+    ) -> Result<Held<'r, 'a>, Fault> {
         let (found, fields) = match self.find_class(class_scope, *class) {
             Some(Fields::Known(_)) => return self.known_field(scope, class_scope, class, name),
             Some(Fields::Listed(found, fields)) => (found, fields),
@@ -109,7 +109,7 @@ impl<'a> Resolver<'_, 'a> {
         class_scope: Scope<'a>,
         class: &Reference,
         name: Span,
-    ) -> Result<Held<'a>, Fault> {
+    ) -> Result<Held<'r, 'a>, Fault> {
         match scope.octets(name) {
             b"id" => Ok(Held::Type(FieldType::ObjectIdentifier)),
             b"Type" => Ok(Held::Type(FieldType::Open)),
@@ -118,7 +118,7 @@ impl<'a> Resolver<'_, 'a> {
     }
 
     // The class of a name, behind other names and parameters.
-    fn find_class(&self, scope: Scope<'a>, reference: Reference) -> Option<Fields<'a>> {
+    fn find_class(&self, scope: Scope<'a>, reference: Reference) -> Option<Fields<'r, 'a>> {
         let mut scope = scope;
         let mut reference = reference;
         for _ in 0..MAX_ALIASES {
@@ -175,7 +175,7 @@ impl<'a> Resolver<'_, 'a> {
     pub(crate) fn require_type_identifier(
         &mut self,
         scope: Scope<'a>,
-        definition: &'a Type,
+        definition: &'r Type,
     ) -> Result<(), Fault> {
         let TypeKind::Reference(class) = &definition.kind else {
             return Ok(());
@@ -256,11 +256,11 @@ fn scope_of(found: FoundClass<'_>) -> Scope<'_> {
 }
 
 // The contents of the field of this name.
-fn find_field<'a>(
+fn find_field<'r, 'a>(
     scope: Scope<'a>,
-    fields: &'a [ClassField],
+    fields: &'r [ClassField],
     name: &[u8],
-) -> Option<&'a FieldKind> {
+) -> Option<&'r FieldKind> {
     for field in fields {
         if scope.octets(field.name) == name {
             return Some(&field.kind);

@@ -8,22 +8,22 @@ use asn1_notation::{Number, NumberName, Span, TypeKind, ValueKind};
 
 /// A value that is no name of another.
 #[derive(Clone, Copy)]
-pub(crate) enum Followed<'a> {
+pub(crate) enum Followed<'r, 'a> {
     /// A value of a type that is no reference and has no tag.
-    Literal(Governed<'a>, Written<'a>),
+    Literal(Governed<'r, 'a>, Written<'r, 'a>),
     /// The number of a named number, with its module.
     Number(Scope<'a>, Number),
     /// The name of an item.
     Item(&'a [u8]),
 }
 
-impl<'a> Resolver<'_, 'a> {
+impl<'r, 'a> Resolver<'r, 'a> {
     /// The value behind names. The type is no reference and has no tag.
     pub(crate) fn follow(
         &mut self,
-        base: Governed<'a>,
-        written: Written<'a>,
-    ) -> Result<Followed<'a>, Fault> {
+        base: Governed<'r, 'a>,
+        written: Written<'r, 'a>,
+    ) -> Result<Followed<'r, 'a>, Fault> {
         let mut governing = base;
         let mut current = written;
         for _ in 0..MAX_DEPTH {
@@ -70,8 +70,8 @@ impl<'a> Resolver<'_, 'a> {
     /// The whole number that a value is, behind this name.
     pub(crate) fn followed_number(
         &mut self,
-        governed: Governed<'a>,
-        written: Written<'a>,
+        governed: Governed<'r, 'a>,
+        written: Written<'r, 'a>,
         scope: Scope<'a>,
         name: Span,
     ) -> Result<i128, Fault> {
@@ -86,8 +86,8 @@ impl<'a> Resolver<'_, 'a> {
     // The whole number that a literal is, behind this name.
     fn literal_number(
         &mut self,
-        base: Governed<'a>,
-        literal: Written<'a>,
+        base: Governed<'r, 'a>,
+        literal: Written<'r, 'a>,
         scope: Scope<'a>,
         name: Span,
     ) -> Result<i128, Fault> {

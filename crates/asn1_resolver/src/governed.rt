@@ -89,14 +89,14 @@ impl<'a> Scope<'a> {
 
 /// A type with the module that it is in.
 #[derive(Clone, Copy)]
-pub(crate) struct Governed<'a> {
+pub(crate) struct Governed<'r, 'a> {
     /// The module.
     pub(crate) scope: Scope<'a>,
     /// The type.
-    pub(crate) definition: &'a Type,
+    pub(crate) definition: &'r Type,
 }
 
-impl<'a> Governed<'a> {
+impl<'r, 'a> Governed<'r, 'a> {
     /// The place at which the type begins.
     pub(crate) fn place(self) -> Place {
         self.scope.place_at(self.definition.start)
@@ -105,14 +105,14 @@ impl<'a> Governed<'a> {
 
 /// A value with the module that it is in.
 #[derive(Clone, Copy)]
-pub(crate) struct Written<'a> {
+pub(crate) struct Written<'r, 'a> {
     /// The module.
     pub(crate) scope: Scope<'a>,
     /// The value.
-    pub(crate) value: &'a Value,
+    pub(crate) value: &'r Value,
 }
 
-impl Written<'_> {
+impl Written<'_, '_> {
     /// The place at which the value begins.
     pub(crate) fn place(self) -> Place {
         self.scope.place_at(self.value.start)

@@ -22,14 +22,14 @@ struct Inclusion<'a> {
     construct: Construct,
 }
 
-impl<'a> Resolver<'_, 'a> {
+impl<'r, 'a> Resolver<'r, 'a> {
     /// Adds the components of a type: those of its root (X.680, 25.5 and 27.2), with the tags that were put on them (25.8).
     pub(crate) fn include(
         &mut self,
-        list: &mut ComponentList<'a>,
+        list: &mut ComponentList<'r, 'a>,
         scope: Scope<'a>,
         start: usize,
-        definition: &'a Type,
+        definition: &'r Type,
         construct: Construct,
     ) -> Result<(), Fault> {
         let included = Governed { scope, definition };
@@ -45,8 +45,8 @@ impl<'a> Resolver<'_, 'a> {
     // components begin at an index of the list.
     fn include_from(
         &mut self,
-        list: &mut ComponentList<'a>,
-        included: Governed<'a>,
+        list: &mut ComponentList<'r, 'a>,
+        included: Governed<'r, 'a>,
         inclusion: Inclusion<'a>,
         outer: Option<usize>,
         depth: usize,
@@ -85,7 +85,7 @@ impl<'a> Resolver<'_, 'a> {
     // Counts a type that is included.
     fn count_inclusion(
         &mut self,
-        list: &mut ComponentList<'a>,
+        list: &mut ComponentList<'r, 'a>,
         inclusion: Inclusion<'a>,
     ) -> Result<(), Fault> {
         list.inclusions = list.inclusions.saturating_add(1);
@@ -101,9 +101,9 @@ impl<'a> Resolver<'_, 'a> {
     // The index at which the components begin on which tags are put: those of an outer type, or else of this one.
     fn first_tagged(
         &mut self,
-        list: &ComponentList<'a>,
+        list: &ComponentList<'r, 'a>,
         scope: Scope<'a>,
-        items: &'a [ComponentItem],
+        items: &'r [ComponentItem],
         outer: Option<usize>,
     ) -> Result<Option<usize>, Fault> {
         match outer {
@@ -130,7 +130,7 @@ impl<'a> Resolver<'_, 'a> {
 }
 
 // The items of a type, if it is of this kind.
-fn items_of<'a>(base: Governed<'a>, construct: Construct) -> Option<&'a [ComponentItem]> {
+fn items_of<'r, 'a>(base: Governed<'r, 'a>, construct: Construct) -> Option<&'r [ComponentItem]> {
     match (&base.definition.kind, construct) {
         (TypeKind::Sequence(items), Construct::Sequence) => Some(items.as_slice()),
         (TypeKind::Set(items), Construct::Set) => Some(items.as_slice()),

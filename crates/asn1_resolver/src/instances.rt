@@ -13,13 +13,13 @@ const MAX_INSTANCES: usize = 10_000;
 
 /// A template with arguments.
 #[derive(Clone, Copy)]
-pub(crate) struct Instance<'a> {
+pub(crate) struct Instance<'r, 'a> {
     /// The template.
     pub(crate) template: Defined<'a>,
     /// The module that the arguments are in.
     pub(crate) scope: Scope<'a>,
     /// The arguments.
-    pub(crate) arguments: &'a [Argument],
+    pub(crate) arguments: &'r [Argument],
     /// The definition that is this type, if one is.
     pub(crate) home: Option<usize>,
     /// The index of the type in the schema.
@@ -30,19 +30,19 @@ pub(crate) struct Instance<'a> {
 
 /// An argument with its parameter.
 #[derive(Clone, Copy)]
-pub(crate) struct Bound<'a> {
+pub(crate) struct Bound<'r, 'a> {
     /// The parameter.
-    pub(crate) parameter: &'a Parameter,
+    pub(crate) parameter: &'r Parameter,
     /// The module that the argument is in.
     pub(crate) scope: Scope<'a>,
     /// The argument.
-    pub(crate) argument: &'a Argument,
+    pub(crate) argument: &'r Argument,
 }
 
 /// The types that arguments complete, as far as they were met.
 #[derive(Drop)]
-pub(crate) struct Instances<'a> {
-    list: Vec<Instance<'a>>,
+pub(crate) struct Instances<'r, 'a> {
+    list: Vec<Instance<'r, 'a>>,
     // The index of an instance, by its key.
     keys: HashMap<Vec<u8>, usize>,
     // The index of the instance that a definition is.
@@ -51,9 +51,9 @@ pub(crate) struct Instances<'a> {
     next_reference: usize,
 }
 
-impl<'a> Instances<'a> {
+impl<'r, 'a: 'r> Instances<'r, 'a> {
     /// None yet, in a schema with this number of definitions of types.
-    pub(crate) fn new(alloc: Global, definitions: usize) -> Instances<'a> {
+    pub(crate) fn new(alloc: Global, definitions: usize) -> Instances<'r, 'a> {
         Instances {
             list: Vec::new(alloc),
             keys: HashMap::new(alloc),
@@ -63,7 +63,7 @@ impl<'a> Instances<'a> {
     }
 
     /// The instance of this index.
-    pub(crate) fn get(&self, index: usize) -> Option<Instance<'a>> {
+    pub(crate) fn get(&self, index: usize) -> Option<Instance<'r, 'a>> {
         self.list.get(index).copied()
     }
 
@@ -99,7 +99,7 @@ impl<'a> Instances<'a> {
         key: Vec<u8>,
         template: Defined<'a>,
         scope: Scope<'a>,
-        arguments: &'a [Argument],
+        arguments: &'r [Argument],
         home: Option<usize>,
     ) -> Result<usize, AllocError> {
         let index = self.list.len();
@@ -128,7 +128,7 @@ impl<'a> Instances<'a> {
     }
 
     /// The type of an instance, with the module that its template is in.
-    pub(crate) fn body(&self, index: usize) -> Option<Governed<'a>> {
+    pub(crate) fn body(&self, index: usize) -> Option<Governed<'r, 'a>> {
         let template = self.list.get(index)?.template;
         Some(Governed {
             scope: template.scope.within(index),
@@ -137,7 +137,11 @@ impl<'a> Instances<'a> {
     }
 
     /// The argument of a name that is that of a parameter.
-    pub(crate) fn argument(&self, scope: Scope<'a>, reference: &Reference) -> Option<Bound<'a>> {
+    pub(crate) fn argument(
+        &self,
+        scope: Scope<'a>,
+        reference: &Reference,
+    ) -> Option<Bound<'r, 'a>> {
         if reference.module.is_some() {
             return None;
         }

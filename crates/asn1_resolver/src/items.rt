@@ -12,8 +12,8 @@ pub(crate) enum Item<'a> {
 }
 
 /// The number or the item of a type that has this name.
-pub(crate) fn item_of<'a>(
-    base: Governed<'a>,
+pub(crate) fn item_of<'r, 'a>(
+    base: Governed<'r, 'a>,
     scope: Scope<'a>,
     reference: Reference,
 ) -> Option<Item<'a>> {

@@ -6,12 +6,12 @@ use crate::resolver::Resolver;
 use asn1_notation::{ListItem, Span, TypeKind, ValueKind};
 use asn1_resolved::Value;
 
-impl<'a> Resolver<'_, 'a> {
+impl<'r, 'a> Resolver<'r, 'a> {
     /// A value that holds no other and is no name.
     pub(crate) fn plain_literal(
         &mut self,
-        base: Governed<'a>,
-        written: Written<'a>,
+        base: Governed<'r, 'a>,
+        written: Written<'r, 'a>,
     ) -> Result<Value<'a>, Fault> {
         match &base.definition.kind {
             TypeKind::Boolean => match &written.value.kind {
@@ -36,8 +36,8 @@ impl<'a> Resolver<'_, 'a> {
     // A value of a string.
     fn string_literal(
         &mut self,
-        base: Governed<'a>,
-        written: Written<'a>,
+        base: Governed<'r, 'a>,
+        written: Written<'r, 'a>,
     ) -> Result<Value<'a>, Fault> {
         match &base.definition.kind {
             TypeKind::BitString(_) => {
@@ -60,8 +60,8 @@ impl<'a> Resolver<'_, 'a> {
     // The characters of a cstring, if the type has each of them.
     fn text_value(
         &mut self,
-        base: Governed<'a>,
-        written: Written<'a>,
+        base: Governed<'r, 'a>,
+        written: Written<'r, 'a>,
         span: Span,
     ) -> Result<Value<'a>, Fault> {
         let text = characters(self.alloc, written.scope.octets(span))?;
@@ -76,7 +76,7 @@ impl<'a> Resolver<'_, 'a> {
     pub(crate) fn code_of(
         &mut self,
         scope: Scope<'a>,
-        values: &'a [ListItem],
+        values: &'r [ListItem],
     ) -> Result<Option<i128>, Fault> {
         let (size, most) = match values.len() {
             2 => (16, 15),
@@ -103,7 +103,7 @@ impl<'a> Resolver<'_, 'a> {
     /// The string of the character with a code.
     pub(crate) fn character_value(
         &mut self,
-        written: Written<'a>,
+        written: Written<'r, 'a>,
         code: i128,
     ) -> Result<Value<'a>, Fault> {
         let character = match u32::try_from(code) {
@@ -121,7 +121,11 @@ impl<'a> Resolver<'_, 'a> {
     }
 
     // The bits of a bstring or an hstring.
-    fn bits(&mut self, base: Governed<'a>, written: Written<'a>) -> Result<Vec<bool>, Fault> {
+    fn bits(
+        &mut self,
+        base: Governed<'r, 'a>,
+        written: Written<'r, 'a>,
+    ) -> Result<Vec<bool>, Fault> {
         match &written.value.kind {
             ValueKind::Binary(span) => {
                 let bits = binary_bits(self.alloc, written.scope.octets(*span))?;

@@ -5,7 +5,7 @@ use asn1_names::{DefinedName, Place, find_doubled};
 use asn1_resolved::Severity;
 use std::alloc::{AllocError, Global};
 
-impl<'a> Resolver<'_, 'a> {
+impl<'r, 'a> Resolver<'r, 'a> {
     /// Reports each module whose name an earlier one has.
     pub(crate) fn report_modules(&mut self, sources: &[Source<'a>]) -> Result<(), AllocError> {
         let modules = list_modules(self.alloc, sources)?;

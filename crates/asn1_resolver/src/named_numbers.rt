@@ -5,12 +5,12 @@ use crate::governed::Scope;
 use crate::resolver::Resolver;
 use asn1_resolved::NamedNumber;
 
-impl<'a> Resolver<'_, 'a> {
+impl<'r, 'a> Resolver<'r, 'a> {
     /// The named numbers of an INTEGER.
     pub(crate) fn named_numbers(
         &mut self,
         scope: Scope<'a>,
-        numbers: &'a [asn1_notation::NamedNumber],
+        numbers: &'r [asn1_notation::NamedNumber],
     ) -> Result<Vec<NamedNumber<'a>>, Fault> {
         let mut named = Vec::new(self.alloc);
         for number in numbers {
@@ -30,7 +30,7 @@ impl<'a> Resolver<'_, 'a> {
     pub(crate) fn named_bits(
         &mut self,
         scope: Scope<'a>,
-        numbers: &'a [asn1_notation::NamedNumber],
+        numbers: &'r [asn1_notation::NamedNumber],
     ) -> Result<Vec<NamedNumber<'a>>, Fault> {
         let named = self.named_numbers(scope, numbers)?;
         for bit in &named {

@@ -4,7 +4,7 @@ use crate::governed::Scope;
 use crate::resolver::Resolver;
 use asn1_notation::Number;
 
-impl<'a> Resolver<'_, 'a> {
+impl<'r, 'a> Resolver<'r, 'a> {
     /// The whole number that is written.
     pub(crate) fn number(&mut self, scope: Scope<'a>, number: &Number) -> Result<i128, Fault> {
         match parse_digits(scope.octets(number.digits), number.is_negative) {

@@ -22,13 +22,13 @@ struct Named<'a> {
 
 // An object with its class and the module that it is in.
 #[derive(Clone, Copy)]
-struct Found<'a> {
+struct Found<'r, 'a> {
     scope: Scope<'a>,
-    class: &'a ObjectClass<'a>,
-    object: &'a ReadObject,
+    class: &'r ObjectClass<'a>,
+    object: &'r ReadObject,
 }
 
-impl<'a> Resolver<'_, 'a> {
+impl<'r, 'a> Resolver<'r, 'a> {
     /// Whether a value is a field of a parameter, whose object only an argument tells.
     pub(crate) fn is_open_field(&self, scope: Scope<'a>, value: &Value) -> bool {
         match &value.kind {
@@ -41,7 +41,10 @@ impl<'a> Resolver<'_, 'a> {
     }
 
     /// Warns of a DEFAULT that only an argument tells.
-    pub(crate) fn warn_of_open_field(&mut self, written: Written<'a>) -> Result<(), AllocError> {
+    pub(crate) fn warn_of_open_field(
+        &mut self,
+        written: Written<'r, 'a>,
+    ) -> Result<(), AllocError> {
         self.report(
             written.place(),
             Severity::Warning,
@@ -54,7 +57,7 @@ impl<'a> Resolver<'_, 'a> {
         &self,
         scope: Scope<'a>,
         reference: &Reference,
-        written: Written<'a>,
+        written: Written<'r, 'a>,
     ) -> (usize, usize) {
         if let Some(parameter) = scope.parameter(reference) {
             return (scope.source, parameter.name.start);
@@ -71,7 +74,7 @@ impl<'a> Resolver<'_, 'a> {
         scope: Scope<'a>,
         object: &Reference,
         names: &[Span],
-    ) -> Result<(Governed<'a>, Written<'a>), Fault> {
+    ) -> Result<(Governed<'r, 'a>, Written<'r, 'a>), Fault> {
         let Some((last, inner)) = names.split_last() else {
             return Err(Fault::Refused);
         };
@@ -85,7 +88,7 @@ impl<'a> Resolver<'_, 'a> {
         scope: Scope<'a>,
         object: &Reference,
         names: &[Span],
-    ) -> Result<FieldType<'a>, Fault> {
+    ) -> Result<FieldType<'r, 'a>, Fault> {
         let Some((last, inner)) = names.split_last() else {
             return Err(Fault::Refused);
         };
@@ -110,7 +113,7 @@ impl<'a> Resolver<'_, 'a> {
         scope: Scope<'a>,
         object: &Reference,
         names: &[Span],
-    ) -> Result<Found<'a>, Fault> {
+    ) -> Result<Found<'r, 'a>, Fault> {
         let mut named = self.behind_objects(scope, object);
         for name in names {
             let found = self.find_object(named)?;
@@ -145,7 +148,7 @@ impl<'a> Resolver<'_, 'a> {
         &self,
         scope: Scope<'a>,
         reference: &Reference,
-    ) -> Option<&'a ObjectDefinition<'a>> {
+    ) -> Option<&'r ObjectDefinition<'a>> {
         let objects = self.objects;
         let module = match reference.module {
             Some(module) => scope.octets(module),
@@ -155,7 +158,7 @@ impl<'a> Resolver<'_, 'a> {
     }
 
     // The object of a name.
-    fn find_object(&mut self, named: Named<'a>) -> Result<Found<'a>, Fault> {
+    fn find_object(&mut self, named: Named<'a>) -> Result<Found<'r, 'a>, Fault> {
         let Named { scope, reference } = named;
         let objects = self.objects;
         let Some(definition) = self.object_definition(scope, &reference) else {
@@ -202,7 +205,7 @@ impl<'a> Resolver<'_, 'a> {
     fn index_of_field(
         &mut self,
         scope: Scope<'a>,
-        found: Found<'a>,
+        found: Found<'r, 'a>,
         name: Span,
     ) -> Result<usize, Fault> {
         let text = scope.octets(name);
@@ -220,7 +223,7 @@ impl<'a> Resolver<'_, 'a> {
     fn object_of_field(
         &mut self,
         scope: Scope<'a>,
-        found: Found<'a>,
+        found: Found<'r, 'a>,
         name: Span,
     ) -> Result<Named<'a>, Fault> {
         let index = self.index_of_field(scope, found, name)?;
@@ -243,9 +246,9 @@ impl<'a> Resolver<'_, 'a> {
     fn value_of_field(
         &mut self,
         scope: Scope<'a>,
-        found: Found<'a>,
+        found: Found<'r, 'a>,
         name: Span,
-    ) -> Result<(Governed<'a>, Written<'a>), Fault> {
+    ) -> Result<(Governed<'r, 'a>, Written<'r, 'a>), Fault> {
         let index = self.index_of_field(scope, found, name)?;
         let Some(governed) = self.type_of_values(found.class, index) else {
             return Err(self.refuse_field_value(scope, name));
@@ -267,9 +270,9 @@ impl<'a> Resolver<'_, 'a> {
     fn held_by(
         &mut self,
         scope: Scope<'a>,
-        found: Found<'a>,
+        found: Found<'r, 'a>,
         name: Span,
-    ) -> Result<(Scope<'a>, &'a Held), Fault> {
+    ) -> Result<(Scope<'a>, &'r Held), Fault> {
         let index = self.index_of_field(scope, found, name)?;
         match found.object.setting(index) {
             Some(setting) => Ok((found.scope, &setting.held)),
@@ -314,7 +317,7 @@ pub(crate) fn span_of_field(object: &Reference, names: &[Span]) -> Span {
 }
 
 // The DEFAULT of a field of a class, with its module.
-fn default_held<'a>(class: &'a ObjectClass<'a>, field: usize) -> Option<(Scope<'a>, &'a Held)> {
+fn default_held<'r, 'a>(class: &'r ObjectClass<'a>, field: usize) -> Option<(Scope<'a>, &'r Held)> {
     let home = class.home?;
     let held = class.fields.get(field)?.default.as_ref()?;
     Some((scope_of(home), held))

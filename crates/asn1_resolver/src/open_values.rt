@@ -7,9 +7,9 @@ use asn1_notation::ValueKind;
 use asn1_resolved::Value;
 use std::alloc::Global;
 
-impl<'a> Resolver<'_, 'a> {
+impl<'r, 'a> Resolver<'r, 'a> {
     /// Refuses a value of a type whose values are kept as their contents octets.
-    pub(crate) fn refuse_contents(&mut self, word: &[u8], written: Written<'a>) -> Fault {
+    pub(crate) fn refuse_contents(&mut self, word: &[u8], written: Written<'r, 'a>) -> Fault {
         self.refuse(
             written.place(),
             &[b"a value of ", word, b" is not supported"],
@@ -20,7 +20,7 @@ impl<'a> Resolver<'_, 'a> {
     pub(crate) fn literal_of_word(
         &mut self,
         word: &[u8],
-        written: Written<'a>,
+        written: Written<'r, 'a>,
     ) -> Result<Value<'a>, Fault> {
         let scope = written.scope;
         match &written.value.kind {
@@ -50,7 +50,7 @@ impl<'a> Resolver<'_, 'a> {
     pub(crate) fn require_word(
         &mut self,
         word: &[u8],
-        written: Written<'a>,
+        written: Written<'r, 'a>,
         value: &Value<'a>,
     ) -> Result<(), Fault> {
         if suits_word(word, value) {
@@ -61,7 +61,7 @@ impl<'a> Resolver<'_, 'a> {
     }
 
     // The error that a value is not of the type of this word.
-    fn refuse_word(&mut self, word: &[u8], written: Written<'a>) -> Fault {
+    fn refuse_word(&mut self, word: &[u8], written: Written<'r, 'a>) -> Fault {
         self.refuse(
             written.place(),
             &[b"a value of ", whole_word(word), b" is expected here"],

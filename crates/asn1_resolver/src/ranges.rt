@@ -6,13 +6,13 @@ use crate::resolver::Resolver;
 use asn1_notation::{Constraint, ConstraintKind, EndPoint, EndValue, NumberName, ValueKind};
 use asn1_resolved::{Range, Value};
 
-impl<'a> Resolver<'_, 'a> {
+impl<'r, 'a> Resolver<'r, 'a> {
     /// The range that a constraint on whole numbers is, if it is one. The base is the type of the numbers; sizes have none.
     pub(crate) fn range(
         &mut self,
-        base: Option<Governed<'a>>,
+        base: Option<Governed<'r, 'a>>,
         scope: Scope<'a>,
-        constraint: &'a Constraint,
+        constraint: &'r Constraint,
     ) -> Result<Option<Range>, Fault> {
         match &constraint.kind {
             ConstraintKind::Value(value) if self.is_open_field(scope, value) => Ok(None),
@@ -63,7 +63,7 @@ impl<'a> Resolver<'_, 'a> {
     }
 
     // Whether an end of a range is a field that only an argument tells.
-    fn is_open_end(&self, scope: Scope<'a>, end: &'a EndPoint) -> bool {
+    fn is_open_end(&self, scope: Scope<'a>, end: &EndPoint) -> bool {
         match &end.value {
             EndValue::Value(value) => self.is_open_field(scope, value),
             _ => false,
@@ -73,9 +73,9 @@ impl<'a> Resolver<'_, 'a> {
     // The number at an end of a range. One that is left out is a step away from the end.
     fn end_point(
         &mut self,
-        base: Option<Governed<'a>>,
+        base: Option<Governed<'r, 'a>>,
         scope: Scope<'a>,
-        end: &'a EndPoint,
+        end: &'r EndPoint,
         step: i128,
     ) -> Result<Option<i128>, Fault> {
         match &end.value {
@@ -92,7 +92,11 @@ impl<'a> Resolver<'_, 'a> {
     }
 
     // The whole number that a value is.
-    fn bound(&mut self, base: Option<Governed<'a>>, written: Written<'a>) -> Result<i128, Fault> {
+    fn bound(
+        &mut self,
+        base: Option<Governed<'r, 'a>>,
+        written: Written<'r, 'a>,
+    ) -> Result<i128, Fault> {
         match base {
             Some(base) => match self.value(base, written)? {
                 Value::Integer(number) => Ok(number),
@@ -116,7 +120,7 @@ impl<'a> Resolver<'_, 'a> {
     }
 
     // Refuses a value that is no whole number.
-    fn refuse_bound(&mut self, written: Written<'a>) -> Fault {
+    fn refuse_bound(&mut self, written: Written<'r, 'a>) -> Fault {
         self.refuse(written.place(), &[b"a value of INTEGER is expected here"])
     }
 }

@@ -14,7 +14,7 @@ use asn1_notation::{Reference, TypeKind};
 use asn1_resolved::Severity;
 use std::alloc::AllocError;
 
-impl<'a> Resolver<'_, 'a> {
+impl<'r, 'a> Resolver<'r, 'a> {
     /// The index of the type of this name.
     pub(crate) fn find_type(
         &mut self,
@@ -56,7 +56,7 @@ impl<'a> Resolver<'_, 'a> {
         &mut self,
         scope: Scope<'a>,
         reference: &Reference,
-    ) -> Result<Governed<'a>, Fault> {
+    ) -> Result<Governed<'r, 'a>, Fault> {
         let index = self.find_type(scope, reference)?;
         self.type_at(scope, reference, index)
     }
@@ -67,7 +67,7 @@ impl<'a> Resolver<'_, 'a> {
         scope: Scope<'a>,
         reference: &Reference,
         index: usize,
-    ) -> Result<Governed<'a>, Fault> {
+    ) -> Result<Governed<'r, 'a>, Fault> {
         match self.definitions.types.get(index) {
             Some(defined) => Ok(defined.governed()),
             None => Err(self.refuse_undefined(scope, reference)),
@@ -79,7 +79,7 @@ impl<'a> Resolver<'_, 'a> {
         &mut self,
         scope: Scope<'a>,
         reference: &Reference,
-    ) -> Result<(Governed<'a>, Written<'a>), Fault> {
+    ) -> Result<(Governed<'r, 'a>, Written<'r, 'a>), Fault> {
         if let Some(governor) = self.governor_of(scope, reference) {
             return match self.argument_value(scope, reference) {
                 Some(written) => Ok((governor, written)),
@@ -110,7 +110,7 @@ impl<'a> Resolver<'_, 'a> {
     }
 
     // The type of a parameter that is a value.
-    fn governor_of(&self, scope: Scope<'a>, reference: &Reference) -> Option<Governed<'a>> {
+    fn governor_of(&self, scope: Scope<'a>, reference: &Reference) -> Option<Governed<'r, 'a>> {
         let bound = self.instances.argument(scope, reference)?;
         match &bound.parameter.governor {
             Some(definition) => Some(Governed { scope, definition }),
@@ -134,7 +134,7 @@ impl<'a> Resolver<'_, 'a> {
         scope: Scope<'a>,
         reference: &Reference,
         index: usize,
-    ) -> Result<(Governed<'a>, Written<'a>), Fault> {
+    ) -> Result<(Governed<'r, 'a>, Written<'r, 'a>), Fault> {
         let defined = self.definitions.values.get(index);
         let value = self.definitions.contents.get(index);
         match (defined, value) {
@@ -150,10 +150,10 @@ impl<'a> Resolver<'_, 'a> {
     /// The value of this name, which may be an item of a type.
     pub(crate) fn find_value_of(
         &mut self,
-        base: Governed<'a>,
+        base: Governed<'r, 'a>,
         scope: Scope<'a>,
         reference: &Reference,
-    ) -> Result<(Governed<'a>, Written<'a>), Fault> {
+    ) -> Result<(Governed<'r, 'a>, Written<'r, 'a>), Fault> {
         if self.governor_of(scope, reference).is_some() {
             return self.find_value(scope, reference);
         }

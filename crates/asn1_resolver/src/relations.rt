@@ -8,21 +8,21 @@ use asn1_resolved::Severity;
 
 /// The items of a SEQUENCE or a SET that is resolved.
 #[derive(Clone, Copy)]
-pub(crate) struct Enclosing<'a> {
+pub(crate) struct Enclosing<'r, 'a> {
     /// The module.
     pub(crate) scope: Scope<'a>,
     /// The items.
-    pub(crate) items: &'a [ComponentItem],
+    pub(crate) items: &'r [ComponentItem],
     /// The construct that they are of.
     pub(crate) construct: Construct,
 }
 
-impl<'a> Resolver<'_, 'a> {
+impl<'r, 'a> Resolver<'r, 'a> {
     /// The field of the component that a relation names, if it names one. A warning tells a relation that leads to none.
     pub(crate) fn key_of_relation(
         &mut self,
         scope: Scope<'a>,
-        paths: &'a [AtPath],
+        paths: &[AtPath],
     ) -> Result<Option<&'a [u8]>, Fault> {
         match paths {
             [] => Ok(None),
@@ -41,11 +41,7 @@ impl<'a> Resolver<'_, 'a> {
     }
 
     // The field of the component to which a path leads.
-    fn key_of_path(
-        &mut self,
-        scope: Scope<'a>,
-        path: &'a AtPath,
-    ) -> Result<Option<&'a [u8]>, Fault> {
+    fn key_of_path(&mut self, scope: Scope<'a>, path: &AtPath) -> Result<Option<&'a [u8]>, Fault> {
         let outermost = if path.dots == 0 {
             Some(0)
         } else {
@@ -79,9 +75,9 @@ impl<'a> Resolver<'_, 'a> {
     // The component of this name, if there is one.
     fn component_in(
         &mut self,
-        enclosing: Option<Enclosing<'a>>,
+        enclosing: Option<Enclosing<'r, 'a>>,
         name: &[u8],
-    ) -> Result<Option<Governed<'a>>, Fault> {
+    ) -> Result<Option<Governed<'r, 'a>>, Fault> {
         let Some(outer) = enclosing else {
             return Ok(None);
         };
@@ -93,7 +89,10 @@ impl<'a> Resolver<'_, 'a> {
     }
 
     // The items of the type of a component.
-    fn items_inside(&mut self, component: Governed<'a>) -> Result<Option<Enclosing<'a>>, Fault> {
+    fn items_inside(
+        &mut self,
+        component: Governed<'r, 'a>,
+    ) -> Result<Option<Enclosing<'r, 'a>>, Fault> {
         let base = self.base(component)?;
         let scope = base.scope;
         Ok(match &base.definition.kind {
@@ -116,7 +115,7 @@ impl<'a> Resolver<'_, 'a> {
         &mut self,
         scope: Scope<'a>,
         name: Span,
-        component: Governed<'a>,
+        component: Governed<'r, 'a>,
     ) -> Result<Option<&'a [u8]>, Fault> {
         match &component.definition.kind {
             TypeKind::Field(_, names) => match names.as_slice() {

@@ -52,7 +52,7 @@ impl Resolution<'_> {
 pub fn resolve<'a>(
     alloc: Global,
     sources: &[Source<'a>],
-    objects: &'a Objects<'a>,
+    objects: &Objects<'a>,
 ) -> Result<Resolution<'a>, AllocError>
     // No module of an accepted schema has a name twice.
     ensures distinct { IfOk result (λ resolution.
@@ -99,8 +99,8 @@ pub fn resolve<'a>(
 
 // The types and the values. Those that complete a template are known once all others are resolved, and so are the tables, which
 // are added.
-fn resolve_schema<'a>(
-    resolver: &mut Resolver<'_, 'a>,
+fn resolve_schema<'r, 'a>(
+    resolver: &mut Resolver<'r, 'a>,
     definitions: &Definitions<'a>,
     tables: &mut Vec<Table<'a>>,
 ) -> Result<Schema<'a>, AllocError>
@@ -133,8 +133,8 @@ fn join_schema<'a>(
 }
 
 // The types that modules define.
-fn resolve_types<'a>(
-    resolver: &mut Resolver<'_, 'a>,
+fn resolve_types<'r, 'a>(
+    resolver: &mut Resolver<'r, 'a>,
     definitions: &Definitions<'a>,
 ) -> Result<Vec<TypeDefinition<'a>>, AllocError>
     ensures { IfOk result (λ types. map (λ type. type.place) types.items ≡
@@ -149,8 +149,8 @@ fn resolve_types<'a>(
 }
 
 // The values.
-fn resolve_values<'a>(
-    resolver: &mut Resolver<'_, 'a>,
+fn resolve_values<'r, 'a>(
+    resolver: &mut Resolver<'r, 'a>,
     definitions: &Definitions<'a>,
 ) -> Result<Vec<ValueDefinition<'a>>, AllocError> {
     let mut values = Vec::new(resolver.alloc);
@@ -161,7 +161,7 @@ fn resolve_values<'a>(
     Ok(values)
 }
 
-impl<'a> Resolver<'_, 'a> {
+impl<'r, 'a> Resolver<'r, 'a> {
     // Reports what is wrong with names, and each missing module once.
     fn report_names(&mut self) -> Result<(), AllocError> {
         let found = check_names(self.alloc, self.names)?;
@@ -206,7 +206,7 @@ impl<'a> Resolver<'_, 'a> {
     fn type_definition(
         &mut self,
         defined: Defined<'a>,
-        body: Option<Governed<'a>>,
+        body: Option<Governed<'r, 'a>>,
     ) -> Result<TypeDefinition<'a>, AllocError>
         ensures { IfOk result (λ type. type.place ≡ defined.entry.place) }
     {
@@ -227,13 +227,13 @@ impl<'a> Resolver<'_, 'a> {
     }
 
     /// A type whose definition does not lead to itself.
-    pub(crate) fn checked_type(&mut self, governed: Governed<'a>) -> Result<Type<'a>, Fault> {
+    pub(crate) fn checked_type(&mut self, governed: Governed<'r, 'a>) -> Result<Type<'a>, Fault> {
         self.base(governed)?;
         self.resolve_type(governed, MAX_DEPTH)
     }
 
     // The type of the template that the definition of this index completes.
-    fn body_of(&self, index: usize) -> Option<Governed<'a>> {
+    fn body_of(&self, index: usize) -> Option<Governed<'r, 'a>> {
         let instance = self.instances.of_definition(index)?;
         self.instances.body(instance)
     }
@@ -296,7 +296,7 @@ impl<'a> Resolver<'_, 'a> {
         &mut self,
         types: &mut Vec<TypeDefinition<'a>>,
         index: usize,
-        instance: Instance<'a>,
+        instance: Instance<'r, 'a>,
     ) -> Result<(), AllocError> {
         if instance.home.is_none() {
             let body = self.instances.body(index);
@@ -339,7 +339,7 @@ impl<'a> Resolver<'_, 'a> {
     fn value_definition(
         &mut self,
         defined: Defined<'a>,
-        value: &'a asn1_notation::Value,
+        value: &'r asn1_notation::Value,
     ) -> Result<ValueDefinition<'a>, AllocError> {
         let TypeDefinition {
             module,

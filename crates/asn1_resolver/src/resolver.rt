@@ -29,19 +29,19 @@ pub(crate) struct Resolver<'r, 'a> {
     /// The finder of types that arguments complete.
     pub(crate) template_finder: Finder<'a>,
     /// The types that arguments complete, as far as they were met.
-    pub(crate) instances: Instances<'a>,
+    pub(crate) instances: Instances<'r, 'a>,
     /// The objects and object sets.
-    pub(crate) objects: &'a Objects<'a>,
+    pub(crate) objects: &'r Objects<'a>,
     /// The object sets that types name, as they were met.
     pub(crate) used_sets: Vec<UsedSet<'a>>,
     /// Those of which it is known that they are used, with their modules and the fields that tell their rows.
     pub(crate) known_sets: HashSet<(&'a [u8], &'a [u8], &'a [u8])>,
     /// The SEQUENCEs and SETs that are resolved, the innermost last.
-    pub(crate) enclosing: Vec<Enclosing<'a>>,
+    pub(crate) enclosing: Vec<Enclosing<'r, 'a>>,
     /// Whether errors are warnings: no type needs the object that is read.
     pub(crate) is_lenient: bool,
     /// The type behind the references and tags of each definition of a type, as far as they were followed.
-    pub(crate) bases: Vec<Base<'a>>,
+    pub(crate) bases: Vec<Base<'r, 'a>>,
     /// The messages about names.
     pub(crate) messages: NameMessages<'r, 'a>,
     /// How many values were read inside the present one.
@@ -59,7 +59,7 @@ impl<'r, 'a> Resolver<'r, 'a> {
         alloc: Global,
         definitions: &'r Definitions<'a>,
         names: &'r Names<'a>,
-        objects: &'a Objects<'a>,
+        objects: &'r Objects<'a>,
     ) -> Result<Resolver<'r, 'a>, AllocError> {
         let mut bases = Vec::new(alloc);
         for _ in &definitions.types {

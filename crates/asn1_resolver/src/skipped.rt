@@ -1,4 +1,4 @@
-//! Definitions that are not read: objects, object sets and macros.
+//! Object sets that types name, and definitions that are not read.
 use crate::fault::Fault;
 use crate::governed::Scope;
 use crate::resolver::Resolver;
@@ -9,7 +9,7 @@ use asn1_resolved::Severity;
 use std::alloc::AllocError;
 use std::collections::HashSet;
 
-impl<'a> Resolver<'_, 'a> {
+impl<'r, 'a> Resolver<'r, 'a> {
     /// Keeps that a type names an object set, from brace to brace, and the field of its class that tells the row, if a component is
     /// named. The name of a parameter is no such set.
     pub(crate) fn keep_set(
@@ -23,10 +23,11 @@ impl<'a> Resolver<'_, 'a> {
             .definitions
             .classes
             .is_skipped(scope.name, qualifier, name);
+        let module = qualifier.unwrap_or(scope.name);
         let field = key.unwrap_or(b"");
-        if is_set && self.known_sets.insert((scope.name, name, field))? {
+        if is_set && self.known_sets.insert((module, name, field))? {
             self.used_sets.push(UsedSet {
-                module: qualifier.unwrap_or(scope.name),
+                module,
                 name,
                 place: scope.place(set),
                 key,

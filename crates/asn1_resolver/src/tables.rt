@@ -35,25 +35,27 @@ pub(crate) struct UsedSet<'a> {
 
 // An object with its name and the module that it is in.
 #[derive(Clone, Copy)]
-struct ListedObject<'a> {
+struct ListedObject<'r, 'a> {
     home: Home<'a>,
     name: Option<&'a [u8]>,
-    object: &'a ReadObject,
+    object: &'r ReadObject,
 }
 
 // An element of a set in the module of the set.
 #[derive(Clone, Copy)]
-struct Element<'a> {
+struct Element<'r, 'a> {
     home: Home<'a>,
-    element: &'a ReadElement,
+    element: &'r ReadElement,
 }
 
 // The objects of a set, as far as they were met.
 #[derive(Drop)]
-struct Collected<'a> {
-    objects: Vec<ListedObject<'a>>,
+struct Collected<'r, 'a> {
+    // The index of the class.
+    class: usize,
+    objects: Vec<ListedObject<'r, 'a>>,
     // The elements that are still to be met, the next one last.
-    pending: Vec<Element<'a>>,
+    pending: Vec<Element<'r, 'a>>,
     // The texts and the offsets of the objects and the sets that are in it.
     known: HashSet<(usize, usize)>,
     // Why the set has no table.
@@ -62,20 +64,20 @@ struct Collected<'a> {
 
 // The class of the rows of a table, with its key.
 #[derive(Clone, Copy)]
-struct Columns<'a> {
-    class: &'a ObjectClass<'a>,
+struct Columns<'r, 'a> {
+    class: &'r ObjectClass<'a>,
     // The index of the key, its name and its type.
     key: usize,
     key_name: &'a [u8],
-    key_type: Governed<'a>,
+    key_type: Governed<'r, 'a>,
     // Whether no two objects of a set have the same key.
     is_unique: bool,
     // The CHOICE that keys are of, if they are, and the one alternative of it whose rows are wanted.
-    choice: Option<Governed<'a>>,
-    alternative: Option<Listed<'a>>,
+    choice: Option<Governed<'r, 'a>>,
+    alternative: Option<Listed<'r, 'a>>,
 }
 
-impl<'a> Resolver<'_, 'a> {
+impl<'r, 'a> Resolver<'r, 'a> {
     /// Adds the tables of an object set, unless they are known, by the text and the offset of its name and the index of its key; or warns
     /// that it has none.
     pub(crate) fn add_tables(
@@ -146,10 +148,11 @@ impl<'a> Resolver<'_, 'a> {
     // The objects of a set, in the order of the text, those of a set inside in its place.
     fn collect(
         &mut self,
-        definition: &'a ObjectDefinition<'a>,
-        set: &'a ReadSet,
-    ) -> Result<Collected<'a>, AllocError> {
+        definition: &'r ObjectDefinition<'a>,
+        set: &'r ReadSet,
+    ) -> Result<Collected<'r, 'a>, AllocError> {
         let mut collected = Collected {
+            class: set.class,
             objects: Vec::new(self.alloc),
             pending: Vec::new(self.alloc),
             known: HashSet::new(self.alloc),
@@ -172,8 +175,8 @@ impl<'a> Resolver<'_, 'a> {
     // Adds the object that an element is, or the elements of the set that it names.
     fn collect_element(
         &mut self,
-        collected: &mut Collected<'a>,
-        next: Element<'a>,
+        collected: &mut Collected<'r, 'a>,
+        next: Element<'r, 'a>,
     ) -> Result<(), AllocError> {
         let home = next.home;
         match next.element {
@@ -189,29 +192,48 @@ impl<'a> Resolver<'_, 'a> {
     // Adds the object of a name, or the elements of the set of a name, unless they are there.
     fn collect_named(
         &mut self,
-        collected: &mut Collected<'a>,
+        collected: &mut Collected<'r, 'a>,
         home: Home<'a>,
         reference: &Reference,
     ) -> Result<(), AllocError> {
         let objects = self.objects;
+        let element = home;
         let Some(definition) = objects.find_reference(home, reference) else {
             return self.warn_of_element(home, reference);
         };
         let home = definition.home;
         match &definition.contents {
-            ReadDefinition::Object(object) => {
+            ReadDefinition::Object(object) if object.class == collected.class => {
                 let name = Some(definition.name.octets(home.text));
                 add_object(collected, ListedObject { home, name, object })
             }
-            ReadDefinition::Set(set) => {
+            ReadDefinition::Set(set) if set.class == collected.class => {
                 let place = (home.source, definition.name.start);
                 if collected.known.insert(place)? {
                     collect_set(collected, home, set)?;
                 }
                 Ok(())
             }
+            ReadDefinition::Object(_) | ReadDefinition::Set(_) => {
+                self.warn_of_class(element, reference)
+            }
             ReadDefinition::Unread => Ok(()),
         }
+    }
+
+    // Warns of an element of another class than that of the set.
+    fn warn_of_class(&mut self, home: Home<'a>, reference: &Reference) -> Result<(), AllocError> {
+        let scope = scope_of(home);
+        let name = scope.octets(reference.name);
+        self.report(
+            scope.place(reference.name),
+            Severity::Warning,
+            &[
+                b"'",
+                name,
+                b"' is of another class than the object set that it is in",
+            ],
+        )
     }
 
     // Warns of an element that no definition is, or one that is not read.
@@ -243,9 +265,9 @@ impl<'a> Resolver<'_, 'a> {
     // The key of a class: the field of this name, or else the one that is UNIQUE; or why there is none.
     fn columns_of(
         &mut self,
-        class: &'a ObjectClass<'a>,
+        class: &'r ObjectClass<'a>,
         wanted: Option<&[u8]>,
-    ) -> Result<Columns<'a>, &'static [u8]> {
+    ) -> Result<Columns<'r, 'a>, &'static [u8]> {
         let position = match wanted {
             Some(name) => class.fields.iter().position(|field| field.name == name),
             None => class.fields.iter().position(|field| field.is_unique),
@@ -284,7 +306,10 @@ impl<'a> Resolver<'_, 'a> {
     }
 
     // The alternatives that keys may be of.
-    fn key_alternatives(&mut self, columns: Columns<'a>) -> Result<Vec<Listed<'a>>, AllocError> {
+    fn key_alternatives(
+        &mut self,
+        columns: Columns<'r, 'a>,
+    ) -> Result<Vec<Listed<'r, 'a>>, AllocError> {
         let mut found = Vec::new(self.alloc);
         let Some(choice) = columns.choice else {
             return Ok(found);
@@ -312,7 +337,7 @@ impl<'a> Resolver<'_, 'a> {
         &self,
         class: &ObjectClass<'a>,
         field: usize,
-    ) -> Option<Governed<'a>> {
+    ) -> Option<Governed<'r, 'a>> {
         match (class.fields.get(field)?.contents, class.home) {
             (FieldContents::Value(definition), Some(home)) => Some(Governed {
                 scope: scope_of(home),
@@ -333,9 +358,9 @@ impl<'a> Resolver<'_, 'a> {
     fn add_columns(
         &mut self,
         tables: &mut Vec<Table<'a>>,
-        definition: &'a ObjectDefinition<'a>,
-        columns: Columns<'a>,
-        collected: &Collected<'a>,
+        definition: &'r ObjectDefinition<'a>,
+        columns: Columns<'r, 'a>,
+        collected: &Collected<'r, 'a>,
     ) -> Result<(), AllocError> {
         let mut key_columns = Vec::new(self.alloc);
         if columns.choice.is_none() {
@@ -359,7 +384,7 @@ impl<'a> Resolver<'_, 'a> {
     }
 
     // The type of keys.
-    fn checked_key(&mut self, columns: Columns<'a>) -> Result<Governed<'a>, Fault> {
+    fn checked_key(&mut self, columns: Columns<'r, 'a>) -> Result<Governed<'r, 'a>, Fault> {
         match columns.alternative {
             Some(listed) => self.base(listed.governed()),
             None => Ok(columns.key_type),
@@ -370,10 +395,10 @@ impl<'a> Resolver<'_, 'a> {
     fn add_key_columns(
         &mut self,
         tables: &mut Vec<Table<'a>>,
-        definition: &'a ObjectDefinition<'a>,
-        columns: Columns<'a>,
-        key_type: Governed<'a>,
-        collected: &Collected<'a>,
+        definition: &'r ObjectDefinition<'a>,
+        columns: Columns<'r, 'a>,
+        key_type: Governed<'r, 'a>,
+        collected: &Collected<'r, 'a>,
     ) -> Result<(), AllocError> {
         let is_type = |contents| matches!(contents, FieldContents::Type);
         let fields = columns.class.fields.as_slice();
@@ -418,9 +443,9 @@ impl<'a> Resolver<'_, 'a> {
     // The rows of a column. There is none if two objects have one key though it is not UNIQUE, since it tells neither.
     fn rows(
         &mut self,
-        columns: Columns<'a>,
+        columns: Columns<'r, 'a>,
         column: usize,
-        collected: &Collected<'a>,
+        collected: &Collected<'r, 'a>,
     ) -> Result<Vec<Row<'a>>, AllocError> {
         let mut rows = Vec::new(self.alloc);
         for listed in &collected.objects {
@@ -442,7 +467,7 @@ impl<'a> Resolver<'_, 'a> {
     fn add_row(
         &mut self,
         rows: &mut Vec<Row<'a>>,
-        columns: Columns<'a>,
+        columns: Columns<'r, 'a>,
         row: Row<'a>,
     ) -> Result<bool, AllocError> {
         let Some(other) = rows.iter().find(|other| is_same_key(&other.key, &row.key)) else {
@@ -469,9 +494,9 @@ impl<'a> Resolver<'_, 'a> {
     // The row of an object, if it has a key and a type.
     fn row(
         &mut self,
-        columns: Columns<'a>,
+        columns: Columns<'r, 'a>,
         column: usize,
-        listed: ListedObject<'a>,
+        listed: ListedObject<'r, 'a>,
     ) -> Result<Option<Row<'a>>, Fault> {
         let Some(cell) = self.cell(columns.class, column, listed)? else {
             return Ok(None);
@@ -501,8 +526,8 @@ impl<'a> Resolver<'_, 'a> {
     // The key that a value is: the value of one alternative, if one is wanted and it is of that.
     fn key_value(
         &mut self,
-        columns: Columns<'a>,
-        written: Written<'a>,
+        columns: Columns<'r, 'a>,
+        written: Written<'r, 'a>,
     ) -> Result<Option<Value<'a>>, Fault> {
         let value = self.value(columns.key_type, written)?;
         let Some(alternative) = columns.alternative else {
@@ -525,9 +550,9 @@ impl<'a> Resolver<'_, 'a> {
     // The type that an object has in a column, or that of its class in place of it.
     fn cell(
         &mut self,
-        class: &'a ObjectClass<'a>,
+        class: &'r ObjectClass<'a>,
         column: usize,
-        listed: ListedObject<'a>,
+        listed: ListedObject<'r, 'a>,
     ) -> Result<Option<Type<'a>>, Fault> {
         let (scope, definition) = match listed.object.setting(column) {
             Some(
@@ -548,10 +573,10 @@ impl<'a> Resolver<'_, 'a> {
 }
 
 // The DEFAULT of a field that holds types.
-fn default_of<'a>(
-    class: &'a ObjectClass<'a>,
+fn default_of<'r, 'a>(
+    class: &'r ObjectClass<'a>,
     column: usize,
-) -> Option<(Scope<'a>, &'a asn1_notation::Type)> {
+) -> Option<(Scope<'a>, &'r asn1_notation::Type)> {
     let home = class.home?;
     match &class.fields.get(column)?.default {
         Some(Held::Type(definition)) => Some((scope_of(home), definition)),
@@ -572,10 +597,10 @@ fn name_of<'a>(scope: Scope<'a>, value: &asn1_notation::Value) -> Option<&'a [u8
 }
 
 // Puts the elements of a set before those that are still to be met.
-fn collect_set<'a>(
-    collected: &mut Collected<'a>,
+fn collect_set<'r, 'a>(
+    collected: &mut Collected<'r, 'a>,
     home: Home<'a>,
-    set: &'a ReadSet,
+    set: &'r ReadSet,
 ) -> Result<(), AllocError> {
     if let Some((_, operation)) = set.unread {
         collected.cause = Some(cause_of(operation));
@@ -587,9 +612,9 @@ fn collect_set<'a>(
 }
 
 // Adds an object, unless it is there.
-fn add_object<'a>(
-    collected: &mut Collected<'a>,
-    listed: ListedObject<'a>,
+fn add_object<'r, 'a>(
+    collected: &mut Collected<'r, 'a>,
+    listed: ListedObject<'r, 'a>,
 ) -> Result<(), AllocError> {
     let place = (listed.home.source, listed.object.braces.start);
     if collected.known.insert(place)? {

@@ -5,12 +5,12 @@ use crate::resolver::Resolver;
 use asn1_notation::{TagClass, TagDefault, TagMode};
 use asn1_resolved::{Severity, Tag};
 
-impl<'a> Resolver<'_, 'a> {
+impl<'r, 'a> Resolver<'r, 'a> {
     /// A tag that is written before a type (X.680, 31.2.7).
     pub(crate) fn tag(
         &mut self,
         tag: &asn1_notation::Tag,
-        inner: Governed<'a>,
+        inner: Governed<'r, 'a>,
     ) -> Result<Tag, Fault> {
         let number = self.tag_number(tag, inner)?;
         if tag.class == TagClass::Universal && number == 0 {
@@ -45,7 +45,7 @@ impl<'a> Resolver<'_, 'a> {
     }
 
     // Whether a tag is EXPLICIT since a parameter is behind it (X.680, 31.2.7 c), whatever its argument is.
-    fn is_explicit_before(&mut self, inner: Governed<'a>) -> Result<bool, Fault> {
+    fn is_explicit_before(&mut self, inner: Governed<'r, 'a>) -> Result<bool, Fault> {
         let is_parameter = self.is_parameter(inner);
         if is_parameter {
             self.report(
@@ -60,7 +60,11 @@ impl<'a> Resolver<'_, 'a> {
     }
 
     // The number of a tag.
-    fn tag_number(&mut self, tag: &asn1_notation::Tag, inner: Governed<'a>) -> Result<u32, Fault> {
+    fn tag_number(
+        &mut self,
+        tag: &asn1_notation::Tag,
+        inner: Governed<'r, 'a>,
+    ) -> Result<u32, Fault> {
         let number = self.number_name(inner.scope, tag.number)?;
         match u32::try_from(number) {
             Ok(number) => Ok(number),
@@ -72,7 +76,11 @@ impl<'a> Resolver<'_, 'a> {
     }
 
     /// The tag that is put on a component or an alternative (X.680, 25.9 and 29.4).
-    pub(crate) fn automatic_tag(&mut self, number: u32, inner: Governed<'a>) -> Result<Tag, Fault> {
+    pub(crate) fn automatic_tag(
+        &mut self,
+        number: u32,
+        inner: Governed<'r, 'a>,
+    ) -> Result<Tag, Fault> {
         let has_no_tag = self.has_no_tag(inner)?;
         let is_explicit = has_no_tag || self.is_explicit_before(inner)?;
         Ok(Tag {

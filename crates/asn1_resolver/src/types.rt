@@ -12,12 +12,12 @@ use asn1_resolved::{
 };
 use std::alloc::{AllocError, Global};
 
-impl<'a> Resolver<'_, 'a> {
+impl<'r, 'a> Resolver<'r, 'a> {
     /// The type, with others inside it to this depth at most.
     #[cycle(types)]
     pub(crate) fn resolve_type(
         &mut self,
-        governed: Governed<'a>,
+        governed: Governed<'r, 'a>,
         depth: usize,
     ) -> Result<Type<'a>, Fault> {
         let Some(depth) = depth.checked_sub(1) else {
@@ -46,7 +46,7 @@ impl<'a> Resolver<'_, 'a> {
     #[cycle(types)]
     fn resolve_kind(
         &mut self,
-        governed: Governed<'a>,
+        governed: Governed<'r, 'a>,
         depth: usize,
     ) -> Result<TypeKind<'a>, Fault> {
         let scope = governed.scope;
@@ -102,7 +102,7 @@ impl<'a> Resolver<'_, 'a> {
         &mut self,
         scope: Scope<'a>,
         name: Span,
-        definition: &'a asn1_notation::Type,
+        definition: &'r asn1_notation::Type,
         depth: usize,
     ) -> Result<TypeKind<'a>, Fault> {
         let choice = self.base(Governed { scope, definition })?;
@@ -116,7 +116,7 @@ impl<'a> Resolver<'_, 'a> {
     fn resolve_boxed(
         &mut self,
         scope: Scope<'a>,
-        definition: &'a asn1_notation::Type,
+        definition: &'r asn1_notation::Type,
         depth: usize,
     ) -> Result<Box<Type<'a>>, Fault> {
         let inner = self.resolve_type(Governed { scope, definition }, depth)?;
@@ -129,7 +129,7 @@ impl<'a> Resolver<'_, 'a> {
     fn resolve_components(
         &mut self,
         scope: Scope<'a>,
-        items: &'a [ComponentItem],
+        items: &'r [ComponentItem],
         construct: Construct,
         depth: usize,
     ) -> Result<Components<'a>, Fault> {
@@ -157,7 +157,7 @@ impl<'a> Resolver<'_, 'a> {
     #[cycle(types)]
     fn resolve_listed(
         &mut self,
-        list: &ComponentList<'a>,
+        list: &ComponentList<'r, 'a>,
         extent: Extent,
         depth: usize,
     ) -> Result<Vec<Component<'a>>, Fault> {
@@ -187,7 +187,7 @@ impl<'a> Resolver<'_, 'a> {
     #[cycle(types)]
     fn resolve_component_type(
         &mut self,
-        listed: Listed<'a>,
+        listed: Listed<'r, 'a>,
         depth: usize,
     ) -> Result<Type<'a>, Fault> {
         let inner = self.resolve_type(listed.governed(), depth)?;
@@ -211,7 +211,7 @@ impl<'a> Resolver<'_, 'a> {
     fn resolve_alternatives(
         &mut self,
         scope: Scope<'a>,
-        items: &'a [ComponentItem],
+        items: &'r [ComponentItem],
         depth: usize,
     ) -> Result<Alternatives<'a>, Fault> {
         let list = self.list_components(scope, items, Construct::Choice)?;
@@ -228,7 +228,7 @@ impl<'a> Resolver<'_, 'a> {
     fn plain_kind(
         &mut self,
         scope: Scope<'a>,
-        kind: &'a asn1_notation::TypeKind,
+        kind: &'r asn1_notation::TypeKind,
     ) -> Result<TypeKind<'a>, Fault> {
         match kind {
             asn1_notation::TypeKind::Boolean => Ok(TypeKind::Boolean),
@@ -269,7 +269,7 @@ impl<'a> Resolver<'_, 'a> {
     }
 
     // Whether a component may be absent. One whose DEFAULT is in error is OPTIONAL.
-    fn usage(&mut self, listed: Listed<'a>) -> Result<Usage<'a>, Fault> {
+    fn usage(&mut self, listed: Listed<'r, 'a>) -> Result<Usage<'a>, Fault> {
         match &listed.component.usage {
             asn1_notation::Usage::Required => Ok(Usage::Required),
             asn1_notation::Usage::Optional => Ok(Usage::Optional),

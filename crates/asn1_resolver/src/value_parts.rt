@@ -13,13 +13,13 @@ use asn1_resolved::{ComponentValue, Value};
 // The greatest number of a bit that a value may name.
 const MAX_BIT: usize = 65535;
 
-impl<'a> Resolver<'_, 'a> {
+impl<'r, 'a> Resolver<'r, 'a> {
     /// The one value of an item of a list.
     pub(crate) fn single_value(
         &mut self,
         scope: Scope<'a>,
-        item: &'a ListItem,
-    ) -> Result<Written<'a>, Fault> {
+        item: &'r ListItem,
+    ) -> Result<Written<'r, 'a>, Fault> {
         match item.values.as_slice() {
             [value] => Ok(Written { scope, value }),
             [_, second, ..] => Err(self.refuse(
@@ -33,10 +33,10 @@ impl<'a> Resolver<'_, 'a> {
     /// The component that an item of a list names, and its value.
     pub(crate) fn named_component(
         &mut self,
-        list: &ComponentList<'a>,
+        list: &ComponentList<'r, 'a>,
         scope: Scope<'a>,
-        item: &'a ListItem,
-    ) -> Result<(Listed<'a>, &'a asn1_notation::Value), Fault> {
+        item: &'r ListItem,
+    ) -> Result<(Listed<'r, 'a>, &'r asn1_notation::Value), Fault> {
         match item.values.as_slice() {
             [name, value] => match &name.kind {
                 ValueKind::Reference(reference) => {
@@ -76,10 +76,10 @@ impl<'a> Resolver<'_, 'a> {
     // The component of this name.
     fn require_component(
         &mut self,
-        list: &ComponentList<'a>,
+        list: &ComponentList<'r, 'a>,
         scope: Scope<'a>,
         name: Span,
-    ) -> Result<Listed<'a>, Fault> {
+    ) -> Result<Listed<'r, 'a>, Fault> {
         match list.find(scope.octets(name)) {
             Some(listed) => Ok(listed),
             None => Err(self.refuse(
@@ -92,9 +92,9 @@ impl<'a> Resolver<'_, 'a> {
     /// Refuses a value without a component that must be there.
     pub(crate) fn require_all(
         &mut self,
-        list: &ComponentList<'a>,
-        written: Written<'a>,
-        values: &'a [ListItem],
+        list: &ComponentList<'r, 'a>,
+        written: Written<'r, 'a>,
+        values: &'r [ListItem],
     ) -> Result<(), Fault> {
         for listed in &list.listed {
             if is_required(*listed) && !is_named(written.scope, values, listed.name()) {
@@ -110,10 +110,10 @@ impl<'a> Resolver<'_, 'a> {
     /// The alternative of this name.
     pub(crate) fn find_alternative(
         &mut self,
-        base: Governed<'a>,
+        base: Governed<'r, 'a>,
         scope: Scope<'a>,
         name: Span,
-    ) -> Result<Listed<'a>, Fault> {
+    ) -> Result<Listed<'r, 'a>, Fault> {
         let TypeKind::Choice(items) = &base.definition.kind else {
             return Err(self.refuse_kind_at(base, scope.place(name)));
         };
@@ -131,8 +131,8 @@ impl<'a> Resolver<'_, 'a> {
     fn find_bit(
         &mut self,
         scope: Scope<'a>,
-        bits: &'a [NamedNumber],
-        written: Written<'a>,
+        bits: &'r [NamedNumber],
+        written: Written<'r, 'a>,
     ) -> Result<NumberName, Fault> {
         match &written.value.kind {
             ValueKind::Reference(reference) => {
@@ -153,9 +153,9 @@ impl<'a> Resolver<'_, 'a> {
     pub(crate) fn bits_value(
         &mut self,
         bits_scope: Scope<'a>,
-        bits: &'a [NamedNumber],
-        written: Written<'a>,
-        values: &'a [ListItem],
+        bits: &'r [NamedNumber],
+        written: Written<'r, 'a>,
+        values: &'r [ListItem],
     ) -> Result<Value<'a>, Fault> {
         let mut numbers = Vec::new(self.alloc);
         for item in values {
@@ -170,7 +170,7 @@ impl<'a> Resolver<'_, 'a> {
     // The bits with these numbers, up to the last of them.
     fn bits_of_numbers(
         &mut self,
-        written: Written<'a>,
+        written: Written<'r, 'a>,
         numbers: &[i128],
     ) -> Result<Value<'a>, Fault> {
         let mut bits = Vec::new(self.alloc);
@@ -192,7 +192,7 @@ impl<'a> Resolver<'_, 'a> {
     pub(crate) fn add_referenced(
         &mut self,
         arcs: &mut Vec<u32>,
-        written: Written<'a>,
+        written: Written<'r, 'a>,
         name: Span,
         value: Value<'a>,
     ) -> Result<(), Fault> {
@@ -214,7 +214,7 @@ impl<'a> Resolver<'_, 'a> {
     pub(crate) fn push_arc(
         &mut self,
         arcs: &mut Vec<u32>,
-        written: Written<'a>,
+        written: Written<'r, 'a>,
         number: i128,
     ) -> Result<(), Fault> {
         match u32::try_from(number) {
@@ -238,12 +238,16 @@ impl<'a> Resolver<'_, 'a> {
     }
 
     /// Refuses a value that is not of the type.
-    pub(crate) fn refuse_kind(&mut self, base: Governed<'a>, written: Written<'a>) -> Fault {
+    pub(crate) fn refuse_kind(
+        &mut self,
+        base: Governed<'r, 'a>,
+        written: Written<'r, 'a>,
+    ) -> Fault {
         self.refuse_kind_at(base, written.place())
     }
 
     // Refuses a value at this place that is not of the type.
-    fn refuse_kind_at(&mut self, base: Governed<'a>, place: Place) -> Fault {
+    fn refuse_kind_at(&mut self, base: Governed<'r, 'a>, place: Place) -> Fault {
         self.refuse(
             place,
             &[
@@ -257,8 +261,8 @@ impl<'a> Resolver<'_, 'a> {
     /// Refuses the name of a value that is not of the type.
     pub(crate) fn require_kind(
         &mut self,
-        base: Governed<'a>,
-        written: Written<'a>,
+        base: Governed<'r, 'a>,
+        written: Written<'r, 'a>,
         value: &Value<'a>,
     ) -> Result<(), Fault> {
         let name = match &written.value.kind {
@@ -275,7 +279,7 @@ impl<'a> Resolver<'_, 'a> {
     }
 
     // Whether a value is one of a field of a class that has no tree of its own.
-    fn suits_field(&mut self, base: Governed<'a>, value: &Value<'a>) -> Result<bool, Fault> {
+    fn suits_field(&mut self, base: Governed<'r, 'a>, value: &Value<'a>) -> Result<bool, Fault> {
         match value {
             Value::ObjectIdentifier(_) => self.is_identifier(base),
             Value::Alternative(_, _) => self.is_open(base),
@@ -284,7 +288,7 @@ impl<'a> Resolver<'_, 'a> {
     }
 
     /// Refuses a value that leads to no end.
-    pub(crate) fn refuse_depth(&mut self, written: Written<'a>) -> Fault {
+    pub(crate) fn refuse_depth(&mut self, written: Written<'r, 'a>) -> Fault {
         self.refuse(
             written.place(),
             &[b"the value is defined by itself, or nested too deep"],
@@ -309,7 +313,7 @@ fn set_bit(bits: &mut Vec<bool>, index: usize) -> Result<(), Fault> {
 }
 
 // Whether a component is in every value.
-fn is_required(listed: Listed<'_>) -> bool {
+fn is_required(listed: Listed<'_, '_>) -> bool {
     matches!(listed.component.usage, Usage::Required)
 }
 

@@ -16,12 +16,12 @@ pub(crate) const MAX_DEPTH: usize = 200;
 // How many values a value may be made of: itself and those inside it. One behind a name counts each time that it is named.
 const MAX_VALUES: usize = 100_000;
 
-impl<'a> Resolver<'_, 'a> {
+impl<'r, 'a> Resolver<'r, 'a> {
     /// The value of a type.
     pub(crate) fn value(
         &mut self,
-        governed: Governed<'a>,
-        written: Written<'a>,
+        governed: Governed<'r, 'a>,
+        written: Written<'r, 'a>,
     ) -> Result<Value<'a>, Fault> {
         self.values_read = 0;
         match self.inner_value(governed, written, MAX_DEPTH) {
@@ -47,8 +47,8 @@ impl<'a> Resolver<'_, 'a> {
     #[cycle(values)]
     fn inner_value(
         &mut self,
-        governed: Governed<'a>,
-        written: Written<'a>,
+        governed: Governed<'r, 'a>,
+        written: Written<'r, 'a>,
         depth: usize,
     ) -> Result<Value<'a>, Fault> {
         self.count_value()?;
@@ -69,8 +69,8 @@ impl<'a> Resolver<'_, 'a> {
     #[cycle(values)]
     fn literal(
         &mut self,
-        base: Governed<'a>,
-        written: Written<'a>,
+        base: Governed<'r, 'a>,
+        written: Written<'r, 'a>,
         depth: usize,
     ) -> Result<Value<'a>, Fault> {
         if let TypeKind::Contents(_) = &base.definition.kind {
@@ -94,9 +94,9 @@ impl<'a> Resolver<'_, 'a> {
     #[cycle(values)]
     fn list_value(
         &mut self,
-        base: Governed<'a>,
-        written: Written<'a>,
-        values: &'a [ListItem],
+        base: Governed<'r, 'a>,
+        written: Written<'r, 'a>,
+        values: &'r [ListItem],
         depth: usize,
     ) -> Result<Value<'a>, Fault> {
         let scope = written.scope;
@@ -134,9 +134,9 @@ impl<'a> Resolver<'_, 'a> {
     #[cycle(values)]
     fn characters_value(
         &mut self,
-        base: Governed<'a>,
-        written: Written<'a>,
-        values: &'a [ListItem],
+        base: Governed<'r, 'a>,
+        written: Written<'r, 'a>,
+        values: &'r [ListItem],
         depth: usize,
     ) -> Result<Value<'a>, Fault> {
         if let Some(code) = self.code_of(written.scope, values)? {
@@ -157,9 +157,9 @@ impl<'a> Resolver<'_, 'a> {
     #[cycle(values)]
     fn components_value(
         &mut self,
-        items: Items<'a>,
-        written: Written<'a>,
-        values: &'a [ListItem],
+        items: Items<'r, 'a>,
+        written: Written<'r, 'a>,
+        values: &'r [ListItem],
         depth: usize,
     ) -> Result<Value<'a>, Fault> {
         let list = self.list_components(items.scope, items.items, items.construct)?;
@@ -187,9 +187,9 @@ impl<'a> Resolver<'_, 'a> {
     fn elements_value(
         &mut self,
         element_scope: Scope<'a>,
-        element: &'a Type,
+        element: &'r Type,
         scope: Scope<'a>,
-        values: &'a [ListItem],
+        values: &'r [ListItem],
         depth: usize,
     ) -> Result<Value<'a>, Fault> {
         let governed = Governed {
@@ -209,10 +209,10 @@ impl<'a> Resolver<'_, 'a> {
     #[cycle(values)]
     fn alternative_value(
         &mut self,
-        base: Governed<'a>,
+        base: Governed<'r, 'a>,
         scope: Scope<'a>,
         name: Span,
-        value: &'a asn1_notation::Value,
+        value: &'r asn1_notation::Value,
         depth: usize,
     ) -> Result<Value<'a>, Fault> {
         let listed = self.find_alternative(base, scope, name)?;
@@ -225,9 +225,9 @@ impl<'a> Resolver<'_, 'a> {
     #[cycle(values)]
     fn open_value(
         &mut self,
-        base: Governed<'a>,
+        base: Governed<'r, 'a>,
         name: Span,
-        written: Written<'a>,
+        written: Written<'r, 'a>,
         depth: usize,
     ) -> Result<Value<'a>, Fault> {
         let scope = written.scope;
@@ -246,9 +246,9 @@ impl<'a> Resolver<'_, 'a> {
     #[cycle(values)]
     fn word_value(
         &mut self,
-        base: Governed<'a>,
+        base: Governed<'r, 'a>,
         word: &[u8],
-        written: Written<'a>,
+        written: Written<'r, 'a>,
         depth: usize,
     ) -> Result<Value<'a>, Fault> {
         if is_contents_word(word) {
@@ -272,9 +272,9 @@ impl<'a> Resolver<'_, 'a> {
     #[cycle(values)]
     fn identifier_value(
         &mut self,
-        base: Governed<'a>,
-        written: Written<'a>,
-        values: &'a [ListItem],
+        base: Governed<'r, 'a>,
+        written: Written<'r, 'a>,
+        values: &'r [ListItem],
         depth: usize,
     ) -> Result<Value<'a>, Fault> {
         let mut arcs = Vec::new(self.alloc);
@@ -295,8 +295,8 @@ impl<'a> Resolver<'_, 'a> {
     fn add_arc(
         &mut self,
         arcs: &mut Vec<u32>,
-        base: Governed<'a>,
-        written: Written<'a>,
+        base: Governed<'r, 'a>,
+        written: Written<'r, 'a>,
         depth: usize,
     ) -> Result<(), Fault> {
         match &written.value.kind {
@@ -325,14 +325,14 @@ impl<'a> Resolver<'_, 'a> {
 
 // The items of a SEQUENCE or a SET, with their module.
 #[derive(Clone, Copy)]
-struct Items<'a> {
+struct Items<'r, 'a> {
     scope: Scope<'a>,
-    items: &'a [ComponentItem],
+    items: &'r [ComponentItem],
     construct: Construct,
 }
 
-impl<'a> Items<'a> {
-    fn new(scope: Scope<'a>, items: &'a [ComponentItem], construct: Construct) -> Items<'a> {
+impl<'r, 'a> Items<'r, 'a> {
+    fn new(scope: Scope<'a>, items: &'r [ComponentItem], construct: Construct) -> Items<'r, 'a> {
         Items {
             scope,
             items,

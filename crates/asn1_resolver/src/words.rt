@@ -6,9 +6,9 @@ use asn1_notation::{Argument, TypeKind, Value, ValueKind};
 use asn1_notation_text::type_word;
 use std::alloc::AllocError;
 
-impl<'a> Resolver<'_, 'a> {
+impl<'r, 'a> Resolver<'r, 'a> {
     /// The names of the types and values that complete a template, each with those of its own arguments.
-    pub(crate) fn words_of(&self, instance: Instance<'a>) -> Result<Vec<Vec<u8>>, AllocError> {
+    pub(crate) fn words_of(&self, instance: Instance<'r, 'a>) -> Result<Vec<Vec<u8>>, AllocError> {
         let mut words = Vec::new(self.alloc);
         self.push_argument_words(&mut words, instance.scope, instance.arguments, MAX_NESTING)?;
         Ok(words)
@@ -20,7 +20,7 @@ impl<'a> Resolver<'_, 'a> {
         &self,
         words: &mut Vec<Vec<u8>>,
         scope: Scope<'a>,
-        arguments: &'a [Argument],
+        arguments: &'r [Argument],
         depth: usize,
     ) -> Result<(), AllocError> {
         for argument in arguments {
@@ -35,7 +35,7 @@ impl<'a> Resolver<'_, 'a> {
         &self,
         words: &mut Vec<Vec<u8>>,
         scope: Scope<'a>,
-        argument: &'a Argument,
+        argument: &'r Argument,
         depth: usize,
     ) -> Result<(), AllocError> {
         match argument {
@@ -52,7 +52,7 @@ impl<'a> Resolver<'_, 'a> {
     fn push_type_words(
         &self,
         words: &mut Vec<Vec<u8>>,
-        governed: Governed<'a>,
+        governed: Governed<'r, 'a>,
         depth: usize,
     ) -> Result<(), AllocError> {
         let Some(depth) = depth.checked_sub(1) else {
@@ -76,7 +76,7 @@ impl<'a> Resolver<'_, 'a> {
         &self,
         words: &mut Vec<Vec<u8>>,
         scope: Scope<'a>,
-        value: &'a Value,
+        value: &'r Value,
     ) -> Result<(), AllocError> {
         let written = self.behind_value_parameters(Written { scope, value });
         match &written.value.kind {

@@ -5,17 +5,19 @@ use std::alloc::AllocError;
 
 /// Brings in what the clauses name.
 pub(crate) fn use_words(draft: &mut Draft, table: &OpenTable) -> Result<(), AllocError> {
-    draft.use_signs(&["IfOk", "Ok", "◌≡◌", "◌≢◌"])?;
+    draft.use_signs(&["Err", "IfErr", "IfOk", "Ok", "◌≡◌", "◌≢◌", "◌⊎◌"])?;
     draft.use_names(&["AsnType", "Decode"])?;
-    draft.use_ghost("ghost use Rattle.asn1_tables.specs.OpenValues.{MayAnswerOf, WritesOpen};")?;
+    draft.use_ghost(
+        "ghost use Rattle.asn1_tables.specs.OpenValues.{MayAnswerOf, MemoryRanOut, WritesKept, WritesOpen};",
+    )?;
     use_variants(draft, table)
 }
 
-/// Appends the clause of the call that reads.
+/// Appends the clauses of the call that reads.
 pub(crate) fn append_read_clause(draft: &mut Draft, table: &OpenTable) -> Result<(), AllocError> {
     draft.line(
         2,
-        "// Under the key of a row the value is one of its type, and under no other it is the octets.",
+        "// Under the key of a row the value is one of the row's type, under any other key it is the octets.",
     )?;
     draft.line(
         2,
@@ -24,7 +26,32 @@ pub(crate) fn append_read_clause(draft: &mut Draft, table: &OpenTable) -> Result
     for row in &table.rows {
         append_row(draft, table, row)?;
     }
-    append_other(draft, table)
+    append_other(draft, table)?;
+    append_refusal(draft, table)
+}
+
+// Appends the clause of the errors of the call that reads.
+fn append_refusal(draft: &mut Draft, table: &OpenTable) -> Result<(), AllocError> {
+    draft.line(
+        2,
+        "// An error is one of reading the type of the row under this key, or memory ran out.",
+    )?;
+    draft.line(2, "ensures refused { IfErr result (λ error.")?;
+    for row in &table.rows {
+        let key = key_value(draft, table)?;
+        let key = key.as_str();
+        let own = key_term(draft, table, &row.key)?;
+        let definition = row.definition.text.as_str();
+        let line = format!(in draft.alloc();
+            "(({key} ≡ {own}) × MayAnswerOf R.format ⟦<{definition} as AsnType>⟧.meaning"
+        )?;
+        draft.line(3, line.as_str())?;
+        let line = format!(in draft.alloc();
+            "⟦<{definition} as PartialEq>⟧.eq ⟦<{definition} as Decode>⟧.refusals depth octets.now (Err error)) ⊎"
+        )?;
+        draft.line(3, line.as_str())?;
+    }
+    draft.line(3, "MemoryRanOut error) }")
 }
 
 /// Appends the clause of the call that writes.
@@ -42,10 +69,7 @@ pub(crate) fn append_write_clause(draft: &mut Draft, table: &OpenTable) -> Resul
         )?;
         draft.line(2, line.as_str())?;
     }
-    draft.line(
-        2,
-        "  | variants.Other other kept ↦ IfOk result (λ octets. octets.items ≡ kept)",
-    )?;
+    draft.line(2, "  | variants.Other other kept ↦ WritesKept kept result")?;
     draft.line(2, "] }")
 }
 

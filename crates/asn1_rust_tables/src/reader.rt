@@ -18,7 +18,7 @@ pub(crate) fn append_reader(draft: &mut Draft, table: &OpenTable) -> Result<(), 
         "    /// Reads the octets of a value under this `&{field}`, with at most `depth` nested scopes.
     ///
     /// # Errors
-    /// Those of the type of the row; and [`DecodeError::Memory`], which alone other octets have.
+    /// Under the key of a row those of reading its type; under any other key [`DecodeError::Memory`] alone.
     pub fn read<R: Rules<Output = Vec<u8>>>(
         rules: &R,
         alloc: Global,

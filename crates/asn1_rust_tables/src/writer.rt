@@ -29,8 +29,8 @@ pub(crate) fn append_writer(draft: &mut Draft, table: &OpenTable) -> Result<(), 
     draft.line(2, "match self {")?;
     for row in &table.rows {
         let variant = row.name.as_str();
-        let line = format!(in alloc; "Self::{variant}(value) => rules.write_value(value, depth),")?;
-        draft.line(3, line.as_str())?;
+        let front = format!(in alloc; "Self::{variant}(value) =>")?;
+        draft.definition(3, front.as_str(), "rules.write_value(value, depth),")?;
     }
     draft.line(
         3,
@@ -100,8 +100,9 @@ fn append_key_arms(draft: &mut Draft, table: &OpenTable, front: &str) -> Result<
         let key = key_code(draft, &row.key)?;
         let key = key.as_str();
         let variant = row.name.as_str();
-        let line = format!(in draft.alloc(); "Self::{variant}(_) => {front}{key},")?;
-        draft.line(3, line.as_str())?;
+        let pattern = format!(in draft.alloc(); "Self::{variant}(_) =>")?;
+        let answer = format!(in draft.alloc(); "{front}{key},")?;
+        draft.definition(3, pattern.as_str(), answer.as_str())?;
     }
     Ok(())
 }

@@ -1,14 +1,23 @@
 -- Octets of open types: what reading them as a value may answer, and what writing a value makes.
-use Rattle.std.specs.Prelude.{◌≡◌, ◌⊎◌, ℕ, Bool, Err, List, Result, Vec}
+use Rattle.std.specs.Prelude.{◌≡◌, ◌⊎◌, ℕ, Bool, Err, List, MatchResult, Result, Vec}
 use Rattle.std.specs.declared.alloc.Global.{Global}
 use Rattle.asn1_laws.specs.Refusals.{Refusals}
 use Rattle.asn1_laws.specs.declared.encode_error.EncodeError.{EncodeError}
+use Rattle.asn1_laws.specs.declared.encode_error.EncodeError.TheVariants as writing
 use Rattle.asn1_laws.specs.declared.decode_error.DecodeError.{DecodeError}
 use Rattle.asn1_laws.specs.declared.decode_error.DecodeError.TheVariants.{Memory}
 use Rattle.asn1_model.specs.Meaning.{Meaning, own_records}
 use Rattle.asn1_model.specs.Records.{Record}
 use Rattle.asn1_rules.specs.CanonicalReading.{MayAnswer}
 use Rattle.asn1_rules.specs.Rules.{Format, WritesWhole}
+
+-- Memory ran out in reading.
+abbrev pub MemoryRanOut : DecodeError → Type 0
+MemoryRanOut error = error ≡ Memory
+
+-- A call that writes octets that were kept, as they are, unless memory ran out.
+abbrev pub WritesKept : List ℕ → Result (Vec ℕ Global) EncodeError → Type 0
+WritesKept kept result = MatchResult result (λ octets. octets.items ≡ kept) (λ error. error ≡ writing.Memory)
 
 module _ (F : Format (Vec ℕ Global)) where
   -- The bytes of an output tell what it carries.

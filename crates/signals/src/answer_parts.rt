@@ -1,6 +1,6 @@
 //! A value of `PART.&Content`, by the objects of `AnswerParts` of the module `Signals`.
-ghost use Rattle.std.specs.Prelude.{IfOk, Ok, ◌≡◌, ◌≢◌};
-ghost use Rattle.asn1_tables.specs.OpenValues.{MayAnswerOf, WritesOpen};
+ghost use Rattle.std.specs.Prelude.{Err, IfErr, IfOk, Ok, ◌≡◌, ◌≢◌, ◌⊎◌};
+ghost use Rattle.asn1_tables.specs.OpenValues.{MayAnswerOf, MemoryRanOut, WritesKept, WritesOpen};
 ghost use Rattle.signals.specs.declared.answer_parts.AnswerParts.TheVariants as variants;
 
 use crate::cause::Cause;
@@ -25,7 +25,7 @@ impl AnswerParts {
     /// Reads the octets of a value under this `&number`, with at most `depth` nested scopes.
     ///
     /// # Errors
-    /// Those of the type of the row; and [`DecodeError::Memory`], which alone other octets have.
+    /// Under the key of a row those of reading its type; under any other key [`DecodeError::Memory`] alone.
     pub fn read<R: Rules<Output = Vec<u8>>>(
         rules: &R,
         alloc: Global,
@@ -33,7 +33,7 @@ impl AnswerParts {
         octets: &[u8],
         depth: usize,
     ) -> Result<Self, DecodeError>
-        // Under the key of a row the value is one of its type, and under no other it is the octets.
+        // Under the key of a row the value is one of the row's type, under any other key it is the octets.
         ensures row { IfOk result (λ value. elim value as (λ _. Type 0) [
           | variants.Cause x ↦ (number ≡ 4) × MayAnswerOf R.format ⟦<Cause as AsnType>⟧.meaning
               ⟦<Cause as PartialEq>⟧.eq ⟦<Cause as Decode>⟧.refusals depth octets.now (Ok x)
@@ -46,6 +46,15 @@ impl AnswerParts {
               × (number ≢ 300)
               × (number ≢ 301)
         ]) }
+        // An error is one of reading the type of the row under this key, or memory ran out.
+        ensures refused { IfErr result (λ error.
+            ((number ≡ 4) × MayAnswerOf R.format ⟦<Cause as AsnType>⟧.meaning
+            ⟦<Cause as PartialEq>⟧.eq ⟦<Cause as Decode>⟧.refusals depth octets.now (Err error)) ⊎
+            ((number ≡ 300) × MayAnswerOf R.format ⟦<u8 as AsnType>⟧.meaning
+            ⟦<u8 as PartialEq>⟧.eq ⟦<u8 as Decode>⟧.refusals depth octets.now (Err error)) ⊎
+            ((number ≡ 301) × MayAnswerOf R.format ⟦<bool as AsnType>⟧.meaning
+            ⟦<bool as PartialEq>⟧.eq ⟦<bool as Decode>⟧.refusals depth octets.now (Err error)) ⊎
+            MemoryRanOut error) }
     {
         match number {
             4 => Ok(Self::Cause(read_open(rules, alloc, octets, depth)?)),
@@ -73,7 +82,7 @@ impl AnswerParts {
           | variants.Cause x ↦ WritesOpen R.format ⟦<Cause as AsnType>⟧.meaning x depth result
           | variants.Speed x ↦ WritesOpen R.format ⟦<u8 as AsnType>⟧.meaning x depth result
           | variants.Object3 x ↦ WritesOpen R.format ⟦<bool as AsnType>⟧.meaning x depth result
-          | variants.Other other kept ↦ IfOk result (λ octets. octets.items ≡ kept)
+          | variants.Other other kept ↦ WritesKept kept result
         ] }
     {
         match self {

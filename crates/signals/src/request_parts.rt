@@ -1,6 +1,6 @@
 //! A value of `PART.&Content`, by the objects of `RequestParts` of the module `Signals`.
-ghost use Rattle.std.specs.Prelude.{IfOk, Ok, ◌≡◌, ◌≢◌};
-ghost use Rattle.asn1_tables.specs.OpenValues.{MayAnswerOf, WritesOpen};
+ghost use Rattle.std.specs.Prelude.{Err, IfErr, IfOk, Ok, ◌≡◌, ◌≢◌, ◌⊎◌};
+ghost use Rattle.asn1_tables.specs.OpenValues.{MayAnswerOf, MemoryRanOut, WritesKept, WritesOpen};
 ghost use Rattle.signals.specs.declared.request_parts.RequestParts.TheVariants as variants;
 
 use crate::aliases::Route;
@@ -27,7 +27,7 @@ impl RequestParts {
     /// Reads the octets of a value under this `&number`, with at most `depth` nested scopes.
     ///
     /// # Errors
-    /// Those of the type of the row; and [`DecodeError::Memory`], which alone other octets have.
+    /// Under the key of a row those of reading its type; under any other key [`DecodeError::Memory`] alone.
     pub fn read<R: Rules<Output = Vec<u8>>>(
         rules: &R,
         alloc: Global,
@@ -35,7 +35,7 @@ impl RequestParts {
         octets: &[u8],
         depth: usize,
     ) -> Result<Self, DecodeError>
-        // Under the key of a row the value is one of its type, and under no other it is the octets.
+        // Under the key of a row the value is one of the row's type, under any other key it is the octets.
         ensures row { IfOk result (λ value. elim value as (λ _. Type 0) [
           | variants.Cause x ↦ (number ≡ 4) × MayAnswerOf R.format ⟦<Cause as AsnType>⟧.meaning
               ⟦<Cause as PartialEq>⟧.eq ⟦<Cause as Decode>⟧.refusals depth octets.now (Ok x)
@@ -48,6 +48,15 @@ impl RequestParts {
               × (number ≢ 9)
               × (number ≢ 12)
         ]) }
+        // An error is one of reading the type of the row under this key, or memory ran out.
+        ensures refused { IfErr result (λ error.
+            ((number ≡ 4) × MayAnswerOf R.format ⟦<Cause as AsnType>⟧.meaning
+            ⟦<Cause as PartialEq>⟧.eq ⟦<Cause as Decode>⟧.refusals depth octets.now (Err error)) ⊎
+            ((number ≡ 9) × MayAnswerOf R.format ⟦<Route as AsnType>⟧.meaning
+            ⟦<Route as PartialEq>⟧.eq ⟦<Route as Decode>⟧.refusals depth octets.now (Err error)) ⊎
+            ((number ≡ 12) × MayAnswerOf R.format ⟦<RequestPartsObject3 as AsnType>⟧.meaning
+            ⟦<RequestPartsObject3 as PartialEq>⟧.eq ⟦<RequestPartsObject3 as Decode>⟧.refusals depth octets.now (Err error)) ⊎
+            MemoryRanOut error) }
     {
         match number {
             4 => Ok(Self::Cause(read_open(rules, alloc, octets, depth)?)),
@@ -75,7 +84,7 @@ impl RequestParts {
           | variants.Cause x ↦ WritesOpen R.format ⟦<Cause as AsnType>⟧.meaning x depth result
           | variants.Route x ↦ WritesOpen R.format ⟦<Route as AsnType>⟧.meaning x depth result
           | variants.Object3 x ↦ WritesOpen R.format ⟦<RequestPartsObject3 as AsnType>⟧.meaning x depth result
-          | variants.Other other kept ↦ IfOk result (λ octets. octets.items ≡ kept)
+          | variants.Other other kept ↦ WritesKept kept result
         ] }
     {
         match self {
