@@ -88,7 +88,7 @@ fn messages_of_ldap_have_their_lines() {
     let messages = include_bytes!("../../../examples/ldap/search.ber");
     let lines = ldap_lines(messages).unwrap();
     assert_eq!((lines.text.as_str(), lines.used), (include_str!("../../../examples/ldap/search.txt"), messages.len()));
-    assert!(!lines.is_damaged && ldap_lines(b"text").unwrap().is_damaged);
+    assert!(!lines.is_damaged && ldap_lines(&[5, 0]).unwrap().is_damaged);
 }
 
 #[test]

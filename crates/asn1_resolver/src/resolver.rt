@@ -61,7 +61,7 @@ impl<'r, 'a> Resolver<'r, 'a> {
         names: &'r Names<'a>,
         objects: &'r Objects<'a>,
     ) -> Result<Resolver<'r, 'a>, AllocError> {
-        let mut bases = Vec::new(alloc);
+        let mut bases: Vec<Base<'r, 'a>> = Vec::new(alloc);
         for _ in &definitions.types {
             bases.push(Base::Unknown)?;
         }
