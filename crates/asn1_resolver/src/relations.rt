@@ -51,7 +51,7 @@ impl<'r, 'a> Resolver<'r, 'a> {
             Some(index) => self.enclosing.get(index).copied(),
             None => None,
         };
-        let mut component = None;
+        let mut component: Option<Governed<'r, 'a>> = None;
         for name in &path.names {
             if let Some(outer) = component {
                 enclosing = self.items_inside(outer)?;

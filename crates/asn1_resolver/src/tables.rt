@@ -310,7 +310,7 @@ impl<'r, 'a> Resolver<'r, 'a> {
         &mut self,
         columns: Columns<'r, 'a>,
     ) -> Result<Vec<Listed<'r, 'a>>, AllocError> {
-        let mut found = Vec::new(self.alloc);
+        let mut found: Vec<Listed<'r, 'a>> = Vec::new(self.alloc);
         let Some(choice) = columns.choice else {
             return Ok(found);
         };
@@ -362,7 +362,7 @@ impl<'r, 'a> Resolver<'r, 'a> {
         columns: Columns<'r, 'a>,
         collected: &Collected<'r, 'a>,
     ) -> Result<(), AllocError> {
-        let mut key_columns = Vec::new(self.alloc);
+        let mut key_columns: Vec<Columns<'r, 'a>> = Vec::new(self.alloc);
         if columns.choice.is_none() {
             key_columns.push(columns)?;
         }
