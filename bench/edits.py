@@ -11,9 +11,11 @@ status is 0 if and only if M is 0. An edit that cannot be applied, compiled or r
 some 20 seconds. With --ci, `rt ci` tries them, over what runs of `rt ci` kept; then a crate's first edit costs as much as its proof.
 They are tried when their crate changes (docs/GATE.md).
 """
+import collections
 import os
 import re
 import shutil
+import signal
 import subprocess
 import sys
 import tempfile
@@ -38,33 +40,44 @@ def copy_crates(room, chosen):
 
 
 def try_edits(room, verb, chosen):
-    """Prints rt's lines, and returns the edits that were refused."""
-    refused = set()
+    """Prints rt's lines. Returns the edits that were refused, those that have an answer, and the last lines of all."""
+    refused, answered, last = set(), set(), collections.deque(maxlen=6)
     command = ["rt", verb, *chosen]
     with subprocess.Popen(command, cwd=room, stdout=subprocess.PIPE, stderr=subprocess.STDOUT, text=True, errors="replace") as run:
-        for line in run.stdout:
-            answer = ANSWER.match(line)
-            if answer and answer[2].startswith("refused"):
-                refused.add(answer[1])
-            if answer or line.startswith("rt: "):
-                print(line.rstrip("\n"), flush=True)
-    return refused
+        try:
+            for line in run.stdout:
+                last.append(line)
+                answer = ANSWER.match(line)
+                if answer:
+                    answered.add(answer[1])
+                if answer and answer[2].startswith("refused"):
+                    refused.add(answer[1])
+                if answer or line.startswith("rt: "):
+                    print(line.rstrip("\n"), flush=True)
+        except BaseException:
+            run.terminate()
+            raise
+    return refused, answered, last
 
 
 def main():
+    signal.signal(signal.SIGTERM, signal.default_int_handler)
     names = crates_with_edits()
     words = sys.argv[1:]
     verb = "ci" if words[:1] == ["--ci"] else "must-fail"
     chosen = sorted(set(words[verb == "ci":])) or names
     unknown = [name for name in chosen if name not in names]
     if unknown:
-        sys.exit(f"bench/edits has no folder {unknown[0]}")
+        sys.exit(f"bench/edits has no folder {unknown[0]}; edits in the gate are tried by rt must-fail")
     edits = {f"{name}/{edit}" for name in chosen for edit in os.listdir(os.path.join(EDITS, name))}
     with tempfile.TemporaryDirectory(prefix="edits-") as room:
         copy_crates(room, chosen)
-        refused = try_edits(room, verb, chosen) & edits
+        refused, answered, last = try_edits(room, verb, chosen)
+    if not edits <= answered:
+        print("".join(last), end="")
     for edit in sorted(edits - refused):
-        print(f"not refused: {edit}")
+        print(f"{'not refused' if edit in answered else 'not tried'}: {edit}")
+    refused &= edits
     print(f"{len(refused)} passed, {len(edits - refused)} failed")
     sys.exit(0 if refused == edits else 1)
 

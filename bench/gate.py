@@ -1,23 +1,30 @@
 #!/usr/bin/env python3
 """Runs `rt ci`, and says what each crate of it cost: the rows of docs/GATE.md.
 
-    python3 bench/gate.py [NAME..]
+    python3 bench/gate.py [--anew | NAME..]
 
 The processes below `rt ci` are read twice a second. A row is `crate | seconds | edits | MB`: processor seconds of the crate's proof
 with its tests and programs, those of its edits, and the most memory that one process had. What `rt ci` took from an earlier run has
-no row. The last lines are the sums, and the time by the clock. The status is that of `rt ci`, whose output goes to standard error.
+no row: --anew takes nothing. The last line has all processor minutes, also of processes that ended between two looks, and the time by
+the clock. The rows come too if the run is ended. The status is that of `rt ci`, whose output goes to standard error.
 """
 import collections
 import os
 import pathlib
 import re
+import resource
+import signal
 import subprocess
 import sys
+import tempfile
 import time
 
+ROOT = os.path.dirname(os.path.dirname(os.path.abspath(__file__)))
 TICK = os.sysconf("SC_CLK_TCK")
 PAGE = os.sysconf("SC_PAGE_SIZE")
 CRATE = re.compile(rb"/crates/([a-z0-9_]+)")
+# Where rt tries an edit: a folder whose name begins so.
+EDITS = os.path.join(tempfile.gettempdir(), "rt-edit-").encode()
 
 
 def processes():
@@ -56,26 +63,43 @@ class Costs:
         """Of each crate its seconds, those of its edits, and its memory; the seconds of no crate are those of `rt ci` itself."""
         rows = collections.defaultdict(lambda: [0.0, 0.0, 0.0])
         for seconds, memory, words, folder in self.found.values():
-            crate = CRATE.search(folder) or CRATE.search(words)
-            row = rows[crate.group(1).decode() if crate else "rt ci"]
-            row[1 if b"must-fail" in folder + words else 0] += seconds
+            row = rows[crate_of(words, folder)]
+            row[1 if folder.startswith(EDITS) else 0] += seconds
             row[2] = max(row[2], memory)
         return rows
 
 
-def main():
-    started = time.monotonic()
-    with subprocess.Popen(["rt", "ci", *sys.argv[1:]], stdout=sys.stderr) as run:
-        costs = Costs(run.pid)
-        while run.poll() is None:
-            costs.look()
-            time.sleep(0.5)
-    rows = costs.rows()
+def crate_of(words, folder):
+    """The crate that a process works on: the one that its words name, or in whose folder it runs."""
+    _, named, after = words.partition(b"\0--crate-name\0")
+    if named:
+        return after.partition(b"\0")[0].decode()
+    found = CRATE.search(folder) or CRATE.search(words)
+    return found.group(1).decode() if found else "rt ci"
+
+
+def print_rows(rows):
     print("| crate | s | edits | MB |\n|---|---|---|---|")
-    for crate, (seconds, edits, memory) in rows.items():
+    for crate, (seconds, edits, memory) in sorted(rows.items()):
         print(f"| {crate} | {seconds:.0f} | {f'{edits:.0f}' if edits else ''} | {memory:.0f} |")
-    total = sum(seconds + edits for seconds, edits, _ in rows.values())
-    print(f"{total / 60:.0f} processor minutes, {(time.monotonic() - started) / 60:.0f} by the clock, {os.cpu_count()} processors")
+
+
+def main():
+    signal.signal(signal.SIGTERM, signal.default_int_handler)
+    started = time.monotonic()
+    with subprocess.Popen(["rt", "ci", *sys.argv[1:]], cwd=ROOT, stdout=sys.stderr) as run:
+        costs = Costs(run.pid)
+        try:
+            while run.poll() is None:
+                costs.look()
+                time.sleep(0.5)
+        except KeyboardInterrupt:
+            run.terminate()
+            run.wait()
+    print_rows(costs.rows())
+    used = resource.getrusage(resource.RUSAGE_CHILDREN)
+    total = (used.ru_utime + used.ru_stime) / 60
+    print(f"{total:.0f} processor minutes, {(time.monotonic() - started) / 60:.0f} by the clock, {os.cpu_count()} processors")
     return run.returncode
 
 
