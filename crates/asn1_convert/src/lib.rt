@@ -32,7 +32,7 @@
 //!   position at which it is none (`AreDigitsOf`, `IsFirstFault` of `specs/Digits.antt`).
 //!
 //! No contract covers texts in X.680's notation (`asn1_value_text`), nor the cause in a line on standard error, nor the place inside a
-//! value that it names (`asn1_paths`); the stored run of test_converters shows them. None covers what [`run`] does with the answers.
+//! value that it names (`asn1_paths`); the stored run of test_texts shows them. None covers what [`run`] does with the answers.
 //! A program converts its input as it comes ([`Pieces`], of which no contract says more than that it ends), and keeps the octets of the
 //! value that is not there whole, and all those of `--check` and `--hex`.
 #![tactic(auto)]
