@@ -33,11 +33,14 @@ impl<'a> Request<'a> {
         let Some((type_name, digits)) = rest.split_once(' ') else {
             return Ok(None);
         };
+        let Some(octets) = octets_of(alloc, digits)? else {
+            return Ok(None);
+        };
         Ok(Some(Request {
             piece,
             action,
             type_name,
-            octets: octets_of(alloc, digits)?,
+            octets,
         }))
     }
 }
@@ -65,13 +68,14 @@ fn action_of(asked: &str) -> Option<(Action, &str)> {
     Some((Action::Convert { from, to }, rest))
 }
 
-/// The octets of words of hexadecimal digits.
-fn octets_of(alloc: Global, digits: &str) -> Result<Vec<u8>, AllocError> {
+/// The octets of words of hexadecimal digits, if they all are.
+fn octets_of(alloc: Global, digits: &str) -> Result<Option<Vec<u8>>, AllocError> {
     let mut octets = Vec::new(alloc);
     for word in digits.split(' ') {
-        if let Ok(part) = hex::decode(alloc, word) {
-            octets.extend_from_slice(part.as_slice())?;
+        match hex::decode(alloc, word) {
+            Ok(part) => octets.extend_from_slice(part.as_slice())?,
+            Err(_) => return Ok(None),
         }
     }
-    Ok(octets)
+    Ok(Some(octets))
 }
