@@ -1,7 +1,7 @@
 //! The work of a program of `asn1_convert`.
 use crate::request::Request;
 use crate::types::Types;
-use asn1_convert::{Action, Answer, Converted, OutputForm, Pieces, Task, TypeList};
+use asn1_convert::{Action, Answer, Converted, OutputForm, Pieces, PiecesError, Task, TypeList};
 use std::alloc::{AllocError, Global};
 use std::fmt::Write;
 
@@ -52,7 +52,7 @@ fn text_of_pieces(
     for piece in request.octets.as_slice().chunks(size.max(1)) {
         came = came.saturating_add(piece.len());
         pieces.append(piece)?;
-        if let Some(answer) = pieces.answer::<Types>(alloc, request.type_name, false)? {
+        if let Some(answer) = next_answer(&mut pieces, alloc, request.type_name, false)? {
             let has_failed = answer.failure.is_some();
             push_answer(&mut text, alloc, action, answer, came)?;
             if has_failed {
@@ -60,10 +60,24 @@ fn text_of_pieces(
             }
         }
     }
-    if let Some(answer) = pieces.answer::<Types>(alloc, request.type_name, true)? {
+    if let Some(answer) = next_answer(&mut pieces, alloc, request.type_name, true)? {
         push_answer(&mut text, alloc, action, answer, came)?;
     }
     Ok(text)
+}
+
+/// The next answer for pieces. There is none if no type has the name.
+fn next_answer(
+    pieces: &mut Pieces,
+    alloc: Global,
+    name: &str,
+    is_end: bool,
+) -> Result<Option<Answer>, AllocError> {
+    match pieces.answer::<Types>(alloc, name, is_end) {
+        Ok(answer) => Ok(answer),
+        Err(PiecesError::NoType) => Ok(None),
+        Err(PiecesError::Memory) => Err(AllocError),
+    }
 }
 
 /// Appends an answer that says something, behind the number of octets that came before it.
