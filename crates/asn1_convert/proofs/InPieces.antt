@@ -169,12 +169,12 @@ module _ (from : CodecForm) (to : OutputForm) (given written : List ℕ) where
           ((n : ℕ) → answer.missing ≡ Some n → ended ≡ true) →
           MatchOption o (HasNoFront from left × (ended ≡ true → left ≡ []))
           (λ line. IsRefused from to ended (h.count + answer.converted.values) (length (h.octets ++ octets)) left (line_of line))
-      as_asked ended None is only_at_end = (nothing_waits from left is.left, λ _. is.left)
+      as_asked ended None is only_at_end = (nothing_waits from left is.none_left, λ _. is.none_left)
       as_asked ended (Some line) is only_at_end = refused ended (line_of line) is only_at_end
 
       no_front_left : (o : Option S) (n : ℕ) → MatchOption o (IsToTheEnd answer left) (λ line. StopsAt old.before from answer left (line_of line)) →
           answer.missing ≡ Some n → HasNoFront from left
-      no_front_left None n is missing = nothing_waits from left is.left
+      no_front_left None n is missing = nothing_waits from left is.none_left
       no_front_left (Some line) n is missing = cut_off_waits from left is.stop.cause n is.cause (sym is.missing ∙ missing)
 
       by : (ended : Bool) (missing : Option ℕ) → answer.missing ≡ missing → (ended ≡ true → settled ≡ asked) → (missing ≡ None → settled ≡ asked) →

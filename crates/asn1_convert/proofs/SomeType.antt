@@ -76,7 +76,7 @@ module _ {V : Type 0} (m : Meaning V) (eq : V → V → Bool) (refusals : Refusa
         parts = p.parts;
         converted = p.converted;
         long = whole.octets ∙ ap length (p.parts ∙ append-nil p.octets);
-        rest = record { left = refl; missing = whole.missing };
+        rest = record { none_left = refl; missing = whole.missing };
       }
   rest_of line_of (Some line) before from to input answer stopped =
       let stop = stopped.stop in

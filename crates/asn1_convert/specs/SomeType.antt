@@ -55,7 +55,7 @@ pub record StopsAt (before : Converted) (from : CodecForm) (answer : Answer) (le
 
 -- All of an input was converted.
 pub record IsToTheEnd (answer : Answer) (left : List ℕ) : Type 0 where
-  pub left : left ≡ []
+  pub none_left : left ≡ []
   pub missing : answer.missing ≡ None
 
 -- Values of the input were converted up to its end, or up to one that a line names.

@@ -70,10 +70,16 @@ fn convert_piece<L: TypeList, W: Write>(
         Err(PiecesError::Memory) => Some(Outcome::NoMemory),
         Ok(None) => None,
         Ok(Some(answer)) => {
-            if !write_output(&answer, writer) {
+            let Answer {
+                converted: _,
+                output,
+                failure,
+                missing: _,
+            } = answer;
+            if !write_output(output.as_slice(), writer) {
                 return Some(Outcome::NotWritten);
             }
-            match answer.failure {
+            match failure {
                 Some(line) => Some(Outcome::Refused(line)),
                 None if is_end => Some(Outcome::Done),
                 None => None,
@@ -117,10 +123,16 @@ pub fn answer_input<L: TypeList, R: Read, W: Write>(
         None => Outcome::NoType,
         Some(Err(_)) => Outcome::NoMemory,
         Some(Ok(answer)) => {
-            if !write_output(&answer, writer) {
+            let Answer {
+                converted: _,
+                output,
+                failure,
+                missing: _,
+            } = answer;
+            if !write_output(output.as_slice(), writer) {
                 return Outcome::NotWritten;
             }
-            match answer.failure {
+            match failure {
                 Some(line) => Outcome::Refused(line),
                 None => Outcome::Done,
             }
@@ -144,10 +156,10 @@ fn octets_of(
     }
 }
 
-/// Writes the output of an answer, and tells whether it was written.
-fn write_output<W: Write>(answer: &Answer, writer: &mut W) -> bool
+/// Writes an output, and tells whether it was written.
+fn write_output<W: Write>(output: &[u8], writer: &mut W) -> bool
     ensures { result ≡ true →
-        Appends (W.contents writer.old) (W.contents writer.new) answer.now.output.items }
+        Appends (W.contents writer.old) (W.contents writer.new) output.now }
 {
-    writer.write_all(answer.output.as_slice()).is_ok() && writer.flush().is_ok()
+    writer.write_all(output).is_ok() && writer.flush().is_ok()
 }
