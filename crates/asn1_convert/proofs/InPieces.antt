@@ -2,7 +2,8 @@
 use Rattle.std.proofs.Common.{◌≡◌, ◌∙◌, ◌+◌, ◌<◌, ◌≤◌, ◌^◌, ◌-◌, ℕ, suc, min, Bool, true, false, List, [], ◌∷◌, ◌++◌, Some, None, ap, append_assoc, append-nil, arith, drop, length, length-append, refl, subst, sym}
 use Rattle.std.proofs.Math.Logic.{∥∥₁_elim}
 use Rattle.std.proofs.Math.Seq.{drop-append_seam}
-use Rattle.std.specs.Prelude.{Option, MatchOption, IfSome}
+use Rattle.std.specs.Prelude.{Option, MatchOption, IfSome, IsOk, Result, Err, ⊤}
+use Rattle.asn1_ber_items.specs.Spellings.{SpellsOne}
 use Rattle.std.specs.String.{string_bytes}
 use Rattle.asn1_bench.specs.Fronts as packed
 use Rattle.asn1_ber.specs.Cuts as ber
@@ -32,7 +33,7 @@ front_within Packed octets n cut = packed.cut_within octets n cut
 
 -- no octets have no front
 pub nothing_waits : (form : CodecForm) (octets : List ℕ) → octets ≡ [] → HasNoFront form octets
-nothing_waits form octets is n front = omega (arith, front_has_octets form octets n front, front_within form octets n front, ap length is)
+nothing_waits form octets is = λ n front. omega (arith, front_has_octets form octets n front, front_within form octets n front, ap length is)
 
 -- a sum of what was converted, and of more behind it
 sum_of : (most a b n : ℕ) → a ≡ min (0 + b) most → min (a + n) most ≡ min (0 + (b + n)) most
@@ -68,11 +69,18 @@ missing_cause Memory count is = cc
 -- octets that end inside a value have no front
 cut_off_waits : (from : CodecForm) (left : List ℕ) (cause : Cause) (count : ℕ) → IsCauseAt from left cause → missing_octets cause ≡ Some count →
     HasNoFront from left
-cut_off_waits from left cause count is missing n front =
+cut_off_waits from left cause count is missing = λ n front.
     let no_front = subst (IsCauseAt from left) (missing_cause cause count missing) is in
     let e = no_front n front in cc
 
-module _ (from : CodecForm) (to : OutputForm) (given written : List ℕ) where
+-- octets whose first element has no end have no front
+pub element_waits : {E : Type 0} (octets : List ℕ) (result : Result ⊤ E) (e : E) → result ≡ Err e →
+    ((normal rest : List ℕ) → SpellsOne octets normal rest → IsOk result) → HasNoFront Ber octets
+element_waits octets result e is found = λ n cut.
+    let ok = found cut.normal cut.rest cut.one in
+    let wrong = subst (λ r. IsOk r) is ok in cc
+
+module _ (from : CodecForm) (to : OutputForm) where
   -- nothing came yet
   pub holds_nothing : (new : Pieces) → unread new ≡ [] → new.before.values ≡ 0 → new.before.octets ≡ 0 → new.from ≡ from → new.to ≡ to →
       ((octets : List ℕ) → HasCome new.search octets) → Holds from to new [] []
@@ -88,6 +96,7 @@ module _ (from : CodecForm) (to : OutputForm) (given written : List ℕ) where
     searched = ∣ came (unread new) ∣₁;
   }
 
+module _ (from : CodecForm) (to : OutputForm) (given written : List ℕ) where
   -- a piece came
   pub holds_more : (old new : Pieces) (piece : List ℕ) → unread new ≡ unread old ++ piece → new.before ≡ old.before → new.from ≡ old.from →
       new.to ≡ old.to → new.search ≡ old.search → Holds from to old given written → Holds from to new (given ++ piece) written
@@ -139,7 +148,7 @@ module _ (from : CodecForm) (to : OutputForm) (given written : List ℕ) where
       (is_end ≡ true → settled ≡ asked) → (answer.missing ≡ None → settled ≡ asked) → IfSome answer.missing (λ _. is_end ≡ false → settled ≡ None) →
       MatchOption settled (HasNoFront from left × (is_end ≡ true → left ≡ []))
       (λ line. IsRefused from to is_end (h.count + answer.converted.values) (length (h.octets ++ octets)) left (line_of line))
-  rest_of line_of old is_end answer asked settled octets left h long rest at_end whole waits = by is_end answer.missing refl at_end whole waits
+  rest_of {S = S} line_of old is_end answer asked settled octets left h long rest at_end whole cleared = by is_end answer.missing refl at_end whole cleared
     where
       refused : (ended : Bool) (line : List ℕ) → StopsAt old.before from answer left line → ((n : ℕ) → answer.missing ≡ Some n → ended ≡ true) →
           IsRefused from to ended (h.count + answer.converted.values) (length (h.octets ++ octets)) left line
@@ -181,15 +190,15 @@ module _ (from : CodecForm) (to : OutputForm) (given written : List ℕ) where
           IfSome missing (λ _. ended ≡ false → settled ≡ None) →
           MatchOption settled (HasNoFront from left × (ended ≡ true → left ≡ []))
           (λ line. IsRefused from to ended (h.count + answer.converted.values) (length (h.octets ++ octets)) left (line_of line))
-      by true missing is at_end whole waits = subst (λ o. MatchOption o (HasNoFront from left × (true ≡ true → left ≡ []))
+      by true missing is at_end whole cleared = subst (λ o. MatchOption o (HasNoFront from left × (true ≡ true → left ≡ []))
           (λ line. IsRefused from to true (h.count + answer.converted.values) (length (h.octets ++ octets)) left (line_of line)))
           (sym (at_end refl)) (as_asked true asked rest (λ n _. refl))
-      by false None is at_end whole waits = subst (λ o. MatchOption o (HasNoFront from left × (false ≡ true → left ≡ []))
+      by false None is at_end whole cleared = subst (λ o. MatchOption o (HasNoFront from left × (false ≡ true → left ≡ []))
           (λ line. IsRefused from to false (h.count + answer.converted.values) (length (h.octets ++ octets)) left (line_of line)))
           (sym (whole refl)) (as_asked false asked rest (λ n some. let e = sym is ∙ some in cc))
-      by false (Some n) is at_end whole waits = subst (λ o. MatchOption o (HasNoFront from left × (false ≡ true → left ≡ []))
+      by false (Some n) is at_end whole cleared = subst (λ o. MatchOption o (HasNoFront from left × (false ≡ true → left ≡ []))
           (λ line. IsRefused from to false (h.count + answer.converted.values) (length (h.octets ++ octets)) left (line_of line)))
-          (sym (waits refl)) (no_front_left asked n rest is, λ e. cc)
+          (sym (cleared refl)) (no_front_left asked n rest is, λ e. cc)
 
   -- An answer came, whose failure was settled, and what it converted was taken out.
   pub answered : (old new : Pieces) (is_end : Bool) (answer settled : Answer) → ConvertsSome old.before old.from old.to (unread old) answer →
@@ -201,7 +210,7 @@ module _ (from : CodecForm) (to : OutputForm) (given written : List ℕ) where
       new.before.octets ≡ sum_within old.before.octets settled.converted.octets →
       new.from ≡ old.from → new.to ≡ old.to → ((octets : List ℕ) → HasCome new.search octets) →
       Holds from to old given written → Answers from to new is_end given written settled
-  answered old new is_end answer settled some same at_end whole waits taken values octets reads writes came h =
+  answered old new is_end answer settled some same at_end whole cleared taken values octets reads writes came h =
       let s = subst (λ t. ConvertsSome old.before from t (unread old) answer) h.writes (subst (λ f. ConvertsSome old.before f old.to (unread old) answer) h.reads some) in
       let most = 2 ^ 64 - 1 in
       let left : unread new ≡ s.left =
@@ -225,5 +234,5 @@ module _ (from : CodecForm) (to : OutputForm) (given written : List ℕ) where
         };
         rest = subst (λ l. MatchOption settled.failure (HasNoFront from l × (is_end ≡ true → l ≡ []))
             (λ line. IsRefused from to is_end (h.count + answer.converted.values) (length (h.octets ++ s.octets)) l (string_bytes line))) (sym left)
-            (rest_of (λ line. string_bytes line) old is_end answer answer.failure settled.failure s.octets s.left h s.long s.rest at_end whole waits);
+            (rest_of (λ line. string_bytes line) old is_end answer answer.failure settled.failure s.octets s.left h s.long s.rest at_end whole cleared);
       }

@@ -4,7 +4,7 @@ ghost use Rattle.asn1_convert.specs.Runs.{AreOctetsOf, EndsAt, EndsConversion, E
 ghost use Rattle.std.specs.Io.KnownBytes.{Appends};
 ghost use Rattle.asn1_convert.specs.declared.form.CodecForm.{CodecForm};
 ghost use Rattle.asn1_convert.specs.declared.form.OutputForm.{OutputForm};
-ghost use Rattle.std.specs.Prelude.{◌≡◌, ◌++◌, ℕ, true, List, MatchOption, MatchResult, Option};
+ghost use Rattle.std.specs.Prelude.{◌≡◌, ◌<◌, ◌++◌, ℕ, length, true, List, MatchOption, MatchResult, OnOk, Option};
 
 use crate::form::{CodecForm, OutputForm};
 use crate::hexadecimal::{DigitsError, octets_of_digits};
@@ -12,7 +12,7 @@ use crate::outcome::Outcome;
 use crate::pieces::{Pieces, PiecesError};
 use crate::task::{Action, Answer, Converted, Task, TypeList};
 use std::alloc::Global;
-use std::io::{Read, Write};
+use std::io::{self, Read, Write};
 
 /// How many nested scopes may be open.
 const DEPTH: usize = 64;
@@ -32,10 +32,27 @@ pub fn convert_input<L: TypeList, R: Read, W: Write>(
     ensures { EndsConversion from to (R.remaining reader.old) (R.remaining reader.new)
         (W.contents writer.old) (W.contents writer.new) result }
 {
-    let mut pieces = Pieces::new(alloc, from, to, DEPTH);
     let mut room = [0u8; PIECE];
+    convert_pieces::<L, R, W>(alloc, name, from, to, reader, &mut room, writer)
+}
+
+/// The same with room for a piece.
+fn convert_pieces<L: TypeList, R: Read, W: Write>(
+    alloc: Global,
+    name: &str,
+    from: CodecForm,
+    to: OutputForm,
+    reader: &mut R,
+    room: &mut [u8],
+    writer: &mut W,
+) -> Outcome
+    requires some_room { 0 < length room.old }
+    ensures { EndsConversion from to (R.remaining reader.old) (R.remaining reader.new)
+        (W.contents writer.old) (W.contents writer.new) result }
+{
+    let mut pieces = Pieces::new(alloc, from, to, DEPTH);
     for _ in 0..u64::MAX {
-        let Ok(size) = reader.read(&mut room) else {
+        let Ok(size) = reader.read(room) else {
             return Outcome::NotRead;
         };
         let piece = &room[..size];
@@ -58,13 +75,13 @@ fn convert_piece<L: TypeList, W: Write>(
     writer: &mut W,
 ) -> Option<Outcome>
     ensures { (from : CodecForm) (to : OutputForm) (given : List ℕ) (first : Option (List ℕ)) →
-        GoesOn from to pieces.old given first (W.contents writer.old) → MatchOption result
-        (GoesOn from to pieces.new (given ++ piece.now) first (W.contents writer.new))
+        GoesOn from to given pieces.old first (W.contents writer.old) → MatchOption result
+        (GoesOn from to (given ++ piece.now) pieces.new first (W.contents writer.new))
         (EndsAt from to (given ++ piece.now) is_end first (W.contents writer.new)) }
 {
-    if pieces.append(piece).is_err() {
+    let Ok(()) = pieces.append(piece) else {
         return Some(Outcome::NoMemory);
-    }
+    };
     match pieces.answer::<L>(alloc, name, is_end) {
         Err(PiecesError::NoType) => Some(Outcome::NoType),
         Err(PiecesError::Memory) => Some(Outcome::NoMemory),
@@ -76,9 +93,9 @@ fn convert_piece<L: TypeList, W: Write>(
                 failure,
                 missing: _,
             } = answer;
-            if !write_output(output.as_slice(), writer) {
+            let Ok(()) = write_output(output.as_slice(), writer) else {
                 return Some(Outcome::NotWritten);
-            }
+            };
             match failure {
                 Some(line) => Some(Outcome::Refused(line)),
                 None if is_end => Some(Outcome::Done),
@@ -101,9 +118,9 @@ pub fn answer_input<L: TypeList, R: Read, W: Write>(
         (W.contents writer.old) (W.contents writer.new) result }
 {
     let mut input = Vec::new(alloc);
-    if reader.read_to_end(&mut input).is_err() {
+    let Ok(_size) = reader.read_to_end(&mut input) else {
         return Outcome::NotRead;
-    }
+    };
     let octets = match octets_of(alloc, input, is_hexadecimal) {
         Ok(octets) => octets,
         Err(DigitsError::Memory) => return Outcome::NoMemory,
@@ -129,9 +146,9 @@ pub fn answer_input<L: TypeList, R: Read, W: Write>(
                 failure,
                 missing: _,
             } = answer;
-            if !write_output(output.as_slice(), writer) {
+            let Ok(()) = write_output(output.as_slice(), writer) else {
                 return Outcome::NotWritten;
-            }
+            };
             match failure {
                 Some(line) => Outcome::Refused(line),
                 None => Outcome::Done,
@@ -156,10 +173,16 @@ fn octets_of(
     }
 }
 
-/// Writes an output, and tells whether it was written.
-fn write_output<W: Write>(output: &[u8], writer: &mut W) -> bool
-    ensures { result ≡ true →
-        Appends (W.contents writer.old) (W.contents writer.new) output.now }
+/// Writes an output, and flushes the writer.
+fn write_output<W: Write>(output: &[u8], writer: &mut W) -> io::Result<()>
+    ensures { OnOk result
+        (Appends (W.contents writer.old) (W.contents writer.new) output.now) }
 {
-    writer.write_all(output).is_ok() && writer.flush().is_ok()
+    match writer.write_all(output) {
+        Ok(()) => match writer.flush() {
+            Ok(()) => Ok(()),
+            Err(error) => Err(error),
+        },
+        Err(error) => Err(error),
+    }
 }

@@ -1,4 +1,7 @@
 //! The conversion of an input that comes in pieces.
+ghost use Rattle.asn1_ber_items.specs.Progress.{HasCome};
+ghost use Rattle.asn1_convert.specs.SomeType.{HasNoFront};
+ghost use Rattle.asn1_convert.specs.declared.form.CodecForm.TheVariants.{Ber};
 ghost use Rattle.std.specs.Prelude.{◌≡◌, ◌++◌, [], false, true, ℕ, drop, IfOk, IfSome, List, MatchOption, OnErr, OnOk};
 
 use crate::form::{CodecForm, OutputForm};
@@ -32,16 +35,14 @@ pub struct Pieces {
     search: Progress,
 }
 
-#[tactic(auto, using(crate::proofs::InPieces::holds_nothing, crate::proofs::InPieces::holds_more, crate::proofs::InPieces::waits))]
 impl Pieces {
-    ghost use Rattle.asn1_ber_items.specs.Progress.{HasCome};
     ghost use Rattle.asn1_convert.specs.Pieces.{Answers, Holds, Waits, unread};
-    ghost use Rattle.asn1_convert.specs.SomeType.{HasNoFront};
     ghost use Rattle.asn1_convert.specs.Lines.{sum_within};
     ghost use Rattle.asn1_convert.specs.declared.form.CodecForm.{CodecForm};
     ghost use Rattle.asn1_convert.specs.declared.form.OutputForm.{OutputForm};
 
     /// No octets of values by the codec `from`, to be written in the form `to` with at most this many nested scopes.
+    #[tactic(auto, using(crate::proofs::InPieces::holds_nothing))]
     pub fn new(alloc: Global, from: CodecForm, to: OutputForm, depth: usize) -> Pieces
         ensures { Holds from to result [] [] }
     {
@@ -59,6 +60,7 @@ impl Pieces {
     }
 
     /// Takes the next octets of the input.
+    #[tactic(auto, using(crate::proofs::InPieces::holds_more))]
     pub fn append(&mut self, piece: &[u8]) -> Result<(), AllocError>
         ensures ok { OnOk result ((from : CodecForm) (to : OutputForm) (given written : List ℕ) →
             Holds from to self.old given written → Holds from to self.new (given ++ piece.now) written) }
@@ -86,8 +88,8 @@ impl Pieces {
             (Waits from to self.new given written)
             (Answers from to self.new is_end given written)) }
     {
-        let is_whole = self.is_whole(alloc);
-        if !is_end && !is_whole {
+        let waits = self.waits(alloc);
+        if !is_end && waits {
             return Ok(None);
         }
         let task = Task {
@@ -111,21 +113,18 @@ impl Pieces {
         }
     }
 
-    /// Whether the octets hold a whole value, or begin none.
-    fn is_whole(&mut self, alloc: Global) -> bool
+    /// Whether the octets end inside a value.
+    fn waits(&mut self, alloc: Global) -> bool
         ensures same { self.new ≡ record self.old { search = self.new.search } }
         ensures searched { ∥ HasCome self.old.search (unread self.old) ∥₁ →
             ∥ HasCome self.new.search (unread self.old) ∥₁ }
-        ensures no_front { result ≡ false → ∥ HasCome self.old.search (unread self.old) ∥₁ →
+        ensures no_front { result ≡ true → ∥ HasCome self.old.search (unread self.old) ∥₁ →
             HasNoFront self.old.from (unread self.old) }
     {
-        let found = match self.from {
-            CodecForm::Ber => find_end(&self.octets, &mut self.search),
-            CodecForm::Der | CodecForm::Packed => {
-                front_length(alloc, self.from, &self.octets).map(|_| ())
-            }
-        };
-        !matches!(found, Err(ItemError::Missing(_)))
+        match self.from {
+            CodecForm::Ber => ends_inside_element(&self.octets, &mut self.search),
+            form => ends_inside_front(alloc, form, &self.octets),
+        }
     }
 
     /// Takes out what was converted.
@@ -145,6 +144,29 @@ impl Pieces {
         self.search = Progress::new();
         self.octets = kept;
         Ok(())
+    }
+}
+
+/// Whether octets end inside the element of BER with which they begin, where a search for its end came so far.
+#[tactic(auto, using(crate::proofs::InPieces::element_waits))]
+fn ends_inside_element(octets: &[u8], search: &mut Progress) -> bool
+    ensures searched { ∥ HasCome search.old octets.now ∥₁ → ∥ HasCome search.new octets.now ∥₁ }
+    ensures no_front { result ≡ true → ∥ HasCome search.old octets.now ∥₁ →
+        HasNoFront Ber octets.now }
+{
+    match find_end(octets, search) {
+        Err(ItemError::Missing(_)) => true,
+        _ => false,
+    }
+}
+
+/// Whether octets end inside the element or item with which they begin.
+fn ends_inside_front(alloc: Global, form: CodecForm, octets: &[u8]) -> bool
+    ensures { result ≡ true → HasNoFront form octets.now }
+{
+    match front_length(alloc, form, octets) {
+        Err(ItemError::Missing(_)) => true,
+        _ => false,
     }
 }
 

@@ -36,8 +36,13 @@ pub struct Converted {
 }
 
 impl Converted {
+    ghost use Rattle.asn1_convert.specs.Lines.{sum_within};
+
     /// The sum of this and of more behind it.
-    pub(crate) fn followed_by(self, more: Converted) -> Converted {
+    pub(crate) fn followed_by(self, more: Converted) -> Converted
+        ensures values { result.values ≡ sum_within self.values more.values }
+        ensures octets { result.octets ≡ sum_within self.octets more.octets }
+    {
         Converted {
             values: self.values.saturating_add(more.values),
             octets: self.octets.saturating_add(more.octets),
