@@ -157,11 +157,11 @@ module _ (from : CodecForm) (to : OutputForm) (given written : List ℕ) where
           let most = 2 ^ 64 - 1 in
           let number : sum_within (sum_within old.before.values s.stop.before) 1 ≡ sum_within (h.count + answer.converted.values) 1 =
           subst (λ n. sum_within (sum_within old.before.values n) 1 ≡ sum_within (h.count + answer.converted.values) 1) s.values
-              (next_of most old.before.values h.count answer.converted.values h.values) in
+          (next_of most old.before.values h.count answer.converted.values h.values) in
           let position : sum_within old.before.octets s.stop.start ≡ sum_within 0 (length (h.octets ++ octets)) =
           subst (λ n. sum_within old.before.octets n ≡ sum_within 0 (length (h.octets ++ octets))) s.octets
-              (sum_of most old.before.octets (length h.octets) answer.converted.octets h.position
-              ∙ ap (λ n. min (0 + n) most) (ap (λ n. length h.octets + n) long ∙ sym (length-append h.octets octets))) in
+          (sum_of most old.before.octets (length h.octets) answer.converted.octets h.position
+          ∙ ap (λ n. min (0 + n) most) (ap (λ n. length h.octets + n) long ∙ sym (length-append h.octets octets))) in
           record {
             cause = s.stop.cause;
             because = s.cause;

@@ -22,7 +22,7 @@ module _ (from : CodecForm) (to : OutputForm) (given : List ℕ) where
       Appends before after answer.output.items → GoesOn from to given pieces first after
   answer_given pieces is_end answer first before after written is none wrote more =
       let rest = subst (λ o. MatchOption o (HasNoFront from (unread pieces) × (is_end ≡ true → unread pieces ≡ []))
-          (λ line. IsRefused from to is_end is.holds.count (length is.holds.octets) (unread pieces) (string_bytes line))) none is.rest in
+      (λ line. IsRefused from to is_end is.holds.count (length is.holds.octets) (unread pieces) (string_bytes line))) none is.rest in
       record {
         written = written ++ answer.output.items;
         waits = record { holds = is.holds; no_front = rest.0 };
@@ -35,15 +35,17 @@ module _ (from : CodecForm) (to : OutputForm) (given : List ℕ) where
       Appends before after answer.output.items → ConvertsGiven from to given first after [] × (is_end ≡ true)
   last_given pieces is_end answer first before after written is none ended wrote more =
       let rest = subst (λ o. MatchOption o (HasNoFront from (unread pieces) × (is_end ≡ true → unread pieces ≡ []))
-          (λ line. IsRefused from to is_end is.holds.count (length is.holds.octets) (unread pieces) (string_bytes line))) none is.rest in
-      (record {
-        octets = is.holds.octets;
-        written = written ++ answer.output.items;
-        count = is.holds.count;
-        parts = is.holds.parts ∙ ap (λ l. is.holds.octets ++ l) (rest.1 ended);
-        converted = is.holds.converted;
-        wrote = Appends-trans first before after written answer.output.items wrote more;
-      }, ended)
+      (λ line. IsRefused from to is_end is.holds.count (length is.holds.octets) (unread pieces) (string_bytes line))) none is.rest in (
+        record {
+          octets = is.holds.octets;
+          written = written ++ answer.output.items;
+          count = is.holds.count;
+          parts = is.holds.parts ∙ ap (λ l. is.holds.octets ++ l) (rest.1 ended);
+          converted = is.holds.converted;
+          wrote = Appends-trans first before after written answer.output.items wrote more;
+        },
+        ended,
+      )
 
   -- an answer with a failure was written
   pub refusal_given : {S : Type 0} (line_of : S → List ℕ) (failure : Option S) (line : S) (pieces : Pieces) (is_end : Bool) (output : List ℕ)

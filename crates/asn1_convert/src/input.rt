@@ -56,9 +56,14 @@ fn convert_pieces<L: TypeList, R: Read, W: Write>(
             return Outcome::NotRead;
         };
         let piece = &room[..size];
-        if let Some(outcome) =
-            convert_piece::<L, W>(alloc, name, &mut pieces, piece, size == 0, writer)
-        {
+        if let Some(outcome) = convert_piece::<L, W>(
+            alloc,
+            name,
+            &mut pieces,
+            piece,
+            size == 0,
+            writer,
+        ) {
             return outcome;
         }
     }
@@ -158,11 +163,7 @@ pub fn answer_input<L: TypeList, R: Read, W: Write>(
 }
 
 /// The octets of an input: its own, or those whose hexadecimal digits it has.
-fn octets_of(
-    alloc: Global,
-    input: Vec<u8>,
-    is_hexadecimal: bool,
-) -> Result<Vec<u8>, DigitsError>
+fn octets_of(alloc: Global, input: Vec<u8>, is_hexadecimal: bool) -> Result<Vec<u8>, DigitsError>
     ensures { MatchResult result (λ octets. AreOctetsOf is_hexadecimal octets.items input.items)
         (λ e. (is_hexadecimal ≡ true) × IsDigitsError input.items e) }
 {

@@ -5,9 +5,8 @@ ghost use Rattle.std.specs.Prelude.{◌≡◌, ◌≤◌};
 use crate::arguments::{action_of, matches_of};
 use crate::input::{answer_input, convert_input};
 use crate::task::{Action, TypeList};
-use std::env;
-use std::io;
 use std::process::ExitCode;
+use std::{env, io};
 
 /// The status where the arguments are wrong.
 const FAILED: u8 = 2;
