@@ -21,6 +21,12 @@ use Rattle.asn1_convert.specs.declared.stream.Cause.{Cause}
 use Rattle.asn1_convert.specs.declared.stream.Cause.TheVariants.{NoFront, NotRecoded, Memory}
 use Rattle.asn1_convert.specs.declared.stream.Stop.{Stop}
 
+-- The line of a text of JSON, which is one document.
+pub record IsLineOfDocument (line : List ℕ) : Type 0 where
+  pub text : List ℕ
+  pub ended : line ≡ text ++ 10 ∷ []
+  pub one_document : IsSomeAnd (document text) HasUniqueKeys
+
 module _ {V : Type 0} (m : Meaning V) (eq : V → V → Bool) (refusals : Refusals) (depth : ℕ) where
   -- Reading these octets may give this answer. If they carry a valid value of a well-tagged type it is an equal one, and if they carry
   -- records that the type refuses it is no value.
@@ -37,12 +43,6 @@ module _ {V : Type 0} (m : Meaning V) (eq : V → V → Bool) (refusals : Refusa
   abbrev pub IsOfNoValue : {O : Type 0} → Format O → CodecForm → List ℕ → RecodeError → Type 0
   IsOfNoValue to from octets (Read e) = MayBeRead from octets (Err e)
   IsOfNoValue to from octets (Write e) = (v : V) × IsNotWritten to (own_records m v) depth e × MayBeRead from octets (Ok v)
-
-  -- The line of a text of JSON, which is one document.
-  pub record IsLineOfDocument (line : List ℕ) : Type 0 where
-    pub text : List ℕ
-    pub ended : line ≡ text ++ 10 ∷ []
-    pub one_document : IsSomeAnd (document text) HasUniqueKeys
 
   -- A text of the value was written, as a line of octets.
   abbrev pub IsLineOfValue : Type 0 → CodecForm → List ℕ → Vec ℕ Global → Type 0

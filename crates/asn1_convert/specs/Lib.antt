@@ -4,3 +4,6 @@ pub mod Conversions
 pub mod Digits
 pub mod Forms
 pub mod Lines
+pub mod Pieces
+pub mod Runs
+pub mod SomeType

@@ -2,8 +2,9 @@
 //!
 //! | Item | What it is | In `specs/` |
 //! |---|---|---|
-//! | [`run`], [`TypeList`] | the program over a list of types | |
-//! | [`Pieces`] | an input that comes in pieces | |
+//! | [`run`], [`TypeList`] | the program over a list of types | `SomeType` |
+//! | [`convert_input`], [`answer_input`], [`Outcome`] | its work on an input, and how that ends | `Runs`, `SomeType` |
+//! | [`Pieces`] | an input that comes in pieces | `Pieces` |
 //! | [`Task`], [`Action`], [`Answer`], [`Converted`] | what is asked of the octets of values of a type, and what is written for it | `Answers`, `Lines` |
 //! | [`convert_values`], [`Conversion`], [`Stop`], [`Cause`] | values one after another, in another form | `Conversions` |
 //! | [`convert_value`], [`recode_between`] | the octets of one value | `Conversions` |
@@ -31,10 +32,15 @@
 //! - Hexadecimal digits are read as the octets that they stand for, with white space anywhere; another text is refused with the first
 //!   position at which it is none (`AreDigitsOf`, `IsFirstFault` of `specs/Digits.antt`).
 //!
+//! - Over any reader and writer that tell their bytes, a program has the values of an input converted and written as soon as they are
+//!   whole, once and in order, up to the end or to the value that its line names. It ends with 0 only if all of the input was
+//!   converted, or checked, and with 1 only if a line names a value or the input is refused (`EndsConversion`, `EndsWork` and
+//!   `status_of` of `specs/Runs.antt`). Which type has a name no contract says: these words hold whatever the type is, and
+//!   [`Task::perform`] says of its type what is written.
+//!
 //! No contract covers texts in X.680's notation (`asn1_value_text`), nor the cause in a line on standard error, nor the place inside a
-//! value that it names (`asn1_paths`); the stored run of test_converters shows them. None covers what [`run`] does with the answers.
-//! A program converts its input as it comes ([`Pieces`], of which no contract says more than that it ends), and keeps the octets of the
-//! value that is not there whole, and all those of `--check` and `--hex`.
+//! value that it names (`asn1_paths`); the stored run of test_texts shows them. Only the source shows that [`run`] passes on arguments,
+//! status and line. It keeps the octets of the value that is not there whole, and all those of `--check` and `--hex`.
 #![tactic(auto)]
 
 mod arguments;
@@ -47,6 +53,8 @@ mod failing_place;
 mod form;
 mod fronts;
 mod hexadecimal;
+mod input;
+mod outcome;
 mod pieces;
 mod places;
 mod program;
@@ -59,7 +67,9 @@ mod type_faults;
 pub use check::{CheckError, CheckFault, check_der, check_fault};
 pub use form::{CodecForm, OutputForm};
 pub use fronts::front_length;
-pub use pieces::Pieces;
+pub use input::{answer_input, convert_input};
+pub use outcome::Outcome;
+pub use pieces::{Pieces, PiecesError};
 pub use program::run;
 pub use recoding::{convert_value, recode_between};
 pub use stream::{Cause, Conversion, Stop, convert_values};

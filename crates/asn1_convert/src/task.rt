@@ -1,6 +1,7 @@
 //! The work of a program on the octets of values of a type.
 ghost use Rattle.asn1_convert.specs.Answers.{IsAnswer, IsConversion, IsVerdict, missing_octets};
-ghost use Rattle.std.specs.Prelude.{◌≡◌, IfOk};
+ghost use Rattle.asn1_convert.specs.SomeType.{IsAnswerOfSomeType};
+ghost use Rattle.std.specs.Prelude.{◌≡◌, IfOk, IfSome};
 
 use crate::check::{check_der, check_line};
 use crate::form::{CodecForm, OutputForm};
@@ -35,8 +36,13 @@ pub struct Converted {
 }
 
 impl Converted {
+    ghost use Rattle.asn1_convert.specs.Lines.{sum_within};
+
     /// The sum of this and of more behind it.
-    pub(crate) fn followed_by(self, more: Converted) -> Converted {
+    pub(crate) fn followed_by(self, more: Converted) -> Converted
+        ensures values { result.values ≡ sum_within self.values more.values }
+        ensures octets { result.octets ≡ sum_within self.octets more.octets }
+    {
         Converted {
             values: self.values.saturating_add(more.values),
             octets: self.octets.saturating_add(more.octets),
@@ -78,7 +84,9 @@ pub trait TypeList {
     fn names() -> &'static str;
 
     /// The answer of the type of that name, by [`Task::perform`]; `None` if no type has the name.
-    fn answer(name: &str, task: Task<'_>) -> Option<Result<Answer, AllocError>>;
+    fn answer(name: &str, task: Task<'_>) -> Option<Result<Answer, AllocError>>
+        ensures { IfSome result (λ answered. IfOk answered (IsAnswerOfSomeType
+            task.entry.input.now.items task.entry.before task.entry.action)) };
 }
 
 impl<'a> Task<'a> {
@@ -88,8 +96,10 @@ impl<'a> Task<'a> {
     /// # Errors
     /// [`AllocError`] if memory runs out for the answer. A value for whose conversion it does is a failure.
     pub fn perform<T: Encode + Decode + Drop>(self) -> Result<Answer, AllocError>
-        ensures { IfOk result (IsAnswer T.meaning T.eq T.refusals self.entry.depth
+        ensures answers { IfOk result (IsAnswer T.meaning T.eq T.refusals self.entry.depth
             self.entry.input.now self.entry.before self.entry.action) }
+        ensures of_some_type { IfOk result (IsAnswerOfSomeType
+            self.entry.input.now.items self.entry.before self.entry.action) }
     {
         match self.action {
             Action::Convert { from, to } => self.convert::<T>(from, to),

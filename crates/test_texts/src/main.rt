@@ -1,18 +1,30 @@
-//! Writes values as texts, by lines that it reads from standard input.
+//! Writes values as texts, and does the work of a program of `asn1_convert`, by lines that it reads from standard input.
 //!
-//! A line is `TYPE OCTETS`, and after ` ; ` what is in it: the name of a type in the lists of `test_calls`, and the DER of a value in
-//! hexadecimal. The program writes the line, and after it the value in X.680's notation and as JSON. Lines that are empty or begin with
-//! `#` are written as they are.
+//! | Words | Work |
+//! |---|---|
+//! | `TYPE OCTETS` | the value of which these are the DER, in X.680's notation and as JSON |
+//! | `FROM TO TYPE OCTETS` | values of the type by the codec FROM, written in the form TO |
+//! | `check TYPE OCTETS` | whether the octets are the DER of a value |
+//! | `pieces N FROM TO TYPE OCTETS` | the second work, of octets that come in pieces of N; before each answer, how many have come |
 //!
-//! The stored run is the test. bench/texts.py compares it with Erlang's compiler: the JSON with what that writes of the DER, and the
-//! notation with the DER of the value that it makes of it.
+//! FROM and TO are words of a program of `asn1_convert`. TYPE is a name of the lists of `test_calls` or of `others.rt` in the first
+//! work, of `types.rt` in the others. OCTETS are in hexadecimal, with spaces wherever they help, and after ` ; ` comes what is in them or
+//! what is asked. The program writes the line, the output (octets in hexadecimal), and the line of a value that was refused. Lines that
+//! are empty or begin with `#` are written as they are.
+//!
+//! The stored run is the test. Octets and positions of the lines of `asn1_convert` were made by hand from X.690, those of the packed
+//! codec from the page of asn1_items. bench/texts.py compares the texts of the first work with Erlang's compiler: the JSON with what that
+//! writes of the DER, and the notation with the DER of the value that it makes of it.
 #![tactic(auto)]
 
+mod conversions;
 mod mask;
 mod others;
 mod request;
 mod texts;
+mod types;
 
+use crate::conversions::answers_of;
 use crate::request::Request;
 use crate::texts::texts_of;
 use std::io::{self, BufRead, BufReader};
@@ -23,7 +35,10 @@ fn main(rt: HostRuntime) -> io::Result<()> {
         let line = line?;
         println!(&rt; "{line}")?;
         if let Some(request) = Request::of_line(alloc, line.as_str())? {
-            println!(&rt; "{}", texts_of(alloc, &request)?)?;
+            match request.action {
+                None => println!(&rt; "{}", texts_of(alloc, &request)?)?,
+                Some(action) => print!(&rt; "{}", answers_of(alloc, &request, action)?)?,
+            }
         }
     }
     Ok(())

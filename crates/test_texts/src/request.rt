@@ -1,9 +1,14 @@
 //! The request of a line.
+use asn1_convert::{Action, CodecForm, OutputForm};
 use std::alloc::{AllocError, Global};
 
-/// The DER of a value of a type.
+/// Work on octets of a type.
 #[derive(Drop)]
 pub(crate) struct Request<'a> {
+    /// How many octets come at once, if they come in pieces.
+    pub(crate) piece: Option<usize>,
+    /// The work of a program of `asn1_convert`, or none if texts are asked for.
+    pub(crate) action: Option<Action>,
     /// The name of the type.
     pub(crate) type_name: &'a str,
     /// The octets.
@@ -20,15 +25,57 @@ impl<'a> Request<'a> {
             Some((asked, _comment)) => asked,
             None => line,
         };
-        let Some((type_name, digits)) = asked.split_once(' ') else {
+        let (piece, asked) = piece_of(asked);
+        let (action, rest) = match action_of(asked) {
+            Some((action, rest)) => (Some(action), rest),
+            None => (None, asked),
+        };
+        let Some((type_name, digits)) = rest.split_once(' ') else {
             return Ok(None);
         };
-        let mut octets = Vec::new(alloc);
-        for word in digits.split(' ') {
-            if let Ok(part) = hex::decode(alloc, word) {
-                octets.extend_from_slice(part.as_slice())?;
-            }
-        }
-        Ok(Some(Request { type_name, octets }))
+        let Some(octets) = octets_of(alloc, digits)? else {
+            return Ok(None);
+        };
+        Ok(Some(Request {
+            piece,
+            action,
+            type_name,
+            octets,
+        }))
     }
+}
+
+/// The size of the pieces that the first words ask for, and the rest.
+fn piece_of(asked: &str) -> (Option<usize>, &str) {
+    let Some(("pieces", rest)) = asked.split_once(' ') else {
+        return (None, asked);
+    };
+    match rest.split_once(' ') {
+        Some((size, rest)) => (size.parse().ok(), rest),
+        None => (None, asked),
+    }
+}
+
+/// The work that the first words ask for, and the rest.
+fn action_of(asked: &str) -> Option<(Action, &str)> {
+    let (first, rest) = asked.split_once(' ')?;
+    if first == "check" {
+        return Some((Action::Check, rest));
+    }
+    let (second, rest) = rest.split_once(' ')?;
+    let from = CodecForm::from_word(first)?;
+    let to = OutputForm::from_word(second)?;
+    Some((Action::Convert { from, to }, rest))
+}
+
+/// The octets of words of hexadecimal digits, if they all are.
+fn octets_of(alloc: Global, digits: &str) -> Result<Option<Vec<u8>>, AllocError> {
+    let mut octets = Vec::new(alloc);
+    for word in digits.split(' ') {
+        match hex::decode(alloc, word) {
+            Ok(part) => octets.extend_from_slice(part.as_slice())?,
+            Err(_) => return Ok(None),
+        }
+    }
+    Ok(Some(octets))
 }

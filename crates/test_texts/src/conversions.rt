@@ -1,66 +1,50 @@
-//! Does the work of a program of `asn1_convert`, by lines that it reads from standard input.
-//!
-//! | Words | Work |
-//! |---|---|
-//! | `FROM TO TYPE OCTETS` | values of the type by the codec FROM, written in the form TO |
-//! | `check TYPE OCTETS` | whether the octets are the DER of a value |
-//! | `pieces N FROM TO TYPE OCTETS` | the first work, of octets that come in pieces of N; before each answer, how many have come |
-//!
-//! FROM and TO are words of such a program, TYPE is a name of `types.rt`, and OCTETS are in hexadecimal, with spaces wherever they
-//! help. After ` ; ` comes what is asked there. The program writes the line, the output (octets in hexadecimal), and the line of a
-//! value that was refused. Lines that are empty or begin with `#` are written as they are. The stored run is the test: its octets and
-//! positions were made by hand from X.690, those of the packed codec from the page of asn1_items.
-#![tactic(auto)]
-
-mod request;
-mod types;
-
+//! The work of a program of `asn1_convert`.
 use crate::request::Request;
 use crate::types::Types;
-use asn1_convert::{Action, Answer, Converted, OutputForm, Pieces, Task, TypeList};
+use asn1_convert::{Action, Answer, Converted, OutputForm, Pieces, PiecesError, Task, TypeList};
 use std::alloc::{AllocError, Global};
 use std::fmt::Write;
-use std::io::{self, BufRead, BufReader};
 
 /// How many nested scopes may be open.
 const DEPTH: usize = 64;
 
-fn main(rt: HostRuntime) -> io::Result<()> {
-    let alloc = rt.alloc();
-    for line in BufReader::new(alloc, rt.reader())?.lines(alloc) {
-        let line = line?;
-        println!(&rt; "{line}")?;
-        if let Some(request) = Request::of_line(alloc, line.as_str())? {
-            let text = match request.piece {
-                None => text_of(alloc, &request)?,
-                Some(size) => text_of_pieces(alloc, &request, size)?,
-            };
-            print!(&rt; "{text}")?;
-        }
+/// The text of the answers to a request for this work.
+pub(crate) fn answers_of(
+    alloc: Global,
+    request: &Request<'_>,
+    action: Action,
+) -> Result<String, AllocError> {
+    match request.piece {
+        None => text_of(alloc, request, action),
+        Some(size) => text_of_pieces(alloc, request, action, size),
     }
-    Ok(())
 }
 
 /// The text of the answer to a request.
-fn text_of(alloc: Global, request: &Request<'_>) -> Result<String, AllocError> {
+fn text_of(alloc: Global, request: &Request<'_>, action: Action) -> Result<String, AllocError> {
     let task = Task {
         alloc,
         before: Converted::default(),
         input: &request.octets,
-        action: request.action,
+        action,
         depth: DEPTH,
     };
     match Types::answer(request.type_name, task) {
-        Some(Ok(answer)) => answer_text(alloc, request.action, answer),
+        Some(Ok(answer)) => answer_text(alloc, action, answer),
         Some(Err(error)) => Err(error),
         None => String::from_str(alloc, "no type has this name\n"),
     }
 }
 
 /// The text of the answers to a request of which the octets come in pieces of this size.
-fn text_of_pieces(alloc: Global, request: &Request<'_>, size: usize) -> Result<String, AllocError> {
+fn text_of_pieces(
+    alloc: Global,
+    request: &Request<'_>,
+    action: Action,
+    size: usize,
+) -> Result<String, AllocError> {
     let mut text = String::new(alloc);
-    let Action::Convert { from, to } = request.action else {
+    let Action::Convert { from, to } = action else {
         return Ok(text);
     };
     let mut pieces = Pieces::new(alloc, from, to, DEPTH);
@@ -68,18 +52,32 @@ fn text_of_pieces(alloc: Global, request: &Request<'_>, size: usize) -> Result<S
     for piece in request.octets.as_slice().chunks(size.max(1)) {
         came = came.saturating_add(piece.len());
         pieces.append(piece)?;
-        if let Some(answer) = pieces.answer::<Types>(alloc, request.type_name, false)? {
+        if let Some(answer) = next_answer(&mut pieces, alloc, request.type_name, false)? {
             let has_failed = answer.failure.is_some();
-            push_answer(&mut text, alloc, request.action, answer, came)?;
+            push_answer(&mut text, alloc, action, answer, came)?;
             if has_failed {
                 return Ok(text);
             }
         }
     }
-    if let Some(answer) = pieces.answer::<Types>(alloc, request.type_name, true)? {
-        push_answer(&mut text, alloc, request.action, answer, came)?;
+    if let Some(answer) = next_answer(&mut pieces, alloc, request.type_name, true)? {
+        push_answer(&mut text, alloc, action, answer, came)?;
     }
     Ok(text)
+}
+
+/// The next answer for pieces. There is none if no type has the name.
+fn next_answer(
+    pieces: &mut Pieces,
+    alloc: Global,
+    name: &str,
+    is_end: bool,
+) -> Result<Option<Answer>, AllocError> {
+    match pieces.answer::<Types>(alloc, name, is_end) {
+        Ok(answer) => Ok(answer),
+        Err(PiecesError::NoType) => Ok(None),
+        Err(PiecesError::Memory) => Err(AllocError),
+    }
 }
 
 /// Appends an answer that says something, behind the number of octets that came before it.
