@@ -1,7 +1,8 @@
-use Rattle.std.proofs.Common.{◌≡◌, ℤ, pos, subst, refl, w32, to_z, of_z}
+use Rattle.std.proofs.Common.{◌≡◌, ℤ, arith, pos, subst, refl, w32, to_z, of_z}
 use Rattle.fan_calls.specs.Statuses.{FAN_FAULT, FAN_ROOM, number_of}
 use Rattle.fan_calls.specs.declared.status.Status.{Status}
 use Rattle.fan_calls.specs.declared.status.Status.TheVariants.{Ok, Fault, Room, Memory, Deep}
+use Rattle.fanughespu.proofs.Reports.{no_report, not_refused}
 use Rattle.fanughespu.proofs.certificate_reports.fan_certificate_report.Goals as goal
 
 -- the number of a fault is that of no other status
@@ -27,3 +28,19 @@ returns-in-Err-clause-refused c = λ is.
 pub returns-in-Err-clause-no_room : goal.returns-in-Err-clause-no_room
 returns-in-Err-clause-no_room c = λ is.
     c.put_message.ensures.no_room c.args.octets.now c.in-Err.ensures.refused (is_room c.put_message.result (subst (λ (z : ℤ). to_z w32 (of_z w32 z) ≡ FAN_ROOM) c.number-in-Err.ensures is))
+
+pub returns-in-Ok-clause-no_certificate : goal.returns-in-Ok-clause-no_certificate
+returns-in-Ok-clause-no_certificate c = λ none _. no_report c.args.octets.now c.in-Ok.report.items none c.in-Ok.ensures.report
+
+pub returns-in-Err-clause-certificate : goal.returns-in-Err-clause-certificate
+returns-in-Err-clause-certificate c = λ good fault. not_refused c.args.octets.now good (returns-in-Err-clause-refused c fault).is
+
+pub returns-in-Ok-clause-fits : goal.returns-in-Ok-clause-fits
+returns-in-Ok-clause-fits c = λ fits room.
+    let no = c.put.ensures.no_room (is_room c.put.result (subst (λ (z : ℤ). to_z w32 (of_z w32 z) ≡ FAN_ROOM) c.number-in-Ok.ensures room)) in
+    omega (arith, fits, no.few, no.size_is)
+
+pub returns-in-Err-clause-fits : goal.returns-in-Err-clause-fits
+returns-in-Err-clause-fits c = λ fits room.
+    let no = returns-in-Err-clause-no_room c room in
+    omega (arith, fits, no.no_room.few, no.no_room.size_is)
