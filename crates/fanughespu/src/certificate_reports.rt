@@ -37,6 +37,7 @@ pub extern "C" fn fan_certificate_report(
     ensures fits { size.new ≤ length text.old → result ≢ FAN_ROOM }
     ensures deep { (result ≡ FAN_DEEP) ↔ LiesDeeper 64 octets.now }
     ensures stays { result ≢ FAN_OK → result ≢ FAN_FAULT → text.new ≡ text.old }
+    ensures no_size { (result ≡ FAN_MEMORY) ⊎ (result ≡ FAN_DEEP) → size.new ≡ size.old }
 {
     if lies_deeper(octets, DEPTH) {
         return Status::Deep.number();
@@ -89,6 +90,7 @@ fn put_message(alloc: Global, error: InputError, text: &mut [u8], size: &mut usi
     ensures no_room { (octets : List ℕ) → HaveNoReport octets error →
         result ≡ Room → LacksRoom (IsReportOrMessage octets) text.old text.new size.new }
     ensures stays { result ≢ Fault → text.new ≡ text.old }
+    ensures no_size { result ≡ OutOfMemory → size.new ≡ size.old }
 {
     if matches!(error, InputError::Memory) {
         return Status::Memory;

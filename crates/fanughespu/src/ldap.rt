@@ -31,8 +31,12 @@ pub extern "C" fn fan_ldap_lines(
         BeginsNoMessage octets.now at → result ≢ FAN_OK }
     ensures no_room { result ≡ FAN_ROOM →
         LacksRoom (λ lines. AreLinesOf octets.now lines used.new) text.old text.new size.new }
+    ensures needed { result ≡ FAN_ROOM →
+        EndsInside octets.now used.new ⊎ BeginsNoMessage octets.now used.new }
     ensures fits { size.new ≤ length text.old → result ≢ FAN_ROOM }
     ensures stays { result ≢ FAN_OK → result ≢ FAN_FAULT → text.new ≡ text.old }
+    ensures no_size { result ≡ FAN_MEMORY → size.new ≡ size.old }
+    ensures no_used { result ≡ FAN_MEMORY → used.new ≡ used.old }
 {
     let Ok(lines) = lines_of(alloc, octets) else {
         return Status::Memory.number();

@@ -1,6 +1,7 @@
-use Rattle.std.proofs.Common.{◌≡◌, ◌∙◌, Bool, List, [], ℕ, ap, false, inl, inr, length, subst, sym}
+use Rattle.std.proofs.Common.{◌≡◌, ◌∙◌, Bool, List, [], ℕ, ap, arith, false, inl, inr, length, subst, sym}
 use Rattle.std.proofs.lemmas.Bool.{true≢false}
 use Rattle.std.specs.Bool.{◌==◌}
+use Rattle.asn1_ber.proofs.Cuts.{rest_within}
 use Rattle.asn1_der_items.specs.Cuts.{IsMissing}
 use Rattle.asn1_items.specs.declared.error.ItemError.{ItemError}
 use Rattle.asn1_items.specs.declared.error.ItemError.TheVariants.{Malformed, Memory}
@@ -13,6 +14,10 @@ not_empty octets empty is not none = true≢false (sym (is ∙ ap (λ (l : List 
 -- the errors differ
 malformed_is_not_memory : Malformed ≡ Memory → ⊥
 malformed_is_not_memory e = cc
+
+pub overflow_sub-count : goal.overflow_sub-count
+overflow_sub-count c =
+    omega (arith, rest_within c.args.octets.now c.in-Ok.front.normal.items c.in-Ok.front.rest.now c.in-Ok.ensures.only.spells)
 
 pub returns-in-Err-Malformed : goal.returns-in-Err-Malformed
 returns-in-Err-Malformed c =
