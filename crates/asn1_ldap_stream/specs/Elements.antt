@@ -39,10 +39,13 @@ module _ (rules : Format (Vec ℕ Global)) (depth : ℕ) where
     pub are : input.items ≡ octets
     pub may : MayAnswer rules messages.meaning equality.eq no_refusals depth input answer
 
-  -- The text is the lines of the message that was read of these octets.
+  -- The text is the lines of the message that was read of these octets, which begin as a message does.
   pub record IsMessageText (octets text : List ℕ) : Type 0 where
     pub message : LdapMessage
     pub read : MayBeRead octets (Ok message)
+    pub message_id : List ℕ
+    pub operation : List ℕ
+    pub begins : IsBeginning octets message_id operation
     pub lines : text ≡ message_lines message
 
   -- These octets were not read as a message, for this error, which may be that memory ran out.

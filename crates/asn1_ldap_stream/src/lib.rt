@@ -17,6 +17,9 @@
 //! written, once and in this order (`specs/Elements.antt`): the lines of a message that the rules may read of it, or the line of one
 //! that they may refuse, unless memory runs out. An element that ends the display begins at the byte that the failure
 //! names, the sum of the lengths before it.
+//!
+//! The contract of `lines_of` says this of octets by the elements of BER themselves: those that have lines begin as a message does, and
+//! behind them is nothing, or octets that end inside their first element, or octets that begin no message (`specs/Octets.antt`).
 #![tactic(auto)]
 
 mod beginning;

@@ -61,6 +61,10 @@ impl<M: Rules<Output = Vec<u8>>> MessageRules<M> {
         ensures not_read { IfErr result (MayNotBeRead M.format self.now.depth octets.now.items) }
     {
         let message: LdapMessage = self.rules.read_value(octets, self.depth)?;
+        // No message begins otherwise, but no contract says so.
+        let Some(_beginning) = beginning_of(octets.as_slice()) else {
+            return Err(DecodeError::Memory);
+        };
         let text = message_text(self.alloc, &message)?;
         Ok(text)
     }

@@ -1,14 +1,13 @@
 //! The messages with which octets begin.
-ghost use Rattle.std.specs.Prelude.{◌≡◌, ◌≤◌, ◌<◌, ◌^◌, IfOk, false, length, true};
-ghost use Rattle.asn1_ldap_stream.specs.Octets.{AreLinesBy, AreLinesOf, BeginsNoMessage, BeginsNoMessageBy, EndsInside, EndsInsideBy};
+ghost use Rattle.std.specs.Prelude.{◌≡◌, IfOk, false, true};
+ghost use Rattle.asn1_ldap_stream.specs.Octets.{AreLinesOf, BeginsNoMessage, EndsInside, IsNext};
 
-use crate::failure::Failure;
+use crate::DEPTH;
 use crate::messages::MessageRules;
-use crate::stream::show_whole;
-use crate::{DEPTH, ELEMENT_DEPTH};
-use asn1_ber::{BerReader, BerRules};
-use asn1_rules::{FrontReader, Iter, Rules};
-use asn1_types::Any;
+use asn1_ber::BerRules;
+use asn1_ber_items::front_element;
+use asn1_dec::DecodeError;
+use asn1_items::ItemError;
 use std::alloc::{AllocError, Global};
 
 /// The lines of the messages with which octets begin.
@@ -36,48 +35,63 @@ pub fn lines_of(alloc: Global, octets: &[u8]) -> Result<OctetLines, AllocError>
         rules: BerRules::new(alloc),
         depth: DEPTH,
     };
-    lines_by(&messages, BerReader::new(alloc, ELEMENT_DEPTH), octets)
-}
-
-/// The same, for any reader of elements and any rules of messages.
-fn lines_by<F: FrontReader<Any> + Drop, M: Rules<Output = Vec<u8>>>(
-    messages: &MessageRules<M>,
-    reader: F,
-    octets: &[u8],
-) -> Result<OctetLines, AllocError>
-    ensures lines { IfOk result (λ lines. AreLinesBy F.fronts M.format messages.now.depth
-        octets.now lines.text.items lines.used) }
-    ensures ends { IfOk result (λ lines. lines.is_damaged ≡ false →
-        EndsInsideBy F.fronts octets.now lines.used) }
-    ensures damaged { IfOk result (λ lines. lines.is_damaged ≡ true →
-        BeginsNoMessageBy F.fronts M.format messages.now.depth octets.now lines.used) }
-{
-    let mut elements = Iter::new(messages.alloc, octets, reader);
-    let mut text = Vec::new(messages.alloc);
-    let mut all_understood = true;
-    match show_whole(messages, &mut elements, &mut text, &mut all_understood) {
-        Ok(()) => {
-            let used = octets.len() - elements.unread().len();
-            Ok(OctetLines {
-                text,
-                used,
-                is_damaged: false,
-            })
+    let mut text = Vec::new(alloc);
+    let mut used = 0;
+    for _ in 0..u64::MAX {
+        match next_lines(&messages, &octets[used..])? {
+            Next::Lines(count, lines) => {
+                text.extend_from_slice(lines.as_bytes())?;
+                used += count;
+            }
+            Next::End => {
+                return Ok(OctetLines {
+                    text,
+                    used,
+                    is_damaged: false,
+                });
+            }
+            Next::NoMessage => {
+                return Ok(OctetLines {
+                    text,
+                    used,
+                    is_damaged: true,
+                });
+            }
         }
-        Err(Failure::Damaged(position, _)) => Ok(OctetLines {
-            text,
-            used: position_in(octets, position),
-            is_damaged: true,
-        }),
-        Err(_) => Err(AllocError),
     }
+    // No memory holds this many elements.
+    Err(AllocError)
 }
 
-/// A position, which lies in the octets.
-fn position_in(octets: &[u8], position: u128) -> usize
-    ensures exact { position ≤ length octets.now → result ≡ position }
-    // A length is that of memory.
-    ensures short { length octets.now < 2 ^ 64 }
+/// What octets begin with.
+#[derive(Drop)]
+enum Next {
+    /// An element of this many octets, with these lines.
+    Lines(usize, String),
+    /// Nothing: there are no octets, or they end inside their first element.
+    End,
+    /// No element, or one that is no message.
+    NoMessage,
+}
+
+/// What octets begin with.
+fn next_lines(messages: &MessageRules<BerRules>, octets: &[u8]) -> Result<Next, AllocError>
+    ensures { IfOk result (IsNext messages.now.depth octets.now) }
 {
-    usize::try_from(position).unwrap_or(octets.len())
+    if octets.is_empty() {
+        return Ok(Next::End);
+    }
+    match front_element(messages.alloc, octets) {
+        Ok(front) => {
+            let count = octets.len() - front.rest.len();
+            match messages.element_text(&front.normal) {
+                Ok(shown) => Ok(Next::Lines(count, shown.text)),
+                Err(DecodeError::Memory) => Err(AllocError),
+                Err(_) => Ok(Next::NoMessage),
+            }
+        }
+        Err(ItemError::Missing(_)) => Ok(Next::End),
+        Err(ItemError::Malformed) => Ok(Next::NoMessage),
+        Err(ItemError::Memory) => Err(AllocError),
+    }
 }

@@ -17,7 +17,7 @@ ghost use Rattle.std.specs.Prelude.{◌≡◌, ◌≢◌, ◌⊎◌, ◌≤◌, 
 ghost use Rattle.fan_calls.specs.Results.{LacksRoom, Puts};
 ghost use Rattle.fan_calls.specs.Statuses.{FAN_DEEP, FAN_FAULT, FAN_MEMORY, FAN_OK, FAN_ROOM};
 ghost use Rattle.fan_calls.specs.declared.status.Status.TheVariants as status;
-ghost use Rattle.fan_types.specs.Checks.{AcceptsOnlyDer, AreRefusedAs, IsDerOf, KeepRules};
+ghost use Rattle.fan_types.specs.Checks.{AcceptsOnlyDer, AreOfNoneRefused, AreRefusedAs, IsDerOf, KeepRules};
 ghost use Rattle.fan_types.specs.Conversions.{IsConversion, IsNotConverted, as_der, as_json, as_text};
 
 ";
@@ -44,6 +44,8 @@ pub extern \"C\" fn @crate@_@function@_check(
         ((result ≡ FAN_ROOM) ⊎ ((result ≡ FAN_MEMORY) ⊎ (result ≡ FAN_DEEP)))) }
     ensures der { result ≡ FAN_OK → IsDerOf ⟦<@type@ as AsnType>⟧.meaning octets.now }
     ensures keeps { result ≡ FAN_OK → KeepRules octets.now }
+    ensures admitted { result ≡ FAN_OK →
+        AreOfNoneRefused ⟦<@type@ as AsnType>⟧.meaning ⟦<@type@ as Decode>⟧.refusals octets.now }
     ensures found { AcceptsOnlyDer ⟦<@type@ as AsnType>⟧.meaning
         ⟦<@type@ as PartialEq>⟧.eq octets.now result }
     ensures refused { (result ≡ FAN_FAULT) ⊎ (result ≡ FAN_ROOM) →

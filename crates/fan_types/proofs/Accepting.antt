@@ -14,7 +14,7 @@ use Rattle.asn1_rules.specs.declared.canonical.CanonicalError.{CanonicalError}
 use Rattle.fan_calls.specs.Statuses.{FAN_OK, number_of}
 use Rattle.fan_calls.specs.declared.status.Status.{Status}
 use Rattle.fan_calls.specs.declared.status.Status.TheVariants as status
-use Rattle.fan_types.specs.Checks.{AcceptsOnlyDer, AreRefusedAs, IsDerOf, IsOnlyDerOf, KeepRules, LieDeeper}
+use Rattle.fan_types.specs.Checks.{AcceptsOnlyDer, AreOfNoneRefused, AreRefusedAs, IsDerOf, IsOnlyDerOf, KeepRules, LieDeeper}
 use Rattle.fan_types.specs.Refusals.{status_of_canonical, status_of_check}
 
 -- statuses differ
@@ -60,6 +60,12 @@ module _ {V : Type 0} (m : Meaning V) where
     pub accepted : (refusals : Refusals) (w : V) → MayAnswer der_format m eq refusals 64 own (Ok w) → AcceptsOnlyDer m eq octets FAN_OK
     accepted refusals w answered value tagged only =
         inl (refl, (answered.read value tagged only.of_type only.valid (subst (λ l. Carries l (own_records m value)) (sym same) only.carries)).1)
+
+    -- what was read is none of what the type refuses
+    pub none_refused : (refusals : Refusals) (w : V) → MayAnswer der_format m eq refusals 64 own (Ok w) → AreOfNoneRefused m refusals octets
+    unfolding AreOfNoneRefused
+    none_refused refusals w answered = λ rs e refused formed carried.
+        answered.refuses rs e refused formed (subst (λ l. Carries l rs) (sym same) carried)
 
     module _ (e : CheckError) where
       -- each value of which the octets are the only DER is refused for memory or depth

@@ -9,8 +9,10 @@ use Rattle.asn1_convert.specs.Checks.{IsCheckError}
 use Rattle.asn1_convert.specs.declared.check.CheckError.{CheckError}
 use Rattle.asn1_der.specs.Format.{Carries, der_format}
 use Rattle.asn1_laws.specs.Refusals.{Refusals}
+use Rattle.asn1_laws.specs.declared.decode_error.DecodeError.{DecodeError}
 use Rattle.asn1_model.specs.Meaning.{IsWellTagged, Meaning, own_records}
-use Rattle.asn1_model.specs.Records.{highest}
+use Rattle.asn1_model.specs.Records.{Record, highest}
+use Rattle.asn1_model.specs.WellFormed.{AreWellFormed}
 use Rattle.asn1_rules.specs.CanonicalReading.{HasOneSpelling}
 use Rattle.fan_calls.specs.Statuses.{FAN_DEEP, FAN_MEMORY, FAN_OK}
 use Rattle.fan_calls.specs.declared.status.Status.{Status}
@@ -35,6 +37,12 @@ module _ {V : Type 0} (m : Meaning V) where
   -- the octets are the DER of such a value; at a concrete type a proof does not look for one
   unfoldable pub IsDerOf : List ℕ → Type 0
   IsDerOf octets = ValueOf octets
+
+  -- The octets are the DER of no records that the type refuses, as an INTEGER type refuses a number outside its limits; at a concrete
+  -- type a proof does not look for them.
+  unfoldable pub AreOfNoneRefused : Refusals → List ℕ → Type 0
+  AreOfNoneRefused refusals octets =
+      (rs : List Record) (e : DecodeError) → refusals der_format.accepts m.tag m.constraints rs e → AreWellFormed der_format.accepts rs → ¬ Carries octets rs
 
   -- The octets are the DER of this value, which is valid, and no other octets are; and they break no rule.
   pub record IsOnlyDerOf (eq : V → V → Bool) (value : V) (octets : List ℕ) : Type 0 where

@@ -3,7 +3,7 @@ ghost use Rattle.std.specs.Prelude.{◌≡◌, ◌≢◌, ◌⊎◌, ◌≤◌, 
 ghost use Rattle.fan_calls.specs.Results.{LacksRoom, Puts};
 ghost use Rattle.fan_calls.specs.Statuses.{FAN_DEEP, FAN_FAULT, FAN_MEMORY, FAN_OK, FAN_ROOM};
 ghost use Rattle.fan_calls.specs.declared.status.Status.TheVariants as status;
-ghost use Rattle.fan_types.specs.Checks.{AcceptsOnlyDer, AreRefusedAs, IsDerOf, KeepRules};
+ghost use Rattle.fan_types.specs.Checks.{AcceptsOnlyDer, AreOfNoneRefused, AreRefusedAs, IsDerOf, KeepRules};
 ghost use Rattle.fan_types.specs.Refusals.{status_of_check};
 
 use crate::refusal::status_of_check;
@@ -17,7 +17,7 @@ use std::alloc::Global;
 /// are read, and writing the value makes them again. `FAN_FAULT` if they are not, with the words for the reason, and the position of the
 /// octet, from 0, if it is known. `FAN_DEEP` if the scopes of the value are nested more than 64 deep, or elements lie
 /// inside more than 64 constructed ones.
-#[tactic(auto, using(crate::proofs::Accepting::is_der, crate::proofs::Accepting::kept, crate::proofs::Accepting::accepted, crate::proofs::Accepting::refused))]
+#[tactic(auto, using(crate::proofs::Accepting::is_der, crate::proofs::Accepting::kept, crate::proofs::Accepting::accepted, crate::proofs::Accepting::none_refused, crate::proofs::Accepting::refused))]
 pub fn check<T: Encode + Decode + Drop>(
     alloc: Global,
     octets: &[u8],
@@ -29,6 +29,7 @@ pub fn check<T: Encode + Decode + Drop>(
         ((result ≡ FAN_ROOM) ⊎ ((result ≡ FAN_MEMORY) ⊎ (result ≡ FAN_DEEP)))) }
     ensures der { result ≡ FAN_OK → IsDerOf T.meaning octets.now }
     ensures keeps { result ≡ FAN_OK → KeepRules octets.now }
+    ensures admitted { result ≡ FAN_OK → AreOfNoneRefused T.meaning T.refusals octets.now }
     ensures found { AcceptsOnlyDer T.meaning T.eq octets.now result }
     ensures refused { (result ≡ FAN_FAULT) ⊎ (result ≡ FAN_ROOM) →
         AreRefusedAs T.meaning T.eq T.refusals status.Fault octets.now }

@@ -14,7 +14,8 @@
 //! - FAN_OK of [`check`] comes only of octets that are the DER of a value of the type with at most 64 nested scopes (`der`), and break
 //!   no rule of X.690 that reading asks for, also inside open types (`keeps`). Octets that are the only DER of a valid value and keep
 //!   these rules have FAN_OK if its scopes and elements are nested at most 64 deep, and FAN_DEEP if they are nested deeper, unless memory
-//!   runs out (`found`). No contract says that the value of FAN_OK is valid, as with its numbers inside their limits.
+//!   runs out (`found`). Octets with records that the type refuses never have FAN_OK (`admitted`); no contract says that numbers inside
+//!   the value are inside their limits.
 //! - FAN_FAULT, FAN_ROOM and FAN_DEEP of [`check`] come of octets that `check_der` may refuse so (`refused`, `deep`); FAN_ROOM if the
 //!   reason does not fit (`no_room`). The position is one of the octets or their end (`within`). With another status neither the position
 //!   nor the size is written (`no_position`, `no_size`).

@@ -36,6 +36,7 @@ pub extern "C" fn fan_ber_normal(
         ¬ LiesDeeper 64 normal → length normal ≤ length out.old →
         (result ≡ FAN_OK) ⊎ (result ≡ FAN_MEMORY) }
     ensures stays { result ≢ FAN_OK → out.new ≡ out.old }
+    ensures no_size { result ≢ FAN_OK → result ≢ FAN_ROOM → size.new ≡ size.old }
 {
     match normal_form(alloc, octets) {
         Ok(normal) => put_shallow(normal.as_slice(), out, size).number(),
@@ -50,6 +51,7 @@ fn put_shallow(octets: &[u8], out: &mut [u8], size: &mut usize) -> Status
     ensures no_room { result ≡ Room → HasNoRoom octets.now out.old out.new size.new }
     ensures statuses { (result ≡ Deep) ⊎ ((result ≡ Ok) ⊎ (result ≡ Room)) }
     ensures stays { result ≢ Ok → out.new ≡ out.old }
+    ensures no_size { result ≡ Deep → size.new ≡ size.old }
 {
     if lies_deeper(octets, DEPTH) {
         return Status::Deep;

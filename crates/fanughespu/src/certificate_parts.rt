@@ -38,6 +38,8 @@ pub extern "C" fn fan_certificate_part(
     ensures found { result ≡ FAN_OK → IsPartAt octets.now part position.new size.new }
     ensures none { result ≡ FAN_FAULT → ¬ HasPart octets.now part }
     ensures some { HasPart octets.now part → result ≡ FAN_OK }
+    ensures no_position { result ≡ FAN_FAULT → position.new ≡ position.old }
+    ensures no_size { result ≡ FAN_FAULT → size.new ≡ size.old }
 {
     let Some(start) = position_of_part(octets, part) else {
         return Status::Fault.number();

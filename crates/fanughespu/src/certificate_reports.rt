@@ -1,23 +1,23 @@
 //! The report of a certificate.
-ghost use Rattle.std.specs.Prelude.{◌≡◌, ◌≢◌, ◌⊎◌, ◌↔◌, IfErr, IfOk, List, ℕ};
-ghost use Rattle.asn1_certificate_input.specs.Refused.{IsRefusal};
+ghost use Rattle.std.specs.Prelude.{◌≡◌, ◌≢◌, ◌⊎◌, ◌↔◌, ◌≤◌, IfErr, IfOk, List, length, ℕ};
+ghost use Rattle.asn1_certificate_input.specs.Shown.{IsShown};
 ghost use Rattle.asn1_certificate_input.specs.declared.error.InputError.TheVariants.{Memory};
 ghost use Rattle.fan_calls.specs.Depths.{LiesDeeper};
 ghost use Rattle.fan_calls.specs.Results.{LacksRoom, Puts};
 ghost use Rattle.fan_calls.specs.Statuses.{FAN_DEEP, FAN_FAULT, FAN_MEMORY, FAN_OK, FAN_ROOM};
 ghost use Rattle.fan_calls.specs.declared.status.Status.TheVariants.{Fault, Memory as OutOfMemory, Room};
-ghost use Rattle.fanughespu.specs.CertificateReports.{AreRefused, IsReport, IsReportOrMessage, report_options};
+ghost use Rattle.fanughespu.specs.CertificateReports.{AreGoodCertificate, AreNoCertificate, AreRefused, HaveNoReport, IsReport, IsReportOrMessage, report_options};
 
-use asn1_certificate_input::{InputError, Options, OutputFormat, shown_of};
+use asn1_certificate_input::{Departure, InputError, Options, OutputFormat, Shown, shown_of};
 use fan_calls::{DEPTH, Status, lies_deeper, put};
 use std::alloc::Global;
 
 /// `FAN_OK`, and the lines of the report of the certificate whose DER the octets are. `FAN_FAULT` if they are refused, and a message
-/// that says why in the place of the report. `FAN_DEEP` if octets lie inside more than 64
-/// constructed elements.
+/// that says why in the place of the report. `FAN_DEEP` if octets lie inside more than 64 constructed elements.
 ///
 /// A certificate whose octets break a rule of DER and can be read has a report:
-/// [`fan_certificate_broken_rule`](crate::fan_certificate_broken_rule) tells the rule.
+/// [`fan_certificate_broken_rule`](crate::fan_certificate_broken_rule) tells the rule. Octets that break none are the DER of the
+/// certificate of their report, unless elements lie inside more than 64 others.
 #[unsafe(no_mangle)]
 pub extern "C" fn fan_certificate_report(
     alloc: Global,
@@ -30,10 +30,14 @@ pub extern "C" fn fan_certificate_report(
     ensures report { result ≡ FAN_OK → Puts (IsReport octets.now) text.old text.new size.new }
     ensures refused { result ≡ FAN_FAULT →
         Puts (λ _. AreRefused octets.now) text.old text.new size.new }
+    ensures no_certificate { AreNoCertificate octets.now → result ≢ FAN_OK }
+    ensures certificate { AreGoodCertificate octets.now → result ≢ FAN_FAULT }
     ensures no_room { result ≡ FAN_ROOM →
         LacksRoom (IsReportOrMessage octets.now) text.old text.new size.new }
+    ensures fits { size.new ≤ length text.old → result ≢ FAN_ROOM }
     ensures deep { (result ≡ FAN_DEEP) ↔ LiesDeeper 64 octets.now }
     ensures stays { result ≢ FAN_OK → result ≢ FAN_FAULT → text.new ≡ text.old }
+    ensures no_size { (result ≡ FAN_MEMORY) ⊎ (result ≡ FAN_DEEP) → size.new ≡ size.old }
 {
     if lies_deeper(octets, DEPTH) {
         return Status::Deep.number();
@@ -47,7 +51,7 @@ pub extern "C" fn fan_certificate_report(
 /// The lines of the report of the certificate with these octets.
 fn report_of(alloc: Global, octets: &[u8]) -> Result<Vec<u8>, InputError>
     ensures report { IfOk result (λ report. IsReport octets.now report.items) }
-    ensures refused { IfErr result (IsRefusal report_options octets.now) }
+    ensures refused { IfErr result (HaveNoReport octets.now) }
 {
     let options = Options {
         format: OutputFormat::Report,
@@ -55,18 +59,38 @@ fn report_of(alloc: Global, octets: &[u8]) -> Result<Vec<u8>, InputError>
         follows: false,
     };
     let own = Vec::from_slice(alloc, octets)?;
-    let shown = shown_of(alloc, options, &own)?;
-    Ok(shown.bytes)
+    explained(shown_of(alloc, options, &own)?)
+}
+
+/// The report, unless the certificate is written otherwise and no rule tells why.
+fn explained(shown: Shown) -> Result<Vec<u8>, InputError>
+    ensures report { (octets : List ℕ) →
+        IsShown report_options octets shown.bytes.items shown.warnings →
+        IfOk result (λ report. IsReport octets report.items) }
+    ensures refused { (octets : List ℕ) →
+        IsShown report_options octets shown.bytes.items shown.warnings →
+        IfErr result (HaveNoReport octets) }
+{
+    match shown.warnings.departure {
+        None => Ok(shown.bytes),
+        Some(Departure::Breaks(_)) => Ok(shown.bytes),
+        Some(Departure::IsTooDeep(_)) => Ok(shown.bytes),
+        Some(Departure::Differs(at)) => Err(InputError::Departs(Departure::Differs(at))),
+        Some(Departure::IsNotWritten(error)) => {
+            Err(InputError::Departs(Departure::IsNotWritten(error)))
+        }
+    }
 }
 
 /// Writes the reason that octets are refused.
 fn put_message(alloc: Global, error: InputError, text: &mut [u8], size: &mut usize) -> Status
     ensures statuses { (result ≡ OutOfMemory) ⊎ ((result ≡ Fault) ⊎ (result ≡ Room)) }
-    ensures message { (octets : List ℕ) → IsRefusal report_options octets error →
+    ensures message { (octets : List ℕ) → HaveNoReport octets error →
         result ≡ Fault → Puts (λ _. AreRefused octets) text.old text.new size.new }
-    ensures no_room { (octets : List ℕ) → IsRefusal report_options octets error →
+    ensures no_room { (octets : List ℕ) → HaveNoReport octets error →
         result ≡ Room → LacksRoom (IsReportOrMessage octets) text.old text.new size.new }
     ensures stays { result ≢ Fault → text.new ≡ text.old }
+    ensures no_size { result ≡ OutOfMemory → size.new ≡ size.old }
 {
     if matches!(error, InputError::Memory) {
         return Status::Memory;

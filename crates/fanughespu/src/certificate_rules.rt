@@ -26,6 +26,8 @@ pub extern "C" fn fan_certificate_broken_rule(
     ensures breaks { result ≡ FAN_FAULT → BreaksAt octets.now rule.new position.new }
     ensures kept { KeepsRules All Certificate octets.now → result ≢ FAN_FAULT }
     ensures deep { result ≡ FAN_DEEP → LiesDeeper 64 Certificate octets.now position.new }
+    ensures no_rule { result ≢ FAN_FAULT → rule.new ≡ rule.old }
+    ensures no_position { result ≡ FAN_OK → position.new ≡ position.old }
 {
     match find_broken_rule(octets, Part::Certificate, RuleSet::All, DEPTH) {
         None => Status::Ok.number(),

@@ -56,6 +56,7 @@ pub extern "C" fn fan_der_element(octets: &[u8], element: &mut FanElement) -> i3
     ensures statuses { (result ≡ FAN_OK) ⊎ (result ≡ FAN_FAULT) }
     ensures found { result ≡ FAN_OK → BeginsWith octets.now element.new }
     ensures none { (result ≡ FAN_FAULT) ↔ (element_at octets.now ≡ None) }
+    ensures stays { result ≡ FAN_FAULT → element.new ≡ element.old }
 {
     let Ok(found) = find_element(octets) else {
         return Status::Fault.number();

@@ -35,6 +35,7 @@ pub extern "C" fn fan_integer_text(
         length (integer_text number) ≤ length text.old →
         (result ≡ FAN_OK) ⊎ (result ≡ FAN_MEMORY) }
     ensures stays { result ≢ FAN_OK → text.new ≡ text.old }
+    ensures no_size { result ≢ FAN_OK → result ≢ FAN_ROOM → size.new ≡ size.old }
 {
     match text_of(alloc, octets) {
         Ok(written) => put(written.as_bytes(), text, size).number(),

@@ -16,11 +16,10 @@
 //! kept after a call. The answer is a status (`specs/Statuses` of `fan_calls`). Each call states which it answers (`statuses`), and what
 //! holds of each of them. The clauses tell which octets have it, too, but for these:
 //!
-//! - FAN_OK of [`fan_certificate_report`] may come of octets that are the DER of no valid certificate, with the report of any.
-//! - Both FAN_OK and FAN_FAULT of [`fan_ldap_lines`] may come of octets behind the messages that begin with no whole element.
+//! - Octets that break a rule of DER may have FAN_OK or FAN_FAULT of [`fan_certificate_report`].
 //! - FAN_DEEP of [`fan_certificate_broken_rule`] comes of no others than octets that lie too deep, but these may have FAN_OK.
-//! - FAN_ROOM comes of a result that does not fit; only of [`fan_integer_text`] and [`fan_ber_normal`] is it said that one that fits
-//!   is written. FAN_MEMORY may always come of a call that takes memory.
+//! - FAN_ROOM comes of a result that does not fit. Since no contract covers the words of messages, the octets alone do not tell how
+//!   long a text of [`fan_certificate_report`] or [`fan_ldap_lines`] is. FAN_MEMORY may always come of a call that takes memory.
 //!
 //! The linker, the header for C and the lengths that a caller hands in are outside of the proof (docs/EMBEDDING.md).
 #![tactic(auto)]

@@ -1,5 +1,6 @@
-use Rattle.std.proofs.Common.{refl}
+use Rattle.std.proofs.Common.{List, refl, subst, ℕ}
 use Rattle.std.proofs.lemmas.Result.{err_from_is_err_and}
+use Rattle.asn1_ldap_stream.specs.Beginnings.{IsBeginning}
 use Rattle.asn1_ldap_stream.proofs.Elements.{memory_runs_out}
 use Rattle.asn1_ldap_stream.proofs.messages.MessageRules.message_lines.Goals as goal
 
@@ -27,5 +28,11 @@ returns-clause-lines g c = record {
     are = refl;
     may = record { read = c.in_ok-message.ensures.read; refuses = c.in_ok-message.ensures.refuses };
   };
+  message_id = c.in-Some._beginning.message_id.now;
+  operation = c.in-Some._beginning.operation.now;
+  begins = subst (λ (l : List ℕ). IsBeginning l c.in-Some._beginning.message_id.now c.in-Some._beginning.operation.now) c.as_slice.ensures.value c.in-Some.ensures;
   lines = c.in_ok-text.ensures.text;
 }
+
+pub returns-in_default-clause-not_read : goal.returns-in_default-clause-not_read
+returns-in_default-clause-not_read g c = memory_runs_out g.M.Rules.format c.args.self.now.depth c.args.octets.now
