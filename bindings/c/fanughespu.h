@@ -36,8 +36,9 @@ int32_t fan_integer_text(const uint8_t *octets, size_t octets_length, uint8_t *t
  * FAN_FAULT: the octets are no elements of BER. FAN_ROOM, FAN_MEMORY, FAN_DEEP. */
 int32_t fan_ber_normal(const uint8_t *octets, size_t octets_length, uint8_t *out, size_t out_length, size_t *size);
 
-/* The lines of the report of the certificate whose DER the octets are, with a line feed at the end.
- * FAN_FAULT: they are no certificate, and the text says why and at which byte. FAN_ROOM, FAN_MEMORY, FAN_DEEP. */
+/* The lines of the report of the certificate that the octets are, with a line feed at the end. FAN_OK also comes of octets that break a
+ * rule of DER and can be read: ask fan_certificate_broken_rule. FAN_FAULT: they are no certificate, and the text says why and at which
+ * byte. FAN_ROOM, FAN_MEMORY, FAN_DEEP. */
 int32_t fan_certificate_report(const uint8_t *octets, size_t octets_length, uint8_t *text, size_t text_length, size_t *size);
 
 enum {
@@ -74,8 +75,8 @@ int32_t fan_certificate_part(const uint8_t *octets, size_t octets_length, uint32
 
 /* The lines of the messages of LDAP with which the octets begin, in BER, and in *used how many octets these messages have. A message that
  * is not understood has a line that says so. FAN_OK: behind them is nothing, or an element that the octets end inside: call again with
- * the octets from *used on, and more. FAN_FAULT: what is behind them begins no message; the text has the lines before it. FAN_ROOM,
- * FAN_MEMORY. */
+ * the octets from *used on, and more. FAN_FAULT: what is behind them begins no message; the text has the lines before it. FAN_ROOM:
+ * *used is written too; ask again with the same octets. FAN_MEMORY. */
 int32_t fan_ldap_lines(const uint8_t *octets, size_t octets_length, uint8_t *text, size_t text_length, size_t *size, size_t *used);
 
 #ifdef __cplusplus

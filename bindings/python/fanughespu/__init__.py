@@ -122,7 +122,10 @@ def ber_normal(octets: bytes) -> bytes:
 
 
 def certificate_report(octets: bytes) -> str:
-    """The lines of the report of the certificate whose DER the octets are. Raises `Fault` with the reason and the byte, or `Deep`."""
+    """The lines of the report of the certificate that the octets are, also if they break a rule of DER and can be read.
+
+    Raises `Fault` with the reason and the byte, or `Deep`.
+    """
     status, text = _written(_report, octets, 4096)
     if status == _FAULT:
         raise Fault(None, text.decode(errors="replace"))

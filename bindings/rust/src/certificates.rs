@@ -44,7 +44,7 @@ pub enum Part {
     Signature,
 }
 
-/// The lines of the report of the certificate whose DER the octets are.
+/// The lines of the report of the certificate that the octets are. Octets that break a rule of DER and can be read have one too.
 ///
 /// # Errors
 /// [`ReportError::Refused`] with the reason and the byte, if they are no certificate.

@@ -12,7 +12,7 @@ use asn1_certificate_input::{Departure, InputError, Options, OutputFormat, Shown
 use fan_calls::{DEPTH, Status, lies_deeper, put};
 use std::alloc::Global;
 
-/// `FAN_OK`, and the lines of the report of the certificate whose DER the octets are. `FAN_FAULT` if they are refused, and a message
+/// `FAN_OK`, and the lines of the report of the certificate that the octets are. `FAN_FAULT` if they are refused, and a message
 /// that says why in the place of the report. `FAN_DEEP` if octets lie inside more than 64 constructed elements.
 ///
 /// A certificate whose octets break a rule of DER and can be read has a report:

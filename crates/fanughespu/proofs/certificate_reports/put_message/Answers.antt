@@ -12,7 +12,7 @@ room_is_no_memory same = cc
 
 pub returns : goal.returns
 returns c =
-    let is : c.put.result ≡ Room = elim c.put.ensures.status [ | inl ok ↦ absurd (c.in_default-put.not-Ok ok) | inr room ↦ room ] in
+    let is : c.put.result ≡ Room = elim c.put.ensures.status [ inl ok ↦ absurd (c.in_default-put.not-Ok ok) | inr room ↦ room ] in
     record {
       statuses = inr (inr refl);
       message = λ octets refusal fault. absurd (room_is_no_fault fault);
