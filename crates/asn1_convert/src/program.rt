@@ -5,6 +5,7 @@ ghost use Rattle.std.specs.Prelude.{◌≡◌, ◌≤◌};
 use crate::arguments::{action_of, matches_of};
 use crate::input::{answer_input, convert_input};
 use crate::task::{Action, TypeList};
+use clap::Error;
 use std::process::ExitCode;
 use std::{env, io};
 
