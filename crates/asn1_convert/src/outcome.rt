@@ -1,6 +1,6 @@
 //! How the work of a program ends.
 ghost use Rattle.asn1_convert.specs.Runs.{status_of};
-ghost use Rattle.std.specs.Prelude.{◌≡◌};
+ghost use Rattle.std.specs.Prelude.{◌≡◌, ◌≤◌};
 
 use std::io::Eprint;
 
@@ -26,7 +26,8 @@ pub enum Outcome {
 impl Outcome {
     /// The status with which a program ends.
     pub fn status(&self) -> u8
-        ensures { result ≡ status_of self.now }
+        ensures status { result ≡ status_of self.now }
+        ensures within { result ≤ 2 }
     {
         match self {
             Outcome::Done => 0,

@@ -5,6 +5,7 @@ ghost use Rattle.std.specs.Prelude.{◌≡◌, ◌≤◌};
 use crate::arguments::{action_of, matches_of};
 use crate::input::{answer_input, convert_input};
 use crate::task::{Action, TypeList};
+use clap::Error;
 use std::process::ExitCode;
 use std::{env, io};
 
@@ -27,10 +28,7 @@ pub fn run<L: TypeList>(rt: &HostRuntime, program: &'static str) -> ExitCode
     };
     let matches = match matches_of(alloc, program, types.as_str(), words.as_slice()) {
         Ok(matches) => matches,
-        Err(error) => {
-            let _ = error.print(rt);
-            return ExitCode::from(error.exit_code() as u8);
-        }
+        Err(error) => return show(rt, &error),
     };
     let Some(action) = action_of(&matches) else {
         return fail(
@@ -53,6 +51,14 @@ pub fn run<L: TypeList>(rt: &HostRuntime, program: &'static str) -> ExitCode
     };
     outcome.print_reason(rt);
     ExitCode::from(outcome.status())
+}
+
+/// Shows the help that the arguments ask for, or why they ask for no work.
+fn show(rt: &HostRuntime, error: &Error) -> ExitCode
+    ensures { exit_status result ≤ 2 }
+{
+    let _ = error.print(rt);
+    ExitCode::from(if error.use_stderr() { FAILED } else { 0 })
 }
 
 /// Tells why the program did not begin its work.

@@ -10,7 +10,7 @@
 //! reads the octets again with a [`PathDecoder`], of any codec, and asks it where it came to, or where an element lies that it was to look for.
 //!
 //! The contracts promise that the decoder opens scopes, closes them and fails as the one inside does (`path_reader`), so reading with it
-//! ends, nests as deep as that, and is total. No contract covers the place; the program test_texts shows it. If memory runs out, the place is shorter.
+//! ends, nests as deep as that, and is total. No contract covers the place; the program test_texts shows it. If memory runs out, the place may be another.
 #![tactic(auto)]
 
 mod decoder;

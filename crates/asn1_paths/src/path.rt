@@ -49,7 +49,7 @@ struct Scope {
 
 /// The place of a reader in a value: the scopes and groups that are open, and where the reader is in each.
 ///
-/// A place that takes memory and gets none is shorter than it might be.
+/// A place that takes memory and gets none may be another.
 #[derive(Drop)]
 pub(crate) struct Path {
     alloc: Global,

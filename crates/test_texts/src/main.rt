@@ -13,8 +13,9 @@
 //! are empty or begin with `#` are written as they are.
 //!
 //! The stored run is the test. Octets and positions of the lines of `asn1_convert` were made by hand from X.690, those of the packed
-//! codec from the page of asn1_items. bench/texts.py compares the texts of the first work with Erlang's compiler: the JSON with what that
-//! writes of the DER, and the notation with the DER of the value that it makes of it.
+//! codec from the page of asn1_items, and two are what the line before them writes. bench/texts.py compares the texts of the first work
+//! with Erlang's compiler, where it makes the value: the JSON with what that writes of the DER, and the notation with the DER of the value
+//! that it makes of it.
 #![tactic(auto)]
 
 mod conversions;
