@@ -86,8 +86,10 @@ fn next_lines(messages: &MessageRules<BerRules>, octets: &[u8]) -> Result<Next, 
             let count = octets.len() - front.rest.len();
             match messages.element_text(&front.normal) {
                 Ok(shown) => Ok(Next::Lines(count, shown.text)),
-                Err(DecodeError::Memory) => Err(AllocError),
-                Err(_) => Ok(Next::NoMessage),
+                Err(error) => match error {
+                    DecodeError::Memory => Err(AllocError),
+                    _ => Ok(Next::NoMessage),
+                },
             }
         }
         Err(ItemError::Missing(_)) => Ok(Next::End),

@@ -1,7 +1,7 @@
 use Rattle.std.proofs.Common.{◌∙◌, ℤ, ap, inl, inr, subst, sym}
 use Rattle.fan_types.proofs.Numbers.{kept, kept_number, same_status}
 use Rattle.fan_calls.specs.declared.status.Status.TheVariants as status
-use Rattle.fan_types.proofs.Accepting.{are_refused, refused}
+use Rattle.fan_types.proofs.Accepting.{are_refused, none_refused, refused}
 use Rattle.fan_types.specs.Checks.{AcceptsOnlyDer}
 use Rattle.fan_types.proofs.checking.check.Goals as goal
 
@@ -26,3 +26,8 @@ returns-clause-deep g c = λ deep.
     are_refused g.T.AsnType.meaning g.T.PartialEq.eq c.in-Ok.own c.args.octets.now c.in-Ok.ensures.items c.in-Err.error g.T.Decode.refusals status.Deep
     c.in-Err.ensures.departs
     (c.put_refusal.ensures.deep (same_status c.put_refusal.result status.Deep c.number-in-Err.result c.number-in-Err.ensures deep))
+
+pub returns-in-Ok-check_der-clause-admitted : goal.returns-in-Ok-check_der-clause-admitted
+returns-in-Ok-check_der-clause-admitted g c = λ told.
+    none_refused g.T.AsnType.meaning g.T.PartialEq.eq c.in-Ok.own c.args.octets.now c.in-Ok.ensures.items g.T.Decode.refusals c.in-Ok-check_der._value
+    c.in-Ok-check_der.ensures.answered
