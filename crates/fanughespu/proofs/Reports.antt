@@ -1,10 +1,12 @@
 -- Octets that have a report, and octets that are refused.
-use Rattle.std.proofs.Common.{◌≡◌, ◌≤◌, ℕ, List, Option, None, Some, arith, refl, sym, inl, inr}
+use Rattle.std.proofs.Common.{◌≡◌, ◌≤◌, ℕ, List, Option, None, Some, arith, false, refl, subst, sym, true, inl, inr}
 use Rattle.std.proofs.lemmas.Bool.{true≢false}
 use Rattle.std.specs.Prelude.{◌≢◌}
 use Rattle.asn1_certificate_input.specs.Certificates.{AreDerOf, records_of}
-use Rattle.asn1_certificate_input.specs.Departures.{AnswersDeparture}
+use Rattle.asn1_certificate_input.specs.Departures.{AnswersDeparture, DifferFromDer}
 use Rattle.asn1_certificate_input.specs.Refused.{IsRefusalOfDeparture, IsRefusalOfOctets}
+use Rattle.asn1_certificate_input.specs.Shown.{IsShown}
+use Rattle.asn1_certificate_input.specs.declared.certificate.Warnings.{Warnings}
 use Rattle.asn1_certificate_input.specs.declared.departure.Departure.{Departure}
 use Rattle.asn1_certificate_input.specs.declared.departure.Departure.TheVariants.{Breaks, Differs, IsNotWritten, IsTooDeep}
 use Rattle.asn1_certificate_input.specs.declared.error.InputError.{InputError}
@@ -12,9 +14,41 @@ use Rattle.asn1_certificate_input.specs.declared.error.InputError.TheVariants.{N
 use Rattle.asn1_certificate_input.specs.declared.options.OutputFormat.TheVariants.{Der, Report}
 use Rattle.asn1_model.specs.Records.{highest}
 use Rattle.asn1_x509.specs.declared.certificate.Certificate.{Certificate}
-use Rattle.fanughespu.specs.CertificateReports.{AreGoodCertificate, AreNoCertificate, AreRefused, IsExplained, IsReport, report_options}
+use Rattle.fanughespu.specs.CertificateReports.{AreGoodCertificate, AreNoCertificate, AreRefused, AreWrittenOtherwise, IsExplained, IsReport, is_explained, report_options}
 
 module _ (octets : List ℕ) where
+  -- a departure that a rule or the depth tells is explained
+  of_explained : (d : Departure) → is_explained d ≡ true → IsExplained (Some d)
+  of_explained (Breaks broken) is = tt
+  of_explained (IsTooDeep position) is = tt
+  of_explained (Differs position) is = true≢false (sym is)
+  of_explained (IsNotWritten error) is = true≢false (sym is)
+
+  -- another one tells how the octets differ from what the certificate is written as
+  differ : (certificate : Certificate) (d : Departure) → is_explained d ≡ false → AnswersDeparture octets certificate (Some d) →
+      DifferFromDer octets certificate
+  differ certificate (Breaks broken) is answers = absurd (true≢false is)
+  differ certificate (IsTooDeep position) is answers = absurd (true≢false is)
+  differ certificate (Differs position) is answers = record { difference = Differs position; is = answers }
+  differ certificate (IsNotWritten error) is answers = record { difference = IsNotWritten error; is = answers }
+
+  module _ (bytes : List ℕ) (w : Warnings) (s : IsShown report_options octets bytes w) where
+    -- a report whose departure is explained
+    pub has_report : (d : Departure) → w.departure ≡ Some d → is_explained d ≡ true → IsReport octets bytes
+    has_report d is explained = record {
+      warnings = w;
+      shown = s;
+      explained = subst IsExplained (sym is) (of_explained d explained);
+    }
+
+    -- a certificate that is written otherwise, or not at all
+    pub written_otherwise : (d : Departure) → w.departure ≡ Some d → is_explained d ≡ false → AreWrittenOtherwise octets
+    written_otherwise d is not = record {
+      certificate = s.certificate;
+      read = s.read;
+      differ = differ s.certificate d not (subst (λ (d : Option Departure). AnswersDeparture octets s.certificate d) is s.departs);
+    }
+
   -- no departure explains octets of no certificate
   not_explained : (certificate : Certificate) (d : Option Departure) → AreNoCertificate octets → AnswersDeparture octets certificate d → IsExplained d → ⊥
   not_explained certificate None none answers explained = none.of_none certificate answers

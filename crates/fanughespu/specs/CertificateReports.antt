@@ -1,5 +1,5 @@
 -- The report of a certificate, or the reason that there is none.
-use Rattle.std.specs.Prelude.{◌≡◌, ◌≢◌, ◌⊎◌, ◌≤◌, ⊤, ℕ, List, None, Option, Some, false}
+use Rattle.std.specs.Prelude.{◌≡◌, ◌≢◌, ◌⊎◌, ◌≤◌, ⊤, ℕ, Bool, List, None, Option, Some, false, true}
 use Rattle.asn1_certificate_input.specs.Certificates.{AreDerOf, IsReadOf, records_of}
 use Rattle.asn1_certificate_input.specs.Departures.{AreDerAsWritten, DifferFromDer, KeepsAllRules}
 use Rattle.asn1_certificate_input.specs.Refused.{IsRefusal, IsRefusalOfCertificate}
@@ -28,6 +28,13 @@ IsExplained (Some (Breaks broken)) = ⊤
 IsExplained (Some (IsTooDeep position)) = ⊤
 IsExplained (Some (Differs position)) = ⊥
 IsExplained (Some (IsNotWritten error)) = ⊥
+
+-- whether a rule of DER or elements that lie too deep tell why octets depart
+abbrev pub is_explained : Departure → Bool
+is_explained (Breaks broken) = true
+is_explained (IsTooDeep position) = true
+is_explained (Differs position) = false
+is_explained (IsNotWritten error) = false
 
 -- The text is the report of the certificate that the octets are read as: they are its DER and break no rule of DER, or they break one,
 -- or hold elements inside more than 64 others.

@@ -6,7 +6,7 @@ ghost use Rattle.fan_calls.specs.Depths.{LiesDeeper};
 ghost use Rattle.fan_calls.specs.Results.{LacksRoom, Puts};
 ghost use Rattle.fan_calls.specs.Statuses.{FAN_DEEP, FAN_FAULT, FAN_MEMORY, FAN_OK, FAN_ROOM};
 ghost use Rattle.fan_calls.specs.declared.status.Status.TheVariants.{Fault, Memory as OutOfMemory, Room};
-ghost use Rattle.fanughespu.specs.CertificateReports.{AreGoodCertificate, AreNoCertificate, AreRefused, HaveNoReport, IsReport, IsReportOrMessage, report_options};
+ghost use Rattle.fanughespu.specs.CertificateReports.{AreGoodCertificate, AreNoCertificate, AreRefused, HaveNoReport, IsReport, IsReportOrMessage, is_explained, report_options};
 
 use asn1_certificate_input::{Departure, InputError, Options, OutputFormat, Shown, shown_of};
 use fan_calls::{DEPTH, Status, lies_deeper, put};
@@ -63,6 +63,7 @@ fn report_of(alloc: Global, octets: &[u8]) -> Result<Vec<u8>, InputError>
 }
 
 /// The report, unless the certificate is written otherwise and no rule tells why.
+#[tactic(auto, using(crate::proofs::Reports::has_report, crate::proofs::Reports::written_otherwise))]
 fn explained(shown: Shown) -> Result<Vec<u8>, InputError>
     ensures report { (octets : List ℕ) →
         IsShown report_options octets shown.bytes.items shown.warnings →
@@ -73,12 +74,18 @@ fn explained(shown: Shown) -> Result<Vec<u8>, InputError>
 {
     match shown.warnings.departure {
         None => Ok(shown.bytes),
-        Some(Departure::Breaks(_)) => Ok(shown.bytes),
-        Some(Departure::IsTooDeep(_)) => Ok(shown.bytes),
-        Some(Departure::Differs(at)) => Err(InputError::Departs(Departure::Differs(at))),
-        Some(Departure::IsNotWritten(error)) => {
-            Err(InputError::Departs(Departure::IsNotWritten(error)))
-        }
+        Some(departure) if is_explained(departure) => Ok(shown.bytes),
+        Some(departure) => Err(InputError::Departs(departure)),
+    }
+}
+
+/// Whether a rule of DER, or elements that lie too deep to be looked at, tell why octets depart.
+fn is_explained(departure: Departure) -> bool
+    ensures { result ≡ is_explained departure }
+{
+    match departure {
+        Departure::Breaks(_) | Departure::IsTooDeep(_) => true,
+        Departure::Differs(_) | Departure::IsNotWritten(_) => false,
     }
 }
 

@@ -55,8 +55,8 @@ returns-in-Ok-element_text c =
       lines = c.in-Ok-element_text.ensures.text;
     }
 
-pub returns-in_default : goal.returns-in_default
-returns-in_default c =
+pub returns-in-Ok : goal.returns-in-Ok
+returns-in-Ok c =
     let front = c.in-Ok.front in
     record {
       whole = λ inside. elim inside [
