@@ -1,4 +1,4 @@
--- What a program does with an input.
+-- The work of a program on an input.
 use Rattle.std.proofs.Common.{◌≡◌, ◌∙◌, ◌+◌, ℕ, Bool, true, List, [], ◌∷◌, ◌++◌, Some, None, ap, length, refl, subst, sym}
 use Rattle.std.proofs.KnownBytes.{Appends-nil, Appends-trans, Consumes-kept, Consumes-nil, Consumes-trans}
 use Rattle.std.specs.Io.KnownBytes.{Appends, Consumes, IsAtEnd, Keeps}
@@ -68,7 +68,7 @@ module _ (from : CodecForm) (to : OutputForm) (given : List ℕ) where
   }
 
 module _ (from : CodecForm) (to : OutputForm) where
-  -- What was read of an input was converted, but for octets with which no whole value begins.
+  -- All that was read of an input was converted, but for octets with which no whole value begins.
   pub record ReadUpTo (read_old read_new : Option (List ℕ)) (pieces : Pieces) (before after : Option (List ℕ)) : Type 0 where
     pub given : List ℕ
     pub took : Consumes read_old read_new given

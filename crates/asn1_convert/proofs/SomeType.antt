@@ -1,4 +1,4 @@
--- What conversions and answers tell whatever the type is.
+-- Conversions and answers, whatever the type is.
 use Rattle.std.proofs.Common.{◌≡◌, ◌∙◌, ◌+◌, ℕ, suc, Bool, List, [], ◌++◌, Some, None, Result, Ok, Err, ap, append_assoc, append-nil, arith, length, length-append, refl, subst, sym}
 use Rattle.std.specs.Prelude.{Option, MatchOption, IfNone, IfOk, Vec}
 use Rattle.std.specs.declared.alloc.Global.{Global}

@@ -23,7 +23,7 @@ pub record IsLineAt (number first : ℕ) (line : List ℕ) : Type 0 where
   pub are : line ≡ place_text number first last ++ (cause ++ 10 ∷ [])
 
 module _ (from : CodecForm) (to : OutputForm) where
-  -- Of the octets that were given, values were converted, and this was written of them. The others are unread.
+  -- Values were converted of the octets that were given, and this was written of them. The others are unread.
   pub record Holds (pieces : Pieces) (given written : List ℕ) : Type 0 where
     pub octets : List ℕ
     pub count : ℕ

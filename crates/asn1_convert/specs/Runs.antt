@@ -1,4 +1,4 @@
--- What a program does with an input, and how it ends.
+-- The work of a program on an input, and its end.
 use Rattle.std.specs.Prelude.{◌≡◌, ℕ, ⊤, Bool, true, false, List, [], ◌++◌, length, Option, None, Some, Vec}
 use Rattle.std.specs.Io.KnownBytes.{Appends, Consumes, IsAtEnd}
 use Rattle.std.specs.String.{string_bytes}

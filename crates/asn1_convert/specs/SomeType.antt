@@ -1,4 +1,4 @@
--- What conversions and answers tell whatever the type is.
+-- Conversions and answers, whatever the type is.
 use Rattle.std.specs.Prelude.{◌≡◌, ℕ, suc, ⊤, List, [], ◌++◌, length, None, IfNone, MatchOption}
 use Rattle.std.specs.String.{string_bytes}
 use Rattle.asn1_certificate_rules.specs.Departures.{KeepsRules}

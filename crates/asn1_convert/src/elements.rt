@@ -23,7 +23,7 @@ pub(crate) struct Found {
 }
 
 /// The position of an element of BER: the numbers say how many elements are before it in each element that it is inside of, from the
-/// outermost on. Where there is none it is that of the innermost element around it.
+/// outermost on. If there is none it is that of the innermost element around it.
 pub(crate) fn find_position(alloc: Global, octets: &[u8], numbers: &[usize]) -> Found {
     let mut position = 0usize;
     let mut left = octets;

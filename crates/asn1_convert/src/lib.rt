@@ -33,7 +33,7 @@
 //! - Over any reader and writer that tell their bytes, a program has the values of an input converted and written as soon as they are
 //!   whole, once and in order, up to the end or to the value that its line names. It ends with 0 only if all of the input was
 //!   converted, or checked, and with 1 only if a line names a value or the input is refused (`EndsConversion`, `EndsWork` and
-//!   `status_of` of `specs/Runs.antt`). Which type has a name no contract says: these words hold whatever the type is, and
+//!   `status_of` of `specs/Runs.antt`). No contract says which type has a name: these words hold whatever the type is, and
 //!   [`Task::perform`] says of its type what is written.
 //!
 //! No contract covers texts in X.680's notation (`asn1_value_text`), nor the cause in a line on standard error, nor the place inside a

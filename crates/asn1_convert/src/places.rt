@@ -70,7 +70,7 @@ pub(crate) fn malformed_failure<T: Decode>(
     }
 }
 
-/// What is known by its type of the element at a place, if one is there.
+/// The facts that its type gives of the element at a place, if one is there.
 fn check_place(
     alloc: Global,
     form: CodecForm,

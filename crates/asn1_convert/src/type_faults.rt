@@ -17,7 +17,7 @@ const FIRST_LONG_NUMBER: u32 = 31;
 /// The bit of the first identifier octet of a constructed element (X.690, 8.1.2.5).
 const CONSTRUCTED: u8 = 32;
 
-/// What is known of an element by its type.
+/// The facts that its type gives of an element.
 #[derive(Clone, Copy)]
 pub(crate) enum TypeCheck {
     /// It has another tag, or cannot be found.
@@ -64,7 +64,7 @@ impl TypeFault {
     }
 }
 
-/// What is known of the element that begins at a position of octets in this form, and is to have these tags.
+/// The facts of the element that begins at a position of octets in this form, and is to have these tags.
 pub(crate) fn check_type(
     alloc: Global,
     form: CodecForm,
@@ -140,7 +140,7 @@ fn binds_ber(rule: Rule) -> bool {
     matches!(rule, Rule::PaddedInteger | Rule::PaddedArc)
 }
 
-/// What the tag, the form and the contents octets tell of an element, whose own spelling begins the octets.
+/// The facts that the tag, the form and the contents octets give of an element, whose own spelling begins the octets.
 fn check_contents(tags: ElementTags, octets: &[u8], element: Element<'_>) -> TypeCheck {
     if element.tag != tags.own {
         return TypeCheck::Unknown;
@@ -182,7 +182,7 @@ fn broken_rule_under(
     retagged.push(first)?;
     retagged.extend_from_slice(without(behind, element.rest))?;
     let identifier = octets.len().saturating_sub(behind.len());
-    // What lies inside was looked at under its own tags.
+    // The elements inside were looked at under their own tags.
     match find_broken_rule(retagged.as_slice(), Part::Other, RuleSet::OfReading, 0) {
         Some(Finding::Broken(broken)) => Ok(Some(BrokenRule {
             rule: broken.rule,
