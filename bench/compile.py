@@ -65,6 +65,7 @@ TABLE = {
     "folders": ("folders", [], []),
     "greetings": ("greetings", [], []),
     "ldap": ("asn1_ldap", [f"--extern={name}=asn1_recursive::{name}" for name in FILTERS], ["asn1_recursive"]),
+    "operations": ("operations", [], ["asn1_tables"]),
     "queries": ("queries", [], []),
     "signals": ("signals", [], ["asn1_tables"]),
     "snmp": ("snmp", [], []),
