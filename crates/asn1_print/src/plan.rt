@@ -119,7 +119,8 @@ const RESERVED: &[&str] = &[
     "WritesOpen",
 ];
 
-/// The modules that a crate has beside those of types, and the libraries of each crate.
+/// The modules that a crate has beside those of types, the libraries of each crate, and those of which a definition of a circle
+/// would be a word that its definitions bring in, as `list_meaning`.
 const MODULES: &[&str] = &[
     "aliases",
     "asn1_circles",
@@ -127,8 +128,11 @@ const MODULES: &[&str] = &[
     "asn1_schema",
     "asn1_tables",
     "asn1_tags",
+    "chosen",
     "lib",
+    "list",
     "main",
+    "set",
     "tags",
     "tests",
     "constants",
