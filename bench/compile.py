@@ -442,7 +442,7 @@ TABLES = ("M DEFINITIONS AUTOMATIC TAGS ::= BEGIN\nITEM ::= CLASS { &id INTEGER 
           "Same ITEM ::= { a | b }\nLess ITEM ::= { a EXCEPT b }\nEmpty ITEM ::= { ... }\na ITEM ::= { NULL BY 1 }\nb ITEM ::= { BOOLEAN BY 1 }\nEND\n")
 BESIDE = ("M DEFINITIONS AUTOMATIC TAGS ::= BEGIN\nTree ::= CHOICE { leaf NULL, trees SEQUENCE OF Tree }\nTreeReader ::= SEQUENCE { a NULL }\n"
           "TreeOf ::= SEQUENCE { a NULL }\nEND\n")
-PARTS = ("M DEFINITIONS AUTOMATIC TAGS ::= BEGIN\nTree ::= CHOICE { leaf NULL, node Node }\n"
+NUMBERED = ("M DEFINITIONS AUTOMATIC TAGS ::= BEGIN\nTree ::= CHOICE { leaf NULL, node Node }\n"
          "Node ::= SEQUENCE { args-x INTEGER, args SEQUENCE { x BOOLEAN, inner Tree OPTIONAL } }\nEND\n")
 CLASH = "M DEFINITIONS ::= BEGIN\nA ::= SEQUENCE { a NULL OPTIONAL, b NULL }\nEND\n"
 
@@ -493,7 +493,7 @@ def try_arguments():
             ["object set 'Less' has no table: it has EXCEPT", "objects 'a' and 'b' have the same &id"], 0))
     expect("types with the names of files of a circle", sorted(path for path in files_of(run(["x"], BESIDE)[0]) if path.startswith("src/tree")),
            ["src/tree.rt", "src/tree_of.rt", "src/tree_of2.rt", "src/tree_parts.rt", "src/tree_reader.rt", "src/tree_reader2.rt"])
-    parts = files_of(run(["x"], PARTS)[0]).get("src/tree_parts.rt", "")
+    parts = files_of(run(["x"], NUMBERED)[0]).get("src/tree_parts.rt", "")
     expect("two parts of a circle with one name", [line for line in parts.splitlines() if " struct " in line],
            [f"pub(crate) struct {name};" for name in ("NodeArgsXPart", "NodeArgsXPart2", "TreeOfLeafPart")])
     expect("--check", run(["x", "--check"], RIGHT), ("", "", 0))
