@@ -123,15 +123,18 @@ const RESERVED: &[&str] = &[
 /// would be a word that its definitions bring in, as `list_meaning`.
 const MODULES: &[&str] = &[
     "aliases",
+    "all",
     "asn1_circles",
     "asn1_contents",
     "asn1_schema",
     "asn1_tables",
     "asn1_tags",
     "chosen",
+    "each",
     "lib",
     "list",
     "main",
+    "sequence_knot",
     "set",
     "tags",
     "tests",
