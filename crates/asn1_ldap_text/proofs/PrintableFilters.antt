@@ -7,17 +7,19 @@ use Rattle.asn1_ldap.specs.declared.partial_attribute.PartialAttribute.{PartialA
 use Rattle.asn1_ldap_text.specs.Assertions.{assertion_text, closed_value, dn_text, lead_of, lead_text, matching_rule_text, open_part, part_text, parts_text, present_text, rule_text, substrings_text}
 use Rattle.asn1_ldap_text.specs.Attributes.{after_comma, attribute_text}
 use Rattle.asn1_ldap_text.specs.Escapes.{escaped_text, is_printable}
-use Rattle.asn1_ldap_text.specs.Filters.{filter_text, filters_text}
+use Rattle.asn1_ldap_text.specs.Filters.{content_text, filter_text}
 use Rattle.asn1_ldap_text.specs.Lengths.{length_text, optional_length}
 use Rattle.asn1_ldap_text.specs.Strings.{after_space, named, named_unless_empty, optional_word, quoted, word}
 use Rattle.asn1_ldap_text.specs.declared.escapes.Place.TheVariants.{Assertion, Quotes, Word}
 use Rattle.asn1_ldap_text.proofs.Printable.{Printable, both, decimal_printable, each, either, escaped_printable}
-use Rattle.asn1_recursive.specs.declared.attribute_value_assertion.AttributeValueAssertion.{AttributeValueAssertion}
-use Rattle.asn1_recursive.specs.declared.filter.Filter.{Filter, And', Or', Not', EqualityMatch, Substrings, GreaterOrEqual, LessOrEqual, Present, ApproxMatch, ExtensibleMatch, Row_of-Filter, end_of-Filter, more_of-Filter}
-use Rattle.asn1_recursive.specs.declared.matching_rule_assertion.MatchingRuleAssertion.{MatchingRuleAssertion}
-use Rattle.asn1_recursive.specs.declared.substring.Substring.{Substring}
-use Rattle.asn1_recursive.specs.declared.substring.Substring.TheVariants.{Initial, Any, Final}
-use Rattle.asn1_recursive.specs.declared.substring_filter.SubstringFilter.{SubstringFilter}
+use Rattle.asn1_ldap.specs.declared.attribute_value_assertion.AttributeValueAssertion.{AttributeValueAssertion}
+use Rattle.asn1_ldap.specs.declared.filter.Filter.{Filter, Filter-F, fold-roll-Filter, ind-Filter, map-Filter}
+use Rattle.asn1_ldap.specs.declared.filter_of.FilterOf.{FilterOf}
+use Rattle.asn1_ldap.specs.declared.filter_of.FilterOf.TheVariants.{And, Or, Not, EqualityMatch, Substrings, GreaterOrEqual, LessOrEqual, Present, ApproxMatch, ExtensibleMatch}
+use Rattle.asn1_ldap.specs.declared.matching_rule_assertion.MatchingRuleAssertion.{MatchingRuleAssertion}
+use Rattle.asn1_ldap.specs.declared.substring_filter_substrings_element.SubstringFilterSubstringsElement.{SubstringFilterSubstringsElement as Substring}
+use Rattle.asn1_ldap.specs.declared.substring_filter_substrings_element.SubstringFilterSubstringsElement.TheVariants.{Initial, Any, Final}
+use Rattle.asn1_ldap.specs.declared.substring_filter.SubstringFilter.{SubstringFilter}
 
 -- ---- strings
 
@@ -108,22 +110,21 @@ matching_rule_printable a =
     both (optional_word [] a.attribute) (rule_text a ++ (codes ":=" ++ closed_value a.value)) (optional_word_printable [] a.attribute refl)
     (both (rule_text a) (codes ":=" ++ closed_value a.value) (rule_printable a) (closed_printable a.value))
 
-mutual
-  pub filter_printable : (filter : Filter) → Printable (filter_text filter)
-  filter_printable (And' shape filters) = both (filters_text filters) (codes ")") (filters_printable filters) refl
-  filter_printable (Or' shape filters) = both (filters_text filters) (codes ")") (filters_printable filters) refl
-  filter_printable (Not' place inner) = both (filter_text inner) (codes ")") (filter_printable inner) refl
-  filter_printable (EqualityMatch assertion) = assertion_printable (codes "=") assertion refl
-  filter_printable (Substrings assertion) = substrings_printable assertion
-  filter_printable (GreaterOrEqual assertion) = assertion_printable (codes ">=") assertion refl
-  filter_printable (LessOrEqual assertion) = assertion_printable (codes "<=") assertion refl
-  filter_printable (Present attribute) = present_printable attribute
-  filter_printable (ApproxMatch assertion) = assertion_printable (codes "~=") assertion refl
-  filter_printable (ExtensibleMatch assertion) = matching_rule_printable assertion
+-- what a filter is made of, where the texts of the filters in it are printable
+content_printable : {T : Type 0} (text : T → List ℕ) → ((x : T) → Printable (text x)) → (content : FilterOf T) → Printable (content_text text content)
+content_printable text each_is (And filters) = both (flat_map text filters) (codes ")") (each text filters each_is) refl
+content_printable text each_is (Or filters) = both (flat_map text filters) (codes ")") (each text filters each_is) refl
+content_printable text each_is (Not inner) = both (text inner) (codes ")") (each_is inner) refl
+content_printable text each_is (EqualityMatch assertion) = assertion_printable (codes "=") assertion refl
+content_printable text each_is (Substrings assertion) = substrings_printable assertion
+content_printable text each_is (GreaterOrEqual assertion) = assertion_printable (codes ">=") assertion refl
+content_printable text each_is (LessOrEqual assertion) = assertion_printable (codes "<=") assertion refl
+content_printable text each_is (Present attribute) = present_printable attribute
+content_printable text each_is (ApproxMatch assertion) = assertion_printable (codes "~=") assertion refl
+content_printable text each_is (ExtensibleMatch assertion) = matching_rule_printable assertion
 
-  filters_printable : {m : _} (filters : Row_of-Filter m) → Printable (filters_text filters)
-  filters_printable end_of-Filter = refl
-  filters_printable (more_of-Filter filter rest) = both (filter_text filter) (filters_text rest) (filter_printable filter) (filters_printable rest)
+pub filter_printable : (filter : Filter) → Printable (filter_text filter)
+filter_printable = ind-Filter (λ v. Printable (filter_text v)) (λ x y is. ?)
 
 -- each character of a filter's text passes the test
 pub filter_passes : (filter : Filter) → AllPass is_printable (filter_text filter)

@@ -2,8 +2,9 @@
 use crate::hollow::Hollow;
 use crate::marker_tags::{ApplicationTag, ContextTag, PrivateTag};
 use crate::named_types::{TypeCase, TypeNames};
+use asn1_ldap::Filter;
 use asn1_open::Open;
-use asn1_recursive::{Filter, Nested};
+use asn1_recursive::Nested;
 use asn1_samples::{
     Badge, Color, Corner, Envelope, Gauge, Labelled, Node, Notice, Pair, Person, Plate, Profile,
     Settings, Shape, Ticket, Visit,

@@ -1,8 +1,9 @@
 //! Values that hold themselves.
 use asn1_dec::Decode;
 use asn1_enc::{Encode, EncodeError};
+use asn1_ldap::Filter;
 use asn1_open::Open;
-use asn1_recursive::{Filter, Nested};
+use asn1_recursive::Nested;
 use asn1_types::{InstanceOf, SetOf};
 use std::alloc::Global;
 use std::io;
@@ -127,10 +128,10 @@ fn instance(alloc: Global, value: Open) -> Result<Open, Failure> {
 
 /// A filter for a name inside this many NOT, one in another.
 fn nots(alloc: Global, around: usize) -> Result<Filter, Failure> {
-    let mut filter = units(alloc, b"cn").map(Filter::Present)?;
+    let mut filter = present(alloc)?;
     for _level in 0..around {
-        filter = match Box::new(alloc, filter) {
-            Ok(inner) => Filter::Not(inner),
+        filter = match Filter::not(alloc, filter) {
+            Ok(outer) => outer,
             Err(_) => return Err(Failure::Memory),
         };
     }
@@ -139,13 +140,29 @@ fn nots(alloc: Global, around: usize) -> Result<Filter, Failure> {
 
 /// A filter for a name inside this many AND of one, one in another.
 fn ands(alloc: Global, around: usize) -> Result<Filter, Failure> {
-    let mut filter = units(alloc, b"cn").map(Filter::Present)?;
+    let mut filter = present(alloc)?;
     for _level in 0..around {
-        let mut filters = SetOf::new(alloc);
-        filter = match filters.insert(filter) {
-            Ok(()) => Filter::And(filters),
-            Err(_) => return Err(Failure::Memory),
-        };
+        filter = and(alloc, filter)?;
     }
     Ok(filter)
+}
+
+/// An AND of one filter.
+fn and(alloc: Global, filter: Filter) -> Result<Filter, Failure> {
+    let mut filters = SetOf::new(alloc);
+    if filters.insert(filter).is_err() {
+        return Err(Failure::Memory);
+    }
+    match Filter::and(alloc, filters) {
+        Ok(outer) => Ok(outer),
+        Err(_) => Err(Failure::Memory),
+    }
+}
+
+/// A filter for a name.
+fn present(alloc: Global) -> Result<Filter, Failure> {
+    match Filter::present(alloc, units(alloc, b"cn")?) {
+        Ok(filter) => Ok(filter),
+        Err(_) => Err(Failure::Memory),
+    }
 }
