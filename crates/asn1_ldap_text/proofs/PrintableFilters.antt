@@ -1,5 +1,5 @@
 -- The texts of strings, attributes and filters are printable.
-use Rattle.std.proofs.Common.{◌≡◌, ℕ, Bool, true, false, List, [], ◌∷◌, ◌++◌, ◌==◌, Option, None, Some, codes, length, refl}
+use Rattle.std.proofs.Common.{◌≡◌, ℕ, Bool, true, false, List, [], ◌∷◌, ◌++◌, ◌==◌, Option, None, Some, codes, length, map, refl, subst, sym}
 use Rattle.std.specs.Fmt.{decimal}
 use Rattle.std.specs.List.{AllPass, flat_map}
 use Rattle.std.proofs.lemmas.List.Sums.{AllPass-from_list_all}
@@ -110,21 +110,34 @@ matching_rule_printable a =
     both (optional_word [] a.attribute) (rule_text a ++ (codes ":=" ++ closed_value a.value)) (optional_word_printable [] a.attribute refl)
     (both (rule_text a) (codes ":=" ++ closed_value a.value) (rule_printable a) (closed_printable a.value))
 
--- what a filter is made of, where the texts of the filters in it are printable
-content_printable : {T : Type 0} (text : T → List ℕ) → ((x : T) → Printable (text x)) → (content : FilterOf T) → Printable (content_text text content)
-content_printable text each_is (And filters) = both (flat_map text filters) (codes ")") (each text filters each_is) refl
-content_printable text each_is (Or filters) = both (flat_map text filters) (codes ")") (each text filters each_is) refl
-content_printable text each_is (Not inner) = both (text inner) (codes ")") (each_is inner) refl
-content_printable text each_is (EqualityMatch assertion) = assertion_printable (codes "=") assertion refl
-content_printable text each_is (Substrings assertion) = substrings_printable assertion
-content_printable text each_is (GreaterOrEqual assertion) = assertion_printable (codes ">=") assertion refl
-content_printable text each_is (LessOrEqual assertion) = assertion_printable (codes "<=") assertion refl
-content_printable text each_is (Present attribute) = present_printable attribute
-content_printable text each_is (ApproxMatch assertion) = assertion_printable (codes "~=") assertion refl
-content_printable text each_is (ExtensibleMatch assertion) = matching_rule_printable assertion
+-- a filter with a printable text
+abbrev PrintableFilter : Type 0
+PrintableFilter = (filter : Filter) × Printable (filter_text filter)
+
+texts_printable : (filters : List PrintableFilter) → Printable (flat_map (λ text. text) (map filter_text (map (λ inner. inner.0) filters)))
+texts_printable [] = refl
+texts_printable (filter ∷ rest) = both (filter_text filter.0) (flat_map (λ text. text) (map filter_text (map (λ inner. inner.0) rest))) filter.1 (texts_printable rest)
+
+-- the text of what a filter is made of, whose filters have printable texts
+abbrev text_of : Filter-F PrintableFilter → FilterOf PrintableFilter → List ℕ
+text_of f content = content_text (λ text. text) (map-Filter Filter (List ℕ) filter_text (map-Filter PrintableFilter Filter (λ inner. inner.0) (record f { 0 = record f.0 { value = content } }))).0.value
+
+content_printable : (f : Filter-F PrintableFilter) (content : FilterOf PrintableFilter) → Printable (text_of f content)
+content_printable f (And filters) = both (flat_map (λ text. text) (map filter_text (map (λ inner. inner.0) filters))) (codes ")") (texts_printable filters) refl
+content_printable f (Or filters) = both (flat_map (λ text. text) (map filter_text (map (λ inner. inner.0) filters))) (codes ")") (texts_printable filters) refl
+content_printable f (Not inner) = both (filter_text inner.0) (codes ")") inner.1 refl
+content_printable f (EqualityMatch assertion) = assertion_printable (codes "=") assertion refl
+content_printable f (Substrings assertion) = substrings_printable assertion
+content_printable f (GreaterOrEqual assertion) = assertion_printable (codes ">=") assertion refl
+content_printable f (LessOrEqual assertion) = assertion_printable (codes "<=") assertion refl
+content_printable f (Present attribute) = present_printable attribute
+content_printable f (ApproxMatch assertion) = assertion_printable (codes "~=") assertion refl
+content_printable f (ExtensibleMatch assertion) = matching_rule_printable assertion
 
 pub filter_printable : (filter : Filter) → Printable (filter_text filter)
-filter_printable = ind-Filter (λ v. Printable (filter_text v)) (λ x y is. ?)
+filter_printable = ind-Filter (λ filter. Printable (filter_text filter)) (λ x y is.
+    subst Printable (sym (fold-roll-Filter (List ℕ) (λ f. content_text (λ text. text) f.0.value) x))
+    (subst (λ z. Printable (content_text (λ text. text) (map-Filter Filter (List ℕ) filter_text z).0.value)) is (content_printable y y.0.value)))
 
 -- each character of a filter's text passes the test
 pub filter_passes : (filter : Filter) → AllPass is_printable (filter_text filter)
