@@ -67,17 +67,10 @@ utf8_string bytes = under_own_name (record (scalar_type (universal 12) unconstra
 abbrev pub object_identifier : Meaning (List ℕ)
 object_identifier = without_constraints (string_type (universal 6) (codes "OBJECT_IDENTIFIER") (λ arc. arc < 2 ^ 32) arcs)
 
--- An INTEGER (X.680, 19) whose values are the members of a bound.
+-- An INTEGER (X.680, 19 and 51.4) whose values are the members of a bound.
 abbrev pub integer_type : {V : Type 0} → (V → ℤ) → Bounded ℤ → Meaning V
 integer_type number_of bound = record (scalar_type (universal 2) (values_of bound) (Some (codes "INTEGER")) (λ v. number (number_of v))) {
   IsOfType = λ v. IsMember (λ n. n) bound (number_of v);
-}
-
--- An INTEGER with limits (X.680, 19 and 51.4): a number of any size, which is valid if and only if it is a member.
-abbrev pub limited_integer_type : Bounded ℤ → Meaning ℤ
-limited_integer_type bound = record (scalar_type (universal 2) (values_of bound) (Some (codes "INTEGER")) number) {
-  IsValid = λ _ n. IsMember (λ z. z) bound n;
-  well_formed = λ accepts v t c n _. (tt, tt);
 }
 
 -- An INTEGER (X.680, 19) of any size.

@@ -1,9 +1,11 @@
 //! Laws on the invariants of types. The theorem for bytes from elsewhere asks these invariants of the values that the bytes
 //! encode.
-ghost use Rattle.std.specs.Prelude.{◌≡◌, ◌↔◌, ℤ, Bool, List, All, IfSome, IsTrue, Option, length};
+ghost use Rattle.std.specs.Prelude.{◌≡◌, ◌↔◌, ℤ, Bool, List, All, IfSome, IsTrue, Option, Some, length};
 ghost use Rattle.std.specs.Cow.{cow_value};
 ghost use Rattle.std.specs.Str.{IsUtf8};
 ghost use Rattle.std.specs.String.{string_bytes};
+ghost use Rattle.asn1_ranges.specs.Members.{IsMember};
+ghost use Rattle.asn1_ranges.specs.declared.bounded.Bounded.TheVariants.{Range};
 
 use crate::asn_type::AsnType;
 use crate::strings::StringType;
@@ -28,7 +30,8 @@ pub fn plain_types_state_their_invariants<
     ensures null { (v : _) → ⟦<() as AsnType>⟧.meaning.IsOfType v }
     ensures boolean { (b : Bool) → ⟦<bool as AsnType>⟧.meaning.IsOfType b }
     ensures integer { (n : ℤ) → ⟦<Integer as AsnType>⟧.meaning.IsOfType n }
-    ensures limited { (n : ℤ) → ⟦<LimitedInteger<L> as AsnType>⟧.meaning.IsOfType n }
+    ensures limited { (n : ℤ) → ⟦<LimitedInteger<L> as AsnType>⟧.meaning.IsOfType n ↔
+        IsMember (λ z. z) (Range (Some L.start) (Some L.end)) n }
     ensures marker { (v : _) → ⟦<Marker<NUMBER> as AsnType>⟧.meaning.IsOfType v }
     ensures phantom { (v : _) → ⟦<PhantomData<T> as AsnType>⟧.meaning.IsOfType v }
     ensures units { (s : List U) → ⟦<UnitString<U, K> as AsnType>⟧.meaning.IsOfType s ↔
