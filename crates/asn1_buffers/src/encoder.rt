@@ -327,7 +327,7 @@ impl<B: RecordBuffer> Encoder for BufferEncoder<B> {
     }
 
     #[inline(always)]
-    fn mark_group_absent(&mut self) -> Result<(), EncodeError> {
+    fn mark_group_absent<C: FieldTable>(&mut self) -> Result<(), EncodeError> {
         self.append_mark(MarkKind::GroupAbsent)
     }
 

@@ -142,9 +142,10 @@ pub trait Encoder: Sized {
     fn mark_addition_absent(&mut self, tag: Tag) -> Result<(), EncodeError>
         ensures { Writes writer self.old (mark_records (absent in_additions tag)) ⊤ self.new result };
 
-    /// The mark of a group of additions that is absent.
-    fn mark_group_absent(&mut self) -> Result<(), EncodeError>
-        ensures { Writes writer self.old (mark_records group_absent) ⊤ self.new result };
+    /// The mark of a group of additions that is absent, whose components are those of the table of `C`.
+    fn mark_group_absent<C: FieldTable>(&mut self) -> Result<(), EncodeError>
+        ensures { Writes writer self.old (mark_records (group_absent (rows C.components)))
+            ⊤ self.new result };
 
     /// Opens a SEQUENCE, whose components are those of the table of `C`.
     fn open_sequence<C: FieldTable>(
@@ -786,7 +787,7 @@ pub trait Encoder: Sized {
             result }
     {
         match value {
-            None => self.mark_group_absent(),
+            None => self.mark_group_absent::<C>(),
             Some(group) => {
                 self.open_group::<C>()?;
                 group.encode_fields(self)?;

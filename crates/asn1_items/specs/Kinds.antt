@@ -113,7 +113,7 @@ abbrev pub kind_of_mark : PresenceMark → MarkKind
 kind_of_mark (present side t) = mark_kind.Present
 kind_of_mark (absent side t) = mark_kind.Absent
 kind_of_mark (group_start table) = mark_kind.GroupStart
-kind_of_mark group_absent = mark_kind.GroupAbsent
+kind_of_mark (group_absent table) = mark_kind.GroupAbsent
 kind_of_mark group_end = mark_kind.GroupEnd
 
 -- the byte of a kind of presence mark in the packed form

@@ -341,7 +341,7 @@ impl<F: TextForm> Encoder for TextEncoder<F> {
         self.append_absence()
     }
 
-    fn mark_group_absent(&mut self) -> Result<(), EncodeError> {
+    fn mark_group_absent<C: FieldTable>(&mut self) -> Result<(), EncodeError> {
         self.append_absence()
     }
 

@@ -118,7 +118,7 @@ impl Encoder for Listener {
         Err(EncodeError::Failed)
     }
 
-    fn mark_group_absent(&mut self) -> Result<(), EncodeError> {
+    fn mark_group_absent<C: FieldTable>(&mut self) -> Result<(), EncodeError> {
         Err(EncodeError::Failed)
     }
 
@@ -184,7 +184,7 @@ impl Encoder for Listener {
     ghost lawful = { record {
       part = λ _ _ _ h. h;
       inner = λ _ _ h. h;
-      marks = λ _ _ h. h;
+      marks = λ _ _ _ h. h;
       wrote_in_any_order = λ _ _ _ _ h. h;
       rejects_in_any_order = λ _ _ _ h. h;
     } };
