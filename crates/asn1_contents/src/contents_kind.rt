@@ -79,5 +79,7 @@ impl<K: ContentsKind> CodecString<u8> for ContentsOf<K> {
         }
     }
 
-    ghost is_string = { λ _. refl };
+    ghost is_string = { λ _ _. refl };
+
+    ghost has_kind = { λ _. refl };
 }

@@ -2,13 +2,15 @@
 ghost use Rattle.asn1_der_items.specs.Contents.{HasContents};
 ghost use Rattle.asn1_items.specs.declared.error.ItemError.TheVariants.{Memory};
 ghost use Rattle.asn1_model.specs.Records as model;
-ghost use Rattle.asn1_types.specs.AnyStrings.{IsStringOf, content_of_string};
-ghost use Rattle.std.specs.Prelude.{◌≡◌, ⊤, MatchResult};
+ghost use Rattle.asn1_types.specs.AnyStrings.{IsMadeAs, IsStringOf, content_of_string};
+ghost use Rattle.asn1_items.specs.Bits.{AreBits};
+ghost use Rattle.asn1_values.specs.Bits.{EndsInOne, without_trailing_zeros};
+ghost use Rattle.std.specs.Prelude.{◌≡◌, ⊤, Bool, IfOk, List, MatchResult};
 
 use asn1_der_items::{read_arcs, read_integer};
-use asn1_items::{FromContent, ItemError, StringOf, read_bits, read_twos};
+use asn1_items::{FromContent, ItemError, StringOf, read_bits, read_packed_bits, read_twos};
 use asn1_types::{AnyString, CodecString, StringKind};
-use asn1_values::{Integer, IntegerType, ObjectIdentifier};
+use asn1_values::{BitVec, Integer, IntegerType, ObjectIdentifier};
 use std::alloc::{AllocError, Global};
 
 /// A type that is read from the contents octets of an element.
@@ -77,14 +79,30 @@ impl<U, K: CodecString<U>> FromContents for StringOf<U, K> {
 /// Reads the octets of a string of this kind. Its units need not be those that strings of the kind can have.
 fn read_string(alloc: Global, kind: StringKind, octets: &[u8]) -> Result<AnyString, ItemError>
     ensures read { (x : model.Content) → IsStringOf kind x → HasContents x octets.now →
-        MatchResult result (λ string. content_of_string string ≡ x) (λ e. e ≡ Memory) }
+        MatchResult result (λ string. IsMadeAs kind string × (content_of_string string ≡ x))
+        (λ e. e ≡ Memory) }
 {
     match kind {
         StringKind::Bits => Ok(AnyString::Bits(read_bits(alloc, octets)?)),
+        StringKind::PackedBits => Ok(AnyString::PackedBits(read_packed_bits(alloc, octets)?)),
+        StringKind::NamedBits => Ok(AnyString::PackedBits(read_named_bits(alloc, octets)?)),
         StringKind::Octets(kind) => Ok(AnyString::Octets(kind, Vec::from_slice(alloc, octets)?)),
         StringKind::Teletex => Ok(AnyString::Teletex(read_ones(alloc, octets)?)),
         StringKind::Bmp => Ok(AnyString::Bmp(read_twos(alloc, octets)?)),
     }
+}
+
+/// Reads named bits, without the 0 bits at their end, of which any number may come (X.690, 8.6.2.4).
+///
+/// # Errors
+/// Those of [`read_packed_bits`].
+pub fn read_named_bits(alloc: Global, octets: &[u8]) -> Result<BitVec, ItemError>
+    ensures read { (list : List Bool) → AreBits list octets.now → MatchResult result
+        (λ v. v ≡ without_trailing_zeros list) (λ e. e ≡ Memory) }
+    ensures ends { IfOk result (λ v. EndsInOne v) }
+{
+    let bits = read_packed_bits(alloc, octets)?;
+    Ok(bits.without_trailing_zeros())
 }
 
 /// Reads numbers of one octet each.

@@ -33,7 +33,7 @@ use asn1_values::kind::{
     Bits, Bmp, General, Graphic, Ia5, Numeric, Octets, Printable, Teletex, Visible,
 };
 use asn1_values::{
-    BmpString, GeneralString, GraphicString, Ia5String, IntegerType, NumericString,
+    BitVec, BmpString, GeneralString, GraphicString, Ia5String, IntegerType, NumericString,
     PrintableString, TeletexString, VisibleString,
 };
 use std::alloc::{AllocError, Global};
@@ -120,6 +120,17 @@ pub trait Encoder: Sized {
     ) -> Result<(), EncodeError>
         ensures { WritesContent writer tag (constraint_set constraints.now) (name_of name)
             (K.content value.now) ⊤ self.old self.new result };
+
+    /// A BIT STRING whose bits lie in octets, or have names.
+    fn encode_packed_bits(
+        &mut self,
+        tag: Tag,
+        constraints: &Constraints<'_>,
+        value: &BitVec,
+        name: Identifier,
+    ) -> Result<(), EncodeError>
+        ensures { WritesContent writer tag (constraint_set constraints.now) (name_of name)
+            (bits value.now) ⊤ self.old self.new result };
 
     /// A value of an open type, by its bytes, under whatever tag.
     fn encode_any(&mut self, tag: Tag, value: &Any, name: Identifier) -> Result<(), EncodeError>

@@ -6,10 +6,11 @@ use Rattle.std.specs.Option.{option_map}
 use Rattle.asn1_tags.specs.declared.tags.Tag.{Tag}
 use Rattle.asn1_tags.specs.Tags.{tag_eq, distinct}
 use Rattle.asn1_tags.specs.Trees.{Tree, Trees, leaf, choice, leaves}
+use Rattle.asn1_values.specs.Bits.{EndsInOne}
 use Rattle.asn1_ranges.specs.Members.{IsMember}
 use Rattle.asn1_ranges.specs.declared.bounded.Bounded.{Bounded}
 use Rattle.asn1_model.specs.ConstraintSets.{ConstraintSet, unconstrained, values_of, size_of}
-use Rattle.asn1_model.specs.Records.{Name, Record, name_or, Content, Head, arcs, in_root, number, null, units, utf8, scalar, discriminant, holding, sequence_of}
+use Rattle.asn1_model.specs.Records.{Name, Record, name_or, Content, Head, arcs, bits, in_root, number, null, units, utf8, scalar, discriminant, holding, sequence_of}
 use Rattle.asn1_model.specs.RecordTables.{Label, Row, Table}
 use Rattle.asn1_model.specs.Tags.{universal, CHOICE, Has, HasOwnTag, IsATag, first_tag, tree_tags}
 use Rattle.asn1_model.specs.Composites.{option_records, choice_records}
@@ -56,6 +57,14 @@ under_own_name m = record m {
 abbrev pub string_type : {U : Type 0} → Tag → List ℕ → (U → Type 0) → (List U → Content) → Meaning (List U)
 string_type tag name IsUnit content =
     under_own_name (record (scalar_type tag unconstrained (Some name) content) { IsOfType = λ units. All IsUnit units })
+
+-- A BIT STRING (X.680, 22) of any bits.
+abbrev pub bit_string : Meaning (List Bool)
+bit_string = string_type (universal 3) (codes "BIT_STRING") (λ _. ⊤) bits
+
+-- A BIT STRING with named bits (22.7), of which the last is 1, if there is one, since 0 bits at the end mean nothing.
+abbrev pub named_bit_string : Meaning (List Bool)
+named_bit_string = record bit_string { IsOfType = EndsInOne }
 
 -- A UTF8String (X.680, 41), by its bytes, which are those of a text.
 abbrev pub utf8_string : {V : Type 0} → (V → List ℕ) → Meaning V

@@ -4,6 +4,7 @@ ghost use Rattle.std.specs.Prelude.{◌≡◌, ◌↔◌, ℤ, Bool, List, All, 
 ghost use Rattle.std.specs.Cow.{cow_value};
 ghost use Rattle.std.specs.Str.{IsUtf8};
 ghost use Rattle.std.specs.String.{string_bytes};
+ghost use Rattle.asn1_values.specs.Bits.{EndsInOne};
 ghost use Rattle.asn1_ranges.specs.Members.{IsMember};
 ghost use Rattle.asn1_ranges.specs.declared.bounded.Bounded.TheVariants.{Range};
 
@@ -11,13 +12,14 @@ use crate::asn_type::AsnType;
 use crate::strings::StringType;
 use crate::tag::Marker;
 use asn1_values::{
-    Alphabet, AlphabetString, Integer, LimitedInteger, Limits, StringUnit, UnitString,
+    Alphabet, AlphabetString, BitVec, Integer, LimitedInteger, Limits, NamedBitString, StringUnit,
+    UnitString,
 };
 use std::borrow::Cow;
 use std::marker::PhantomData;
 
-/// A law of the types that hold no others: a string has the units of its kind, a UTF8String the bytes of a text, and each value of
-/// another type meets its invariant. The built-in integers have a law of their own.
+/// A law of the types that hold no others: a string has the units of its kind, a UTF8String the bytes of a text, named bits end in
+/// 1, a number with limits is within them, and each value of another type meets its invariant. The built-in integers have a law of their own.
 pub fn plain_types_state_their_invariants<
     'a,
     L: Limits,
@@ -38,6 +40,9 @@ pub fn plain_types_state_their_invariants<
         All U.IsInRange s }
     ensures alphabet { (s : List U) → ⟦<AlphabetString<U, A> as AsnType>⟧.meaning.IsOfType s ↔
         All (λ unit. IsTrue (A.allows unit)) s }
+    ensures packed_bits { (s : List Bool) → ⟦<BitVec as AsnType>⟧.meaning.IsOfType s }
+    ensures named_bits { (s : List Bool) → ⟦<NamedBitString as AsnType>⟧.meaning.IsOfType s ↔
+        EndsInOne s }
     ensures string { ⟦<String as AsnType>⟧.meaning.IsOfType _string.now ↔
         IsUtf8 (string_bytes _string.now) }
     ensures text { ⟦<&'a str as AsnType>⟧.meaning.IsOfType _text.entry ↔ IsUtf8 _text.entry.now }

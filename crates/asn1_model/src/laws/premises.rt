@@ -11,8 +11,8 @@ use crate::asn_type::AsnType;
 use crate::strings::StringType;
 use crate::tag::Marker;
 use asn1_values::{
-    Alphabet, AlphabetString, Integer, LimitedInteger, Limits, ObjectIdentifier, StringUnit,
-    UnitString,
+    Alphabet, AlphabetString, BitVec, Integer, LimitedInteger, Limits, NamedBitString,
+    ObjectIdentifier, StringUnit, UnitString,
 };
 use std::borrow::Cow;
 use std::marker::PhantomData;
@@ -46,6 +46,8 @@ pub fn types_that_hold_no_others_are_plain<
     ensures string { IsPlain ⟦<String as AsnType>⟧.meaning }
     ensures text { IsPlain ⟦<&'a str as AsnType>⟧.meaning }
     ensures units { IsPlain ⟦<UnitString<U, K> as AsnType>⟧.meaning }
+    ensures packed_bits { IsPlain ⟦<BitVec as AsnType>⟧.meaning }
+    ensures named_bits { IsPlain ⟦<NamedBitString as AsnType>⟧.meaning }
     ensures alphabet { IsPlain ⟦<AlphabetString<U, A> as AsnType>⟧.meaning }
     ensures identifier { IsPlain ⟦<ObjectIdentifier as AsnType>⟧.meaning }
     ensures marker { IsPlain ⟦<Marker<NUMBER> as AsnType>⟧.meaning }

@@ -6,7 +6,7 @@ use asn1_components::{Choice, EnumeratedTable, FieldTable};
 use asn1_enc::{EncodeError, Encoder};
 use asn1_tags::{Identifier, Tag};
 use asn1_types::{Any, CodecString};
-use asn1_values::IntegerType;
+use asn1_values::{BitVec, IntegerType};
 use std::alloc::Global;
 
 /// The codec that listens. Each call answers that it has failed, so that nothing of it has to be right but what it keeps.
@@ -88,6 +88,16 @@ impl Encoder for Listener {
         _tag: Tag,
         _constraints: &Constraints<'_>,
         _value: &[U],
+        _name: Identifier,
+    ) -> Result<(), EncodeError> {
+        Err(EncodeError::Failed)
+    }
+
+    fn encode_packed_bits(
+        &mut self,
+        _tag: Tag,
+        _constraints: &Constraints<'_>,
+        _value: &BitVec,
         _name: Identifier,
     ) -> Result<(), EncodeError> {
         Err(EncodeError::Failed)
