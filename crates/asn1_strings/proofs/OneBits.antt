@@ -80,7 +80,8 @@ pub compared : (octets others : List ℕ) (unused other : ℕ) (bits list : List
     AllBelowBase 256 octets → AllBelowBase 256 others → AreOfBits octets unused → AreOfBits others other →
     (r : Bool) → Decides r (AreSame octets unused others other) → r ≡ pointwise beq bits list
 compared octets others unused other bits list view too_view under more are too r decides =
-    same_from_decides r (pointwise beq bits list)
-    (λ yes. let same = decides.0 yes in sym view ∙ ap (λ n. bits_but n octets) same.as_many ∙ ap (bits_but other) same.alike ∙ too_view,
-    λ same. decides.1 (one_list octets others unused other under more are too (view ∙ same ∙ sym too_view)))
+    same_from_decides r (pointwise beq bits list) (
+      λ yes. let same = decides.0 yes in sym view ∙ ap (λ n. bits_but n octets) same.as_many ∙ ap (bits_but other) same.alike ∙ too_view,
+      λ same. decides.1 (one_list octets others unused other under more are too (view ∙ same ∙ sym too_view)),
+    )
     (pointwise_decides booleans_Decides bits list)

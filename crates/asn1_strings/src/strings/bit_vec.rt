@@ -2,12 +2,12 @@
 ghost use Rattle.std.specs.Bool.{Decides};
 ghost use Rattle.std.specs.Cmp.Lexicographic.{lists_equiv, lists_per, pointwise};
 ghost use Rattle.std.specs.Iterator.{YieldsFirst, item_count};
-ghost use Rattle.std.specs.Prelude.{◌≡◌, ◌↔◌, ◌<◌, ◌≤◌, ◌+◌, ◌*◌, ◌-◌, ◌%◌, ◌^◌, ◌++◌, [], IfSome, IsSome, IsTrue, false, length, replicate, slice_get, slice_index_or, take};
+ghost use Rattle.std.specs.Prelude.{◌≡◌, ◌↔◌, ◌<◌, ◌≤◌, ◌+◌, ◌*◌, ◌-◌, ◌%◌, ◌^◌, ◌++◌, [], IfOk, IfSome, IsSome, IsTrue, false, length, replicate, slice_get, slice_index_or, take};
 ghost use Rattle.asn1_strings.specs.BitLists.{bits_left};
 ghost use Rattle.asn1_strings.specs.Bits.{AreOfBits, bits_but, bits_of_octet, bits_of_octets, without_trailing_zeros};
 
 use crate::strings::string_unit::StringUnit;
-use std::alloc::Global;
+use std::alloc::{AllocError, Global};
 use std::marker::Model;
 
 /// A BIT STRING (X.680, 22) by octets, with eight bits in each: the first bit is the highest of the first octet, and the bits
@@ -116,6 +116,18 @@ impl BitVec {
             bits: self,
             index: 0,
         }
+    }
+
+    /// The bits in a list, a `bool` each.
+    pub fn to_vec(&self, alloc: Global) -> Result<Vec<bool>, AllocError>
+        ensures { IfOk result (λ bits. bits.items ≡ self.now) }
+    {
+        let mut bits = Vec::new(alloc);
+        'copied: while bits.len() < self.len() {
+            let bit = self.bit(bits.len());
+            bits.push(bit)?;
+        }
+        Ok(bits)
     }
 
     /// The first bits, as many as asked for. Takes no memory.
