@@ -2,7 +2,7 @@
 ghost use Rattle.asn1_der_items.specs.Contents.{HasContents};
 ghost use Rattle.asn1_items.specs.declared.error.ItemError.TheVariants.{Memory};
 ghost use Rattle.asn1_model.specs.Records as model;
-ghost use Rattle.asn1_types.specs.AnyStrings.{IsMadeAs, IsStringOf, content_of_string};
+ghost use Rattle.asn1_types.specs.AnyStrings.{IsMadeAs, IsStringOf, content_kind_of, content_of_string, content_read};
 ghost use Rattle.asn1_items.specs.Bits.{AreBits};
 ghost use Rattle.asn1_values.specs.Bits.{EndsInOne, without_trailing_zeros};
 ghost use Rattle.std.specs.Prelude.{◌≡◌, ⊤, Bool, IfOk, List, MatchResult};
@@ -15,16 +15,26 @@ use std::alloc::{AllocError, Global};
 
 /// A type that is read from the contents octets of an element.
 pub(crate) trait FromContents: FromContent {
+    // The values whose contents may come: those of the type, and others that mean one of these.
+    ghost MayCome: { Self.Value → Type 0 };
+
+    // The value that is read where this one comes.
+    ghost IsReadOf: { Self → Self.Value → Type 0 };
+
     /// Reads a value from contents octets of the kind.
     ///
     /// # Errors
     /// [`ItemError::Memory`], and [`ItemError::Malformed`] where the octets are no contents of the kind, or not of the type.
     fn from_contents(alloc: Global, octets: &[u8]) -> Result<Self, ItemError>
-        ensures read { (x : Self.Value) → Self.IsOfType x → HasContents (Self.content x) octets.now →
-            MatchResult result (λ w. Self.Is w x) (λ e. e ≡ Memory) };
+        ensures read { (x : Self.Value) → MayCome x → HasContents (Self.content x) octets.now →
+            MatchResult result (λ w. IsReadOf w x) (λ e. e ≡ Memory) };
 }
 
 impl FromContents for bool {
+    ghost MayCome = { λ _. ⊤ };
+
+    ghost IsReadOf = { λ w v. w ≡ v };
+
     fn from_contents(_alloc: Global, octets: &[u8]) -> Result<Self, ItemError> {
         match octets {
             [0] => Ok(false),
@@ -35,6 +45,10 @@ impl FromContents for bool {
 }
 
 impl FromContents for () {
+    ghost MayCome = { λ _. ⊤ };
+
+    ghost IsReadOf = { λ w v. w ≡ v };
+
     fn from_contents(_alloc: Global, octets: &[u8]) -> Result<Self, ItemError> {
         match octets {
             [] => Ok(()),
@@ -44,6 +58,10 @@ impl FromContents for () {
 }
 
 impl FromContents for Integer {
+    ghost MayCome = { λ _. ⊤ };
+
+    ghost IsReadOf = { λ w v. w ≡ v };
+
     fn from_contents(alloc: Global, octets: &[u8]) -> Result<Self, ItemError> {
         read_integer(alloc, octets)
     }
@@ -51,6 +69,10 @@ impl FromContents for Integer {
 
 /// The number of an item of an ENUMERATED type.
 impl FromContents for isize {
+    ghost MayCome = { λ _. ⊤ };
+
+    ghost IsReadOf = { λ w v. w ≡ v };
+
     fn from_contents(alloc: Global, octets: &[u8]) -> Result<Self, ItemError> {
         let number = read_integer(alloc, octets)?;
         match isize::try_from_integer(number) {
@@ -61,6 +83,10 @@ impl FromContents for isize {
 }
 
 impl FromContents for ObjectIdentifier {
+    ghost MayCome = { λ _. ⊤ };
+
+    ghost IsReadOf = { λ w v. w ≡ v };
+
     fn from_contents(alloc: Global, octets: &[u8]) -> Result<Self, ItemError> {
         let arcs = read_arcs(alloc, octets)?;
         Ok(ObjectIdentifier::new(arcs))
@@ -68,6 +94,10 @@ impl FromContents for ObjectIdentifier {
 }
 
 impl<U, K: CodecString<U>> FromContents for StringOf<U, K> {
+    ghost MayCome = { λ list. K.AreOfKind (K.units_read list) };
+
+    ghost IsReadOf = { λ w list. K.units_in w.string ≡ K.units_read list };
+
     fn from_contents(alloc: Global, octets: &[u8]) -> Result<Self, ItemError> {
         match K::from_any(read_string(alloc, K::kind(), octets)?) {
             Some(string) => Ok(StringOf { string }),
@@ -78,8 +108,9 @@ impl<U, K: CodecString<U>> FromContents for StringOf<U, K> {
 
 /// Reads the octets of a string of this kind. Its units need not be those that strings of the kind can have.
 fn read_string(alloc: Global, kind: StringKind, octets: &[u8]) -> Result<AnyString, ItemError>
-    ensures read { (x : model.Content) → IsStringOf kind x → HasContents x octets.now →
-        MatchResult result (λ string. IsMadeAs kind string × (content_of_string string ≡ x))
+    ensures read { (x : model.Content) → IsStringOf (content_kind_of kind) x →
+        HasContents x octets.now → MatchResult result
+        (λ string. IsMadeAs kind string × (content_of_string string ≡ content_read kind x))
         (λ e. e ≡ Memory) }
 {
     match kind {
@@ -96,7 +127,7 @@ fn read_string(alloc: Global, kind: StringKind, octets: &[u8]) -> Result<AnyStri
 ///
 /// # Errors
 /// Those of [`read_packed_bits`].
-pub fn read_named_bits(alloc: Global, octets: &[u8]) -> Result<BitVec, ItemError>
+fn read_named_bits(alloc: Global, octets: &[u8]) -> Result<BitVec, ItemError>
     ensures read { (list : List Bool) → AreBits list octets.now → MatchResult result
         (λ v. v ≡ without_trailing_zeros list) (λ e. e ≡ Memory) }
     ensures ends { IfOk result (λ v. EndsInOne v) }

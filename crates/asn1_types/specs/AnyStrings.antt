@@ -1,6 +1,6 @@
 -- The content of a string of any kind in a record.
 use Rattle.std.specs.Prelude.{◌≡◌, ⊤}
-use Rattle.asn1_values.specs.Bits.{EndsInOne}
+use Rattle.asn1_values.specs.Bits.{EndsInOne, without_trailing_zeros}
 use Rattle.asn1_model.specs.Records as model
 use Rattle.asn1_types.specs.declared.any_string.OctetKind.{OctetKind}
 use Rattle.asn1_types.specs.declared.any_string.OctetKind.TheVariants as octets
@@ -63,3 +63,8 @@ IsStringOf (kind.Octets k) (model.units own list) = own ≡ octet_kind k
 IsStringOf kind.Bmp (model.units own list) = own ≡ model.bmp
 IsStringOf kind.Teletex (model.units own list) = own ≡ model.teletex
 IsStringOf _ _ = ⊥
+
+-- The content that is read where this one comes: named bits without the 0 bits at their end (X.680, 22.7), any other as it is.
+abbrev pub content_read : StringKind → model.Content → model.Content
+content_read kind.NamedBits (model.bits list) = model.bits (without_trailing_zeros list)
+content_read _ x = x

@@ -6,7 +6,7 @@ ghost use Rattle.asn1_values.specs.Alphabets.{is_ia5, is_numeric, is_printable, 
 ghost use Rattle.asn1_values.specs.Bits.{EndsInOne};
 ghost use Rattle.asn1_model.specs.Records.{units, utf8};
 ghost use Rattle.asn1_model.specs.Tags.{universal};
-ghost use Rattle.asn1_types.specs.AnyStrings.{IsMadeAs, IsStringOf, content_kind_of, content_of_str, content_of_string};
+ghost use Rattle.asn1_types.specs.AnyStrings.{IsMadeAs, IsStringOf, content_kind_of, content_of_str, content_of_string, content_read};
 ghost use Rattle.asn1_types.specs.declared.any_string.OctetKind.TheVariants as octets;
 ghost use Rattle.asn1_types.specs.declared.any_string.StringKind.TheVariants as kinds;
 ghost use Rattle.asn1_types.specs.declared.any_string.StringKind.{StringKind};
@@ -37,6 +37,10 @@ pub trait CodecString<U>: StringType<U> {
     // The units of a string.
     ghost units_in: { Self.Owned → List U };
 
+    // The units that are read where these come, in a codec that reads all spellings: those without the 0 bits at the end, if the
+    // bits have names (X.680, 22.7).
+    ghost units_read: { List U → List U };
+
     /// The kind, by which a codec tells it from others.
     fn kind() -> StringKind
         ensures { result ≡ own_kind };
@@ -58,6 +62,12 @@ pub trait CodecString<U>: StringType<U> {
 
     // The same of the kind of the content, of whatever units.
     ghost has_kind: { (list : List U) → IsStringOf (content_kind_of own_kind) (Self.content list) };
+
+    // The laws of what is read: units of the kind are read as they are, and the kind says what is read of others.
+    ghost reads_own: { (list : List U) → AreOfKind list → units_read list ≡ list };
+
+    ghost reads_content: { (list : List U) →
+        content_read own_kind (Self.content list) ≡ Self.content (units_read list) };
 }
 
 /// The kind of UTF8String, whose strings are of the language's own type.
@@ -86,6 +96,8 @@ impl CodecString<bool> for Bits {
 
     ghost units_in = { λ string. string };
 
+    ghost units_read = { λ list. list };
+
     fn kind() -> StringKind {
         StringKind::Bits
     }
@@ -104,6 +116,10 @@ impl CodecString<bool> for Bits {
     ghost is_string = { λ _ _. tt };
 
     ghost has_kind = { λ _. tt };
+
+    ghost reads_own = { λ _ _. refl };
+
+    ghost reads_content = { λ _. refl };
 }
 
 impl CodecString<bool> for PackedBits {
@@ -114,6 +130,8 @@ impl CodecString<bool> for PackedBits {
     ghost AreOfKind = { λ _. ⊤ };
 
     ghost units_in = { λ string. string };
+
+    ghost units_read = { λ list. list };
 
     fn kind() -> StringKind {
         StringKind::PackedBits
@@ -133,9 +151,16 @@ impl CodecString<bool> for PackedBits {
     ghost is_string = { λ _ _. tt };
 
     ghost has_kind = { λ _. tt };
+
+    ghost reads_own = { λ _ _. refl };
+
+    ghost reads_content = { λ _. refl };
 }
 
 impl CodecString<bool> for NamedBits {
+    ghost use Rattle.asn1_values.proofs.TrailingZeros.{nothing_left_out};
+    ghost use Rattle.asn1_values.specs.Bits.{without_trailing_zeros};
+
     type Owned = NamedBitString;
 
     ghost own_kind = { kinds.NamedBits };
@@ -143,6 +168,8 @@ impl CodecString<bool> for NamedBits {
     ghost AreOfKind = { EndsInOne };
 
     ghost units_in = { λ string. string };
+
+    ghost units_read = { without_trailing_zeros };
 
     fn kind() -> StringKind {
         StringKind::NamedBits
@@ -162,6 +189,10 @@ impl CodecString<bool> for NamedBits {
     ghost is_string = { λ _ ends. ends };
 
     ghost has_kind = { λ _. tt };
+
+    ghost reads_own = { nothing_left_out };
+
+    ghost reads_content = { λ _. refl };
 }
 
 impl CodecString<u8> for Octets {
@@ -172,6 +203,8 @@ impl CodecString<u8> for Octets {
     ghost AreOfKind = { All (λ unit. unit < 2 ^ 8) };
 
     ghost units_in = { λ string. string.items };
+
+    ghost units_read = { λ list. list };
 
     fn kind() -> StringKind {
         StringKind::Octets(OctetKind::OctetString)
@@ -188,6 +221,10 @@ impl CodecString<u8> for Octets {
     ghost is_string = { λ _ _. refl };
 
     ghost has_kind = { λ _. refl };
+
+    ghost reads_own = { λ _ _. refl };
+
+    ghost reads_content = { λ _. refl };
 }
 
 impl CodecString<u8> for Utf8 {
@@ -198,6 +235,8 @@ impl CodecString<u8> for Utf8 {
     ghost AreOfKind = { IsUtf8 };
 
     ghost units_in = { string_bytes };
+
+    ghost units_read = { λ list. list };
 
     fn kind() -> StringKind {
         StringKind::Octets(OctetKind::Utf8)
@@ -214,6 +253,10 @@ impl CodecString<u8> for Utf8 {
     ghost is_string = { λ _ _. refl };
 
     ghost has_kind = { λ _. refl };
+
+    ghost reads_own = { λ _ _. refl };
+
+    ghost reads_content = { λ _. refl };
 }
 
 impl CodecString<u8> for General {
@@ -224,6 +267,8 @@ impl CodecString<u8> for General {
     ghost AreOfKind = { All (λ unit. unit < 2 ^ 8) };
 
     ghost units_in = { λ string. string };
+
+    ghost units_read = { λ list. list };
 
     fn kind() -> StringKind {
         StringKind::Octets(OctetKind::General)
@@ -240,6 +285,10 @@ impl CodecString<u8> for General {
     ghost is_string = { λ _ _. refl };
 
     ghost has_kind = { λ _. refl };
+
+    ghost reads_own = { λ _ _. refl };
+
+    ghost reads_content = { λ _. refl };
 }
 
 impl CodecString<u8> for Graphic {
@@ -250,6 +299,8 @@ impl CodecString<u8> for Graphic {
     ghost AreOfKind = { All (λ unit. unit < 2 ^ 8) };
 
     ghost units_in = { λ string. string };
+
+    ghost units_read = { λ list. list };
 
     fn kind() -> StringKind {
         StringKind::Octets(OctetKind::Graphic)
@@ -266,6 +317,10 @@ impl CodecString<u8> for Graphic {
     ghost is_string = { λ _ _. refl };
 
     ghost has_kind = { λ _. refl };
+
+    ghost reads_own = { λ _ _. refl };
+
+    ghost reads_content = { λ _. refl };
 }
 
 impl CodecString<u32> for Teletex {
@@ -276,6 +331,8 @@ impl CodecString<u32> for Teletex {
     ghost AreOfKind = { All (λ unit. unit < 2 ^ 32) };
 
     ghost units_in = { λ string. string };
+
+    ghost units_read = { λ list. list };
 
     fn kind() -> StringKind {
         StringKind::Teletex
@@ -295,6 +352,10 @@ impl CodecString<u32> for Teletex {
     ghost is_string = { λ _ _. refl };
 
     ghost has_kind = { λ _. refl };
+
+    ghost reads_own = { λ _ _. refl };
+
+    ghost reads_content = { λ _. refl };
 }
 
 impl CodecString<u16> for Bmp {
@@ -305,6 +366,8 @@ impl CodecString<u16> for Bmp {
     ghost AreOfKind = { All (λ unit. unit < 2 ^ 16) };
 
     ghost units_in = { λ string. string };
+
+    ghost units_read = { λ list. list };
 
     fn kind() -> StringKind {
         StringKind::Bmp
@@ -324,6 +387,10 @@ impl CodecString<u16> for Bmp {
     ghost is_string = { λ _ _. refl };
 
     ghost has_kind = { λ _. refl };
+
+    ghost reads_own = { λ _ _. refl };
+
+    ghost reads_content = { λ _. refl };
 }
 
 impl CodecString<u8> for Visible {
@@ -334,6 +401,8 @@ impl CodecString<u8> for Visible {
     ghost AreOfKind = { All (λ unit. IsTrue (is_visible unit)) };
 
     ghost units_in = { λ string. string };
+
+    ghost units_read = { λ list. list };
 
     fn kind() -> StringKind {
         StringKind::Octets(OctetKind::Visible)
@@ -350,6 +419,10 @@ impl CodecString<u8> for Visible {
     ghost is_string = { λ _ _. refl };
 
     ghost has_kind = { λ _. refl };
+
+    ghost reads_own = { λ _ _. refl };
+
+    ghost reads_content = { λ _. refl };
 }
 
 impl CodecString<u8> for Ia5 {
@@ -360,6 +433,8 @@ impl CodecString<u8> for Ia5 {
     ghost AreOfKind = { All (λ unit. IsTrue (is_ia5 unit)) };
 
     ghost units_in = { λ string. string };
+
+    ghost units_read = { λ list. list };
 
     fn kind() -> StringKind {
         StringKind::Octets(OctetKind::Ia5)
@@ -376,6 +451,10 @@ impl CodecString<u8> for Ia5 {
     ghost is_string = { λ _ _. refl };
 
     ghost has_kind = { λ _. refl };
+
+    ghost reads_own = { λ _ _. refl };
+
+    ghost reads_content = { λ _. refl };
 }
 
 impl CodecString<u8> for Numeric {
@@ -386,6 +465,8 @@ impl CodecString<u8> for Numeric {
     ghost AreOfKind = { All (λ unit. IsTrue (is_numeric unit)) };
 
     ghost units_in = { λ string. string };
+
+    ghost units_read = { λ list. list };
 
     fn kind() -> StringKind {
         StringKind::Octets(OctetKind::Numeric)
@@ -402,6 +483,10 @@ impl CodecString<u8> for Numeric {
     ghost is_string = { λ _ _. refl };
 
     ghost has_kind = { λ _. refl };
+
+    ghost reads_own = { λ _ _. refl };
+
+    ghost reads_content = { λ _. refl };
 }
 
 impl CodecString<u8> for Printable {
@@ -412,6 +497,8 @@ impl CodecString<u8> for Printable {
     ghost AreOfKind = { All (λ unit. IsTrue (is_printable unit)) };
 
     ghost units_in = { λ string. string };
+
+    ghost units_read = { λ list. list };
 
     fn kind() -> StringKind {
         StringKind::Octets(OctetKind::Printable)
@@ -428,4 +515,8 @@ impl CodecString<u8> for Printable {
     ghost is_string = { λ _ _. refl };
 
     ghost has_kind = { λ _. refl };
+
+    ghost reads_own = { λ _ _. refl };
+
+    ghost reads_content = { λ _. refl };
 }
