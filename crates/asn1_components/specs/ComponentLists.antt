@@ -40,6 +40,16 @@ abbrev pub trees_of : {V : Type 0} → List (ComponentType V) → Trees
 trees_of [] = none
 trees_of (c ∷ cs) = more c.tree (trees_of cs)
 
+-- some trees, and then others
+abbrev pub joined : Trees → Trees → Trees
+joined none others = others
+joined (more tree trees) others = more tree (joined trees others)
+
+-- the trees of the parts of all
+abbrev pub parts_of : {V : Type 0} → List (ComponentType V) → Trees
+parts_of [] = none
+parts_of (c ∷ cs) = joined c.parts (parts_of cs)
+
 -- the type of each is well tagged
 abbrev pub EachIsWellTagged : {V : Type 0} → List (ComponentType V) → Type 0
 EachIsWellTagged [] = ⊤
@@ -152,6 +162,7 @@ group_of name get table cs = record {
   presence = Optional;
   tag = CHOICE;
   tree = choice (trees_of cs);
+  parts = parts_of cs;
   records = λ v. group_records table (option_map (all_records cs) (get v));
   IsWellTagged = CanBeInSequence cs;
   IsOfType = λ v. IfSome (get v) (EachIsOfType cs);
