@@ -60,7 +60,7 @@ other_tree tree [] k t apart has begins = begins
 other_tree tree (c ∷ cs) zero t apart has begins = apart.0 t has begins
 other_tree tree (c ∷ cs) (suc k) t apart has begins = other_tree tree cs k t apart.1 has begins
 
-same_component : {V : Type 0} (cs : List (ComponentType V)) (j k : ℕ) (t : Tag) → AllApart cs → CanBeginWith cs j t → CanBeginWith cs k t → j ≡ k
+pub same_component : {V : Type 0} (cs : List (ComponentType V)) (j k : ℕ) (t : Tag) → AllApart cs → CanBeginWith cs j t → CanBeginWith cs k t → j ≡ k
 same_component [] j k t apart one other = absurd one
 same_component (c ∷ cs) zero zero t apart one other = refl
 same_component (c ∷ cs) zero (suc k) t apart one other = absurd (other_tree c.tree cs k t apart.0 one other)

@@ -12,7 +12,7 @@ use Rattle.asn1_laws.specs.declared.decode_error.DecodeError.{DecodeError}
 use Rattle.asn1_model.specs.Records.{Record}
 use Rattle.asn1_tags.specs.Trees.{Trees, more, none}
 use Rattle.asn1_tags.specs.declared.tags.Tag.{Tag}
-use Rattle.asn1_slots.specs.PartsInSets.{one_more, unmarked-append}
+use Rattle.asn1_slots.specs.PartsInSets.{AreOwnParts, one_more, unmarked-append}
 use Rattle.asn1_slots.specs.Slots.{AllAreKept, AreEmpty, AreInStep, HoldBefore, OthersAreKept, ReadsOnceAt, Slot, can_be_in_set, components_of, parts_of_slots}
 
 is_other : (i k : ℕ) → i ≢ k → (i == k) ≡ false
@@ -77,6 +77,10 @@ module _ {V : Type 0} where
       ∙ ap (λ l. unmarked (p.records v) ++ l) (records_append ps qs v)
       ∙ sym (append_assoc (unmarked (p.records v)) (unmarked (all_records ps v)) (unmarked (all_records qs v)))
       ∙ ap (λ l. l ++ unmarked (all_records qs v)) (sym (unmarked-append (p.records v) (all_records ps v)))
+
+  own_append : (ps qs : List (ComponentType V)) → AreOwnParts ps → AreOwnParts qs → AreOwnParts (ps ++ qs)
+  own_append [] qs first second = second
+  own_append (p ∷ ps) qs first second = (first.0, own_append ps qs first.1 second)
 
   trees_append : (ps qs : List (ComponentType V)) → trees_of (ps ++ qs) ≡ joined (trees_of ps) (trees_of qs)
   trees_append [] qs = refl
@@ -202,6 +206,12 @@ module _ {S V : Type 0} where
       ∙ ap (λ l. l ++ unmarked (all_records (components_of hs) v)) ((h.in_set both.0).written v)
       ∙ ap (λ l. unmarked (all_records h.parts v) ++ l) (written_in_parts hs both.1 v)
       ∙ sym (records_append h.parts (parts_of_slots hs) v)
+
+  pub each_is_own : (hs : List (Slot S V)) → can_be_in_set hs ≡ true → AreOwnParts (parts_of_slots hs)
+  each_is_own [] all = tt
+  each_is_own (h ∷ hs) all =
+      let both = and_parts h.is_in_set (can_be_in_set hs) all in
+      own_append h.parts (parts_of_slots hs) (h.in_set both.0).own (each_is_own hs both.1)
 
   -- and their trees
   pub trees_in_parts : (hs : List (Slot S V)) → can_be_in_set hs ≡ true → parts_of (components_of hs) ≡ trees_of (parts_of_slots hs)

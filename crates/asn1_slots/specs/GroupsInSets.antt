@@ -23,10 +23,10 @@ use Rattle.asn1_model.specs.RecordTables.{Row, Table}
 use Rattle.asn1_model.specs.Tags.{Has, tree_tags}
 use Rattle.asn1_model.specs.WellFormed.{AreWellFormed}
 use Rattle.asn1_tags.specs.Tags.{distinct}
-use Rattle.asn1_tags.specs.Trees.{choice, is_any_open, leaves, more}
+use Rattle.asn1_tags.specs.Trees.{choice, is_any_open, leaves, more, none}
 use Rattle.asn1_tags.specs.declared.tags.Tag.{Tag}
 use Rattle.asn1_slots.proofs.SlotsInStep.{each_is_one, each_well_tagged, hold_at_end, none_came, part_is_read, place_of, times_in_step, trees_in_parts, written_below, written_in_parts}
-use Rattle.asn1_slots.specs.PartsInSets.{ReadInSet, one_more, unmarked-append}
+use Rattle.asn1_slots.specs.PartsInSets.{AreOwnParts, ReadInSet, one_more, unmarked-append}
 use Rattle.asn1_slots.specs.Slots.{AreEmpty, AreInStep, HoldBefore, OthersAreKept, ReadsOnceAt, Slot, can_be_in_set, components_of, no_group, parts_of_slots, sequence_of_slots}
 
 -- A tag of one of the components is one of a CHOICE of their trees.
@@ -60,7 +60,7 @@ in_group get c = record {
   presence = Optional;
   tag = c.tag;
   tree = c.tree;
-  parts = c.parts;
+  parts = more c.tree none;
   records = λ v. where_some c (get v);
   IsWellTagged = c.IsWellTagged;
   IsOfType = λ v. IfSome (get v) c.IsOfType;
@@ -82,6 +82,10 @@ module _ {V W : Type 0} (get : V → Option W) where
   trees_in_group : (cs : List (ComponentType W)) → trees_of cs ≡ trees_of (all_in_group get cs)
   trees_in_group [] = refl
   trees_in_group (c ∷ cs) = ap (more c.tree) (trees_in_group cs)
+
+  own_in_group : (cs : List (ComponentType W)) → AreOwnParts (all_in_group get cs)
+  own_in_group [] = tt
+  own_in_group (c ∷ cs) = (refl, own_in_group cs)
 
   length_in_group : (cs : List (ComponentType W)) → length (all_in_group get cs) ≡ length cs
   length_in_group [] = refl
@@ -308,6 +312,7 @@ module _ {Sl V W : Type 0} (name : List ℕ) (get : V → Option W) (hs : List (
         (λ times slot v. GroupInStep hs times slot (get v))
     group_in_set_is_read closed = record {
       trees = trees_in_parts hs all ∙ trees_in_group get (parts_of_slots hs);
+      own = own_in_group get (parts_of_slots hs);
       within = within_group;
       well_tagged = λ can. well_tagged_in_group get (parts_of_slots hs) (each_well_tagged hs all can.0.0);
       one_each = λ can v. one_each_in_group can.0.0 v;

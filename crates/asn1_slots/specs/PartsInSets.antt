@@ -1,5 +1,5 @@
 -- A component of a SET by its parts, each of which is one record, or absent: the component itself, or those of a group.
-use Rattle.std.specs.Prelude.{◌≡◌, ◌≢◌, ◌==◌, ◌≤◌, ◌<◌, ◌+◌, ℕ, zero, suc, Bool, true, false, IsTrue, List, [], ◌∷◌, ◌++◌, length, Option, None, Result, refl}
+use Rattle.std.specs.Prelude.{◌≡◌, ◌≢◌, ◌==◌, ◌≤◌, ◌<◌, ◌+◌, ℕ, zero, suc, ⊤, Bool, true, false, IsTrue, List, [], ◌∷◌, ◌++◌, length, Option, None, Result, refl}
 use Rattle.std.proofs.Common.{◌∙◌, absurd, ap, arith, cond, subst, sym}
 use Rattle.asn1_components.specs.ComponentLists.{EachIsWellTagged, all_records, trees_of}
 use Rattle.asn1_components.specs.ComponentTypes.{ComponentType}
@@ -18,6 +18,11 @@ use Rattle.asn1_tags.specs.declared.tags.Tag.{Tag}
 abbrev pub one_more : (ℕ → ℕ) → ℕ → ℕ → ℕ
 one_more times index k = times k + cond (index == k) 1 0
 
+-- each is the only part of itself
+abbrev pub AreOwnParts : {V : Type 0} → List (ComponentType V) → Type 0
+AreOwnParts [] = ⊤
+AreOwnParts (c ∷ cs) = (c.parts ≡ more c.tree none) × AreOwnParts cs
+
 module _ {V Content : Type 0} where
   -- A component that can be read in a SET, by the parts of it that come, each with its tag.
   pub record ReadInSet (c : ComponentType V) (parts : List (ComponentType V)) (holds : Option Content → V → Bool)
@@ -25,6 +30,7 @@ module _ {V Content : Type 0} where
       (InStep : (ℕ → ℕ) → Option Content → V → Type 0) : Type 1 where
     -- the parts have the component's trees, and none can begin with another tag
     pub trees : c.parts ≡ trees_of parts
+    pub own : AreOwnParts parts
     pub within : (j : ℕ) (t : Tag) → CanBeginWith parts j t → Has (tree_tags c.tree) t
     -- each is one record, or absent, and they are what is written
     pub well_tagged : c.IsWellTagged → EachIsWellTagged parts
@@ -104,6 +110,7 @@ module _ {V Content : Type 0} (c : ComponentType V) (holds : Option Content → 
       ReadInSet c (c ∷ []) holds (λ R t old new before after result. Once R old new before after result) (alone_in_step holds)
   alone trees is_one reads is_absent = record {
     trees = trees;
+    own = (trees, tt);
     within = within_alone;
     well_tagged = λ can. (can, tt);
     one_each = λ can v. (is_one can v, tt);
