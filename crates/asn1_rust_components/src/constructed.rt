@@ -20,6 +20,8 @@ pub enum Kind {
     Set,
     /// Additions in version brackets.
     Group,
+    /// Additions of a SET in version brackets.
+    GroupOfSet,
 }
 
 /// A type of components.
@@ -36,7 +38,7 @@ pub struct Subject<'a> {
 /// The trait by which a type of components is read.
 pub fn reading_trait(kind: Kind) -> &'static str {
     match kind {
-        Kind::Set => "DecodeSetByIndex",
+        Kind::Set | Kind::GroupOfSet => "DecodeSetByIndex",
         _ => "DecodeByIndex",
     }
 }
@@ -101,6 +103,9 @@ pub fn append_group(
     append_reader(draft, subject)?;
     append_table(draft, subject)?;
     append_field_writer(draft, subject)?;
+    if subject.kind == Kind::GroupOfSet {
+        return Ok(());
+    }
     draft.use_names(&["AsnType", "DecodeFields", "decode_fields_by_index"])?;
     let name = subject.file.name.as_str();
     draft.text(format!(in draft.alloc();
@@ -160,7 +165,7 @@ fn append_field(draft: &mut Draft, component: &Component) -> Result<(), AllocErr
 fn has_option(component: &Component) -> bool {
     match component.usage {
         Usage::Optional => true,
-        Usage::Group(_) => true,
+        Usage::Group(_) | Usage::GroupOfSet(_) => true,
         _ => false,
     }
 }

@@ -40,7 +40,7 @@ pub fn append_field_writer(draft: &mut Draft, subject: Subject<'_>) -> Result<()
 // Appends the line that writes a component.
 fn append_arm(draft: &mut Draft, component: &Component, index: usize) -> Result<(), AllocError> {
     match (&component.usage, component.is_addition) {
-        (Usage::Group(_), _) => append_group_arm(draft, component, index),
+        (Usage::Group(_) | Usage::GroupOfSet(_), _) => append_group_arm(draft, component, index),
         (Usage::Default(value), _) => {
             let code = value.code.as_str();
             let default = format!(in draft.alloc(); "|_| Ok({code})")?;

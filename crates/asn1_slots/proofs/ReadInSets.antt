@@ -164,7 +164,7 @@ module _ {D S V : Type 0} (R : Reader D) (cs : List (ComponentType V)) (hs : Lis
             each = All-nil (λ _. ⊤);
             counted = λ k.
                 let all_counted = items_at-permutation k made.order labelled made.rearranged ∙ woven-counts k (all_records cs v) named same_unmarked
-                    ∙ unmarked-counts k (items_from 0 ps v) ∙ as_many_as_written ps 0 k k v (omega arith) in
+                ∙ unmarked-counts k (items_from 0 ps v) ∙ as_many_as_written ps 0 k k v (omega arith) in
                 omega (arith, all_counted);
             few = omega (arith, few, ap records_in made.is);
             low = omega (arith, high);
@@ -179,9 +179,14 @@ module _ {D S V : Type 0} (R : Reader D) (cs : List (ComponentType V)) (hs : Lis
     next_part items next is = record {
       none = is.none;
       some = λ t e.
-          let told = is.some t e in
-          (told.0, (told.1.0, tells_parts (parts_of_slots hs) _ t (each_is_own hs ready)
-          (subst (λ trees. TellsTree trees _ t) (trees_in_parts hs ready) (tells_slots cs hs all _ t told.1.1))));
+          let told = is.some t e in (
+            told.0,
+            (
+              told.1.0,
+              tells_parts (parts_of_slots hs) _ t (each_is_own hs ready)
+                  (subst (λ trees. TellsTree trees _ t) (trees_in_parts hs ready) (tells_slots cs hs all _ t told.1.1)),
+            ),
+          );
     }
 
     in_parts : (d e : D) (items : List Record) (before after : Remaining) (result : Result (Option Tag) DecodeError) →

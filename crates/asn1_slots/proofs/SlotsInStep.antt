@@ -148,7 +148,7 @@ module _ {S V : Type 0} where
       let both = and_parts h.is_in_set (can_be_in_set hs) all in
       let below = begins_below h.parts part t place.0 in
       let written : written_of h.parts v part ≡ written_of (parts_of_slots (h ∷ hs)) v k =
-          sym (written_first h.parts (parts_of_slots hs) v part below) ∙ ap (written_of (parts_of_slots (h ∷ hs)) v) (sym place.1) in
+      sym (written_first h.parts (parts_of_slots hs) v part below) ∙ ap (written_of (parts_of_slots (h ∷ hs)) v) (sym place.1) in
       subst (λ rs. ReadsBack R old new rs rest outer (λ _. AreInStep (h ∷ hs) (one_more times k) after v) result) written
       (in_other_words R old new _ _ _ result (λ _ own. (
         subst (λ i. h.InStep (one_more times i) (h.content after) v) (sym place.1) own,
@@ -156,11 +156,11 @@ module _ {S V : Type 0} where
             (λ j low. as_before times k (length h.parts + j) (λ same. omega (arith, below, place.1, same))) step.1,
       ))
       ((h.in_set both.0).reads R t part times old new (h.content before) (h.content after) result reads place.0 distinct.0 v rest outer can.0 of_type.0 valid.0 step.0
-        (ap times (sym place.1) ∙ none) (λ empty. some (sym written ∙ empty))))
+      (ap times (sym place.1) ∙ none) (λ empty. some (sym written ∙ empty))))
   part_is_read R (h ∷ hs) all t (suc slot) part k times old new before after result (g, (is, place)) reads kept distinct v rest outer can of_type valid step none some =
       let both = and_parts h.is_in_set (can_be_in_set hs) all in
       let written : written_of (parts_of_slots hs) v g ≡ written_of (parts_of_slots (h ∷ hs)) v k =
-          sym (written_second h.parts (parts_of_slots hs) v g) ∙ ap (written_of (parts_of_slots (h ∷ hs)) v) (sym is) in
+      sym (written_second h.parts (parts_of_slots hs) v g) ∙ ap (written_of (parts_of_slots (h ∷ hs)) v) (sym is) in
       subst (λ rs. ReadsBack R old new rs rest outer (λ _. AreInStep (h ∷ hs) (one_more times k) after v) result) written
       (in_other_words R old new _ _ _ result (λ _ later. (
         subst (λ o. h.InStep (one_more times k) o v) (sym kept.0)
@@ -169,7 +169,7 @@ module _ {S V : Type 0} where
             (λ j low. after_first times (length h.parts) g j ∙ ap (λ i. one_more times i (length h.parts + j)) (sym is)) later,
       ))
       (part_is_read R hs both.1 t slot part g (λ j. times (length h.parts + j)) old new before after result place reads kept.1 distinct.1 v rest outer can.1 of_type.1 valid.1 step.1
-        (ap times (sym is) ∙ none) (λ empty. some (sym written ∙ empty))))
+      (ap times (sym is) ∙ none) (λ empty. some (sym written ∙ empty))))
 
   -- where all have come that are there
   pub hold_at_end : (hs : List (Slot S V)) → can_be_in_set hs ≡ true → (accepts : List ℕ → Bool) (times : ℕ → ℕ) (s : S) (v : V) →

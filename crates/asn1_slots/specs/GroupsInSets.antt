@@ -10,7 +10,7 @@ use Rattle.asn1_components.specs.Components.{rows}
 use Rattle.asn1_components.specs.Following.{AllApart}
 use Rattle.asn1_fields.specs.declared.presence.FieldPresence.{FieldPresence}
 use Rattle.asn1_fields.specs.declared.presence.FieldPresence.TheVariants.{Optional}
-use Rattle.asn1_laws.proofs.ReadingSets.{same_component, unmarked-marks}
+use Rattle.asn1_laws.proofs.ReadingSets.{unmarked-marks}
 use Rattle.asn1_laws.proofs.ReadingSteps.{in_other_words}
 use Rattle.asn1_laws.specs.Reading.{Outside, Reader, ReadsBack}
 use Rattle.asn1_laws.specs.SetParts.{CanBeginWith, EachIsOneRecord, unmarked, written_of}
@@ -275,9 +275,9 @@ module _ {Sl V W : Type 0} (name : List ℕ) (get : V → Option W) (hs : List (
             let written : written_of (parts_of_slots hs) w j ≡ written_of group_parts v j = sym (some_written get (parts_of_slots hs) v w j is) in
             let valid_there = subst (λ o. IfSome o (λ x. EachIsValid (components_of hs) R.accepts x × (presence_marks_alone (all_records (components_of hs) x) ≡ false))) is valid in
             let inside = part_is_read R hs all t place.slot place.part j times old new fills.starts fills.ends result place.is
-                (fills.reads place.slot apart place.begins) (fills.kept place.slot apart place.begins) (each_is_distinct (components_of hs) distinct) w rest outer can.0.0
-                (subst (λ o. IfSome o (EachIsOfType (components_of hs))) is of_type) valid_there.0
-                (starts_in_step times before fills.starts w fills.first (subst (λ o. GroupInStep hs times before o) is step)) none (λ empty. some (sym written ∙ empty)) in
+            (fills.reads place.slot apart place.begins) (fills.kept place.slot apart place.begins) (each_is_distinct (components_of hs) distinct) w rest outer can.0.0
+            (subst (λ o. IfSome o (EachIsOfType (components_of hs))) is of_type) valid_there.0
+            (starts_in_step times before fills.starts w fills.first (subst (λ o. GroupInStep hs times before o) is step)) none (λ empty. some (sym written ∙ empty)) in
             subst (λ rs. ReadsBack R old new rs rest outer (λ _. GroupInStep hs (one_more times j) after (get v)) result) written
             (with_kept R old new (written_of (parts_of_slots hs) w j) rest outer (after ≡ Some fills.ends) (AreInStep hs (one_more times j) fills.ends w) (GroupInStep hs (one_more times j) after (get v)) result fills.filled
             (λ kept in_step. subst (λ o. GroupInStep hs (one_more times j) after o) (sym is) (subst (λ slot. GroupInStep hs (one_more times j) slot (Some w)) (sym kept) in_step)) inside)

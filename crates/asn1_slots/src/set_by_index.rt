@@ -52,7 +52,9 @@ pub trait DecodeSetByIndex: Eq + Sized + Drop {
 
 /// The name of the first required component whose slot is empty.
 #[inline(always)]
-pub(crate) fn first_missing<S: DecodeSetByIndex + FieldTable>(slots: &S::Slots) -> Option<&'static str>
+pub(crate) fn first_missing<S: DecodeSetByIndex + FieldTable>(
+    slots: &S::Slots,
+) -> Option<&'static str>
     requires laid_out { IsLayoutOf S.components S.layout }
     ensures first { option_map (λ name. name.now) result ≡ first_missing S.layout slots.now }
 {
