@@ -30,6 +30,7 @@ mod hollow;
 mod lines;
 pub mod made;
 mod marker_tags;
+mod menu;
 mod named_types;
 mod nested;
 mod question;

@@ -1,6 +1,7 @@
 //! Types of each kind, by their names.
 use crate::hollow::Hollow;
 use crate::marker_tags::{ApplicationTag, ContextTag, PrivateTag};
+use crate::menu::Menu;
 use crate::named_types::{TypeCase, TypeNames};
 use asn1_open::Open;
 use asn1_recursive::{Filter, Nested};
@@ -211,6 +212,7 @@ impl TypeNames for Samples {
             "Badge" => Some(case.try_type::<Badge>()),
             "Ticket" => Some(case.try_type::<Ticket>()),
             "Hollow" => Some(case.try_type::<Hollow>()),
+            "Menu" => Some(case.try_type::<Menu>()),
             "Shape" => Some(case.try_type::<Shape>()),
             "Corner" => Some(case.try_type::<Corner>()),
             "Color" => Some(case.try_type::<Color>()),
