@@ -12,7 +12,7 @@ use Rattle.asn1_fields.specs.declared.presence.FieldPresence.{FieldPresence}
 use Rattle.asn1_fields.specs.declared.presence.FieldPresence.TheVariants.{Optional}
 use Rattle.asn1_laws.proofs.ReadingSets.{unmarked-marks}
 use Rattle.asn1_laws.proofs.ReadingSteps.{in_other_words}
-use Rattle.asn1_laws.specs.Reading.{Outside, Reader, ReadsBack}
+use Rattle.asn1_laws.specs.Reading.{Outside, Reader, ReadsBack, records_in}
 use Rattle.asn1_laws.specs.SetParts.{CanBeginWith, EachIsOneRecord, unmarked, written_of}
 use Rattle.asn1_laws.specs.declared.decode_error.DecodeError.{DecodeError}
 use Rattle.asn1_model.proofs.FirstTags.{alone_append}
@@ -98,7 +98,7 @@ module _ {V W : Type 0} (get : V → Option W) where
   -- where the group is away, nothing of it is written
   none_one_each : (cs : List (ComponentType W)) (v : V) → get v ≡ None → EachIsOneRecord (all_in_group get cs) v
   none_one_each [] v none = tt
-  none_one_each (c ∷ cs) v none = (rw none (omega arith), none_one_each cs v none)
+  none_one_each (c ∷ cs) v none = (subst (λ o. records_in (where_some c o) ≤ 1) (sym none) (omega arith), none_one_each cs v none)
 
   none_written : (cs : List (ComponentType W)) (v : V) (k : ℕ) → get v ≡ None → written_of (all_in_group get cs) v k ≡ []
   none_written [] v k none = refl
@@ -112,7 +112,7 @@ module _ {V W : Type 0} (get : V → Option W) where
   -- where it is there, its components are
   some_one_each : (cs : List (ComponentType W)) (v : V) (w : W) → get v ≡ Some w → EachIsOneRecord cs w → EachIsOneRecord (all_in_group get cs) v
   some_one_each [] v w some one = tt
-  some_one_each (c ∷ cs) v w some one = (rw some one.0, some_one_each cs v w some one.1)
+  some_one_each (c ∷ cs) v w some one = (subst (λ o. records_in (where_some c o) ≤ 1) (sym some) one.0, some_one_each cs v w some one.1)
 
   some_written : (cs : List (ComponentType W)) (v : V) (w : W) (k : ℕ) → get v ≡ Some w → written_of (all_in_group get cs) v k ≡ written_of cs w k
   some_written [] v w k some = refl

@@ -85,7 +85,9 @@ module _ {V Content : Type 0} (c : ComponentType V) (holds : Option Content → 
   same_alone m n slot v same step = ((λ none. step.0 (same ∙ none)), (λ some. step.1 (λ none. some (sym same ∙ none))))
 
   has_come : (times : ℕ → ℕ) (after : Option Content) (v : V) → holds after v ≡ true → alone_in_step holds (one_more times 0) after v
-  has_come times after v held = ((λ none. absurd (omega (arith, none))), (λ _. held))
+  has_come times after v held =
+      let itself : (0 == 0) ≡ true = refl in
+      ((λ none. absurd (omega (arith, none, ap {B = ℕ} (λ b. cond b 1 0) itself))), (λ _. held))
 
   reads_alone : ReadsAlone → {D A : Type 0} (R : Reader D) (t : Tag) (j : ℕ) (times : ℕ → ℕ) (old new : D) (before after : Option Content)
       (result : Result A DecodeError) → Once R old new before after result → CanBeginWith (c ∷ []) j t →

@@ -1,5 +1,4 @@
 //! A group of additions of a SET, whose components come one by one.
-ghost use Rattle.asn1_laws.specs.Reading.{Reader};
 ghost use Rattle.asn1_slots.specs.GroupsInSets.{FillsPart, group_is_filled, holds_group};
 ghost use Rattle.asn1_slots.specs.Slots.{AreEmpty, IsLayoutOf, name_unless};
 ghost use Rattle.std.specs.Option.{option_eq, option_map};
