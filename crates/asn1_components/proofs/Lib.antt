@@ -10,3 +10,4 @@ pub mod EnumerationFacts
 pub mod ItemSearches
 pub mod ListSearches
 pub mod NumbersInTables
+pub mod PartsApart

@@ -9,7 +9,6 @@ use Rattle.asn1_tags.specs.Trees.{Tree, is_any_open, is_open, leaves, leaves_of}
 use Rattle.asn1_tags.specs.Walks.{have_common_tag}
 use Rattle.asn1_tags.specs.declared.tags.Tag.{Tag}
 use Rattle.asn1_model.proofs.TagSets.{leaf_has}
-use Rattle.asn1_model.specs.Tags.{Has, tree_tags}
 use Rattle.std.proofs.lemmas.List.Elements.{Contains-append_left, Contains-append_right}
 use Rattle.asn1_components.specs.ComponentLists.{EachTreeIsDistinct, trees_of}
 use Rattle.asn1_components.specs.ComponentTypes.{ComponentType}

@@ -1,6 +1,6 @@
 -- The slots of a group of a SET that are filled.
-use Rattle.std.proofs.Common.{◌≡◌, true, false, List, [], ◌∷◌, refl, ap, ◌∙◌}
-use Rattle.std.specs.Prelude.{◌&&◌, Bool, None, Option, Some, ℕ, if◌then◌else◌}
+use Rattle.std.proofs.Common.{◌≡◌, true, false, List, [], ◌∷◌, refl, ◌∙◌}
+use Rattle.std.specs.Prelude.{◌&&◌, Bool, None, Some, ℕ, if◌then◌else◌}
 use Rattle.std.proofs.lemmas.Bool.{and_parts}
 use Rattle.asn1_slots.specs.GroupsInSets.{all_are_filled}
 use Rattle.asn1_slots.specs.Slots.{AreFilled, Slot, first_missing}

@@ -5,3 +5,6 @@ pub mod ReadByIndex
 pub mod ReadChoices
 pub mod ReadInSets
 mod TreesWithTags
+pub mod SlotsInStep
+pub mod SetItems
+pub mod FilledGroups

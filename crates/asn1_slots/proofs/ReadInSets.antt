@@ -1,7 +1,6 @@
 -- How the components of a SET are read into slots, in whatever order they come.
-use Rattle.std.proofs.Common.{◌≡◌, ◌≢◌, ℕ, zero, suc, ◌+◌, ◌≤◌, true, false, cond, List, [], ◌∷◌, ◌++◌, inl, inr, Option, Some, None, Result, Ok, Err, Bool, length, refl, ap, sym, ◌∙◌, subst, arith}
+use Rattle.std.proofs.Common.{◌≡◌, ◌≢◌, ℕ, zero, suc, ◌+◌, ◌≤◌, true, cond, List, [], ◌∷◌, ◌++◌, inl, inr, Option, Some, None, Result, Ok, Err, Bool, length, refl, ap, sym, ◌∙◌, subst, arith}
 use Rattle.std.specs.Prelude.{◌==◌, ⊤, IsPermutation}
-use Rattle.std.specs.List.{All}
 use Rattle.std.proofs.lemmas.Bool.Decides.{nat_tests}
 use Rattle.std.proofs.lemmas.List.Elements.{All-nil}
 use Rattle.std.proofs.lemmas.List.Sorted.{All-permutation, IsPermutation-sym}
@@ -14,7 +13,7 @@ use Rattle.asn1_laws.proofs.ReadingSteps.{in_other_words}
 use Rattle.asn1_laws.proofs.Rearrangements.{made_of}
 use Rattle.asn1_laws.proofs.SetRecords.{IsAll, Item, all_are, as_many_as_written, at_most_one, items_at-permutation, items_from, records, their_records}
 use Rattle.asn1_laws.specs.Reading.{Advances, HasAdvanced, IsNextTag, MayFail, Outside, Reader, ReadsBack, Remaining, TellsComponent, TellsTree, marks_passed, records_in}
-use Rattle.asn1_laws.specs.SetParts.{CanBeginWith, EachIsOneRecord, parts_at, unmarked, written_of}
+use Rattle.asn1_laws.specs.SetParts.{CanBeginWith, parts_at, unmarked, written_of}
 use Rattle.asn1_laws.specs.declared.decode_error.DecodeError.{DecodeError}
 use Rattle.asn1_laws.specs.declared.decode_error.DecodeError.TheVariants.{Depth, Memory}
 use Rattle.asn1_model.specs.Records.{Record, highest}

@@ -1,6 +1,6 @@
 -- Slots that are in step with the parts of a SET that have come.
-use Rattle.std.proofs.Common.{◌≡◌, ◌≢◌, ◌⊎◌, ℕ, zero, suc, ◌+◌, ◌<◌, ◌≤◌, true, false, cond, List, [], ◌∷◌, ◌++◌, inl, inr, None, Result, append_assoc, length, length-append, refl, ap, sym, ◌∙◌, subst, arith}
-use Rattle.std.specs.Prelude.{◌==◌, ⊤}
+use Rattle.std.proofs.Common.{◌≡◌, ◌≢◌, ◌⊎◌, ℕ, zero, suc, ◌+◌, ◌<◌, ◌≤◌, true, false, cond, List, [], ◌∷◌, ◌++◌, inl, inr, Result, append_assoc, length, length-append, refl, ap, sym, ◌∙◌, subst, arith}
+use Rattle.std.specs.Prelude.{◌==◌}
 use Rattle.std.proofs.lemmas.Bool.{and_parts}
 use Rattle.std.proofs.lemmas.Bool.Decides.{nat_tests}
 use Rattle.asn1_components.specs.ComponentLists.{EachIsOfType, EachIsValid, EachIsWellTagged, EachTreeIsDistinct, all_records, joined, parts_of, trees_of}
@@ -10,7 +10,7 @@ use Rattle.asn1_laws.specs.Reading.{Outside, Reader, ReadsBack}
 use Rattle.asn1_laws.specs.SetParts.{CanBeginWith, EachIsOneRecord, unmarked, written_of}
 use Rattle.asn1_laws.specs.declared.decode_error.DecodeError.{DecodeError}
 use Rattle.asn1_model.specs.Records.{Record}
-use Rattle.asn1_tags.specs.Trees.{Trees, more, none}
+use Rattle.asn1_tags.specs.Trees.{more, none}
 use Rattle.asn1_tags.specs.declared.tags.Tag.{Tag}
 use Rattle.asn1_slots.specs.PartsInSets.{AreOwnParts, one_more, unmarked-append}
 use Rattle.asn1_slots.specs.Slots.{AllAreKept, AreEmpty, AreInStep, HoldBefore, OthersAreKept, ReadsOnceAt, Slot, can_be_in_set, components_of, parts_of_slots}

@@ -1,6 +1,6 @@
 -- A group of additions of a SET (X.680, 25.1 and 27): its components come one by one, in any order among the others.
-use Rattle.std.specs.Prelude.{◌≡◌, ◌≢◌, ◌<◌, ◌⊎◌, ◌&&◌, ℕ, zero, suc, ⊤, Bool, true, false, not, IsTrue, List, [], ◌∷◌, ◌++◌, length, map, Option, None, Some, IfSome, OnOk, Result, Ok, Err, refl, if◌then◌else◌}
-use Rattle.std.proofs.Common.{◌∙◌, ◌+◌, ◌≤◌, absurd, ap, append-nil, arith, inl, inr, subst, sym}
+use Rattle.std.specs.Prelude.{◌≡◌, ◌≢◌, ◌<◌, ◌⊎◌, ◌&&◌, ℕ, zero, suc, Bool, true, false, not, IsTrue, List, [], ◌∷◌, ◌++◌, length, Option, None, Some, IfSome, OnOk, Result, Ok, Err, refl, if◌then◌else◌}
+use Rattle.std.proofs.Common.{◌∙◌, ◌+◌, ◌≤◌, ap, append-nil, arith, inl, inr, subst, sym}
 use Rattle.std.proofs.lemmas.Bool.{and_parts}
 use Rattle.std.specs.Option.{option_map}
 use Rattle.asn1_components.proofs.PartsApart.{apart_if_closed, each_is_distinct}
@@ -8,14 +8,12 @@ use Rattle.asn1_components.specs.ComponentLists.{CanBeInSequence, EachCanBeOn, E
 use Rattle.asn1_components.specs.ComponentTypes.{ComponentType, Fits}
 use Rattle.asn1_components.specs.Components.{rows}
 use Rattle.asn1_components.specs.Following.{AllApart}
-use Rattle.asn1_fields.specs.declared.presence.FieldPresence.{FieldPresence}
 use Rattle.asn1_fields.specs.declared.presence.FieldPresence.TheVariants.{Optional}
 use Rattle.asn1_laws.proofs.ReadingSets.{unmarked-marks}
 use Rattle.asn1_laws.proofs.ReadingSteps.{in_other_words}
 use Rattle.asn1_laws.specs.Reading.{Outside, Reader, ReadsBack, records_in}
 use Rattle.asn1_laws.specs.SetParts.{CanBeginWith, EachIsOneRecord, unmarked, written_of}
 use Rattle.asn1_laws.specs.declared.decode_error.DecodeError.{DecodeError}
-use Rattle.asn1_model.proofs.FirstTags.{alone_append}
 use Rattle.asn1_model.proofs.TagSets.{has_first, has_later}
 use Rattle.asn1_model.specs.Composites.{group_records}
 use Rattle.asn1_model.specs.Records.{Record, group_absent, group_end, group_start, in_root, open_type, presence_mark, presence_marks_alone, scalar, scope}
@@ -27,7 +25,7 @@ use Rattle.asn1_tags.specs.Trees.{choice, is_any_open, leaves, more, none}
 use Rattle.asn1_tags.specs.declared.tags.Tag.{Tag}
 use Rattle.asn1_slots.proofs.SlotsInStep.{each_is_one, each_well_tagged, hold_at_end, none_came, part_is_read, place_of, times_in_step, trees_in_parts, written_below, written_in_parts}
 use Rattle.asn1_slots.specs.PartsInSets.{AreOwnParts, ReadInSet, one_more, unmarked-append}
-use Rattle.asn1_slots.specs.Slots.{AreEmpty, AreInStep, HoldBefore, OthersAreKept, ReadsOnceAt, Slot, can_be_in_set, components_of, no_group, parts_of_slots, sequence_of_slots}
+use Rattle.asn1_slots.specs.Slots.{AreEmpty, AreInStep, HoldBefore, OthersAreKept, ReadsOnceAt, Slot, can_be_in_set, components_of, parts_of_slots, sequence_of_slots}
 
 -- A tag of one of the components is one of a CHOICE of their trees.
 begins_choice : {V : Type 0} (cs : List (ComponentType V)) (k : ℕ) (t : Tag) → CanBeginWith cs k t → Has (tree_tags (choice (trees_of cs))) t

@@ -5,3 +5,5 @@ pub mod ReadSlots
 pub mod Slots
 pub mod TagIndices
 pub mod Taggings
+pub mod GroupsInSets
+pub mod PartsInSets

@@ -1,9 +1,8 @@
 -- A component of a SET by its parts, each of which is one record, or absent: the component itself, or those of a group.
-use Rattle.std.specs.Prelude.{◌≡◌, ◌≢◌, ◌==◌, ◌≤◌, ◌<◌, ◌+◌, ℕ, zero, suc, ⊤, Bool, true, false, IsTrue, List, [], ◌∷◌, ◌++◌, length, Option, None, Result, refl}
-use Rattle.std.proofs.Common.{◌∙◌, absurd, ap, arith, cond, subst, sym}
+use Rattle.std.specs.Prelude.{◌≡◌, ◌≢◌, ◌==◌, ◌≤◌, ◌<◌, ◌+◌, ℕ, zero, suc, ⊤, Bool, true, IsTrue, List, [], ◌∷◌, ◌++◌, length, Option, None, Result, refl}
+use Rattle.std.proofs.Common.{◌∙◌, ap, arith, cond, subst, sym}
 use Rattle.asn1_components.specs.ComponentLists.{EachIsWellTagged, all_records, trees_of}
 use Rattle.asn1_components.specs.ComponentTypes.{ComponentType}
-use Rattle.asn1_components.specs.Following.{AllApart}
 use Rattle.asn1_laws.proofs.ReadingSteps.{in_other_words}
 use Rattle.asn1_laws.specs.Reading.{Outside, Reader, ReadsBack, records_in}
 use Rattle.asn1_laws.specs.SetParts.{CanBeginWith, EachIsOneRecord, unmarked, written_of}
