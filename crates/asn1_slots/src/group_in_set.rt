@@ -8,7 +8,6 @@ use crate::calls::Decoded;
 use crate::set_by_index::{DecodeSetByIndex, first_missing};
 use asn1_components::FieldTable;
 use asn1_dec::{Decoder, component_with_tag};
-use asn1_laws::DecodeError;
 use asn1_tags::Tag;
 use std::alloc::{AllocError, Global};
 
