@@ -6,7 +6,8 @@ use Rattle.std.specs.Ordering.{is_le}
 use Rattle.std.proofs.lemmas.Bool.{and_from, and_parts}
 use Rattle.std.proofs.lemmas.Bool.Decides.{nat_tests}
 use Rattle.std.proofs.lemmas.Grind.{common_steps}
-use Rattle.std.proofs.lemmas.List.Sorted.{IsPermutation-refl, IsPermutation-cons, IsPermutation-middle, IsPermutation-trans, IsPermutation-append_left, length_permutation}
+use Rattle.std.proofs.lemmas.List.{append-nil, append_assoc}
+use Rattle.std.proofs.lemmas.List.Sorted.{IsPermutation-refl, IsPermutation-cons, IsPermutation-middle, IsPermutation-trans, IsPermutation-append_comm, IsPermutation-append_left, IsPermutation-append_right, length_permutation}
 use Rattle.std.proofs.lemmas.Map.Keys.{apart_from_distinct, IsDistinct-from_apart, IsDistinct-IsPermutation}
 use Rattle.std.proofs.lemmas.Option.{none-some, same_Some, slice_get-get_or}
 use Rattle.asn1_tags.specs.Tags.{tag_cmp}
@@ -15,7 +16,7 @@ use Rattle.asn1_fields.proofs.CanonicalTest.{IsCanonical-from_test}
 use Rattle.asn1_fields.specs.CanonicalOrder.{IsCanonical, canonical, in_order, smallest_tag}
 use Rattle.asn1_fields.specs.FieldViews.{FieldView, component_of}
 use Rattle.asn1_components.specs.ComponentLists.{views_from, view_at}
-use Rattle.asn1_components.specs.Components.{Components, Kind, is_sequence, is_set, added, added_views, all_components, in_canonical_order, insert_in_order, root_views, table, table_of_kind}
+use Rattle.asn1_components.specs.Components.{Components, Kind, is_sequence, is_set, added, added_views, all_components, in_canonical_order, insert_in_order, other_views, others, root_views, table, table_of_kind}
 use Rattle.asn1_components.specs.ComponentTypes.{ComponentType}
 
 -- of two tags one is at most the other
@@ -116,29 +117,46 @@ table_of_kind-rearranges is_set es = order_rearranges es
 
 -- The laws, of all components.
 module _ {V : Type 0} (components : Components V) where
-  root_then_added : views_from 0 (all_components components) ≡ views_from 0 components.root ++ added_views components
-  root_then_added =
-      let same : 0 + length components.root ≡ length components.root = omega arith in
-      views_from-append 0 components.root (added components) ∙ ap (λ n. views_from 0 components.root ++ views_from n (added components)) same
+  in_parts : views_from 0 (all_components components) ≡ views_from 0 components.root ++ (added_views components ++ other_views components)
+  in_parts =
+      let n = length components.root in
+      let same : 0 + n ≡ n = omega arith in
+      views_from-append 0 components.root (added components ++ others components)
+      ∙ ap (λ k. views_from 0 components.root ++ views_from k (added components ++ others components)) same
+      ∙ ap (λ es. views_from 0 components.root ++ es) (views_from-append n (added components) (others components))
 
   pub numbered : (index : ℕ) (e : FieldView) → slice_get (views_from 0 (all_components components)) index ≡ Some e → e.index ≡ index
   numbered index e at = let found = numbered_from 0 (all_components components) index e at in omega (arith, found)
 
-  pub sequence_numbered : components.kind ≡ is_sequence → (index : ℕ) (e : FieldView) → slice_get (table components) index ≡ Some e → e.index ≡ index
-  sequence_numbered kind index e at =
+  pub sequence_numbered : components.kind ≡ is_sequence → others components ≡ [] → (index : ℕ) (e : FieldView) → slice_get (table components) index ≡ Some e → e.index ≡ index
+  sequence_numbered kind none index e at =
+      let root = views_from 0 components.root in
+      let added_there = added_views components in
+      let no_others : other_views components ≡ [] = ap (views_from (length components.root + length (added components))) none in
       let in_definition_order : views_from 0 (all_components components) ≡ table components =
-      root_then_added ∙ ap (λ k. table_of_kind k (views_from 0 components.root) ++ added_views components) (sym kind) in
+      in_parts ∙ ap (λ es. root ++ (added_there ++ es)) no_others ∙ ap (λ es. root ++ es) (append-nil added_there)
+      ∙ ap (λ es. es ++ added_there) (sym (append-nil root)) ∙ ap (λ es. (root ++ es) ++ added_there) (sym no_others)
+      ∙ ap (λ k. table_of_kind k (root ++ other_views components) ++ added_there) (sym kind) in
       numbered index e (ap (λ es. slice_get es index) in_definition_order ∙ at)
 
   pub table_rearranges : IsPermutation (views_from 0 (all_components components)) (table components)
   table_rearranges =
-      subst (λ es. IsPermutation es (table components)) (sym root_then_added)
-      (IsPermutation-append_left (added_views components) (views_from 0 components.root) (root_views components) (table_of_kind-rearranges components.kind (views_from 0 components.root)))
+      let root = views_from 0 components.root in
+      let added_there = added_views components in
+      let other = other_views components in
+      let exchanged : IsPermutation (root ++ (added_there ++ other)) (root ++ (other ++ added_there)) =
+      IsPermutation-append_right root (added_there ++ other) (other ++ added_there) (IsPermutation-append_comm added_there other) in
+      let beside : IsPermutation (root ++ (other ++ added_there)) (table components) =
+      subst (λ es. IsPermutation es (table components)) (append_assoc root other added_there)
+      (IsPermutation-append_left added_there (root ++ other) (root_views components) (table_of_kind-rearranges components.kind (root ++ other))) in
+      subst (λ es. IsPermutation es (table components)) (sym in_parts)
+      (IsPermutation-trans (root ++ (added_there ++ other)) (root ++ (other ++ added_there)) (table components) exchanged beside)
 
   pub root_is_canonical : components.kind ≡ is_set → IsCanonical (map component_of (root_views components))
   root_is_canonical kind =
-      subst (λ k. IsCanonical (map component_of (table_of_kind k (views_from 0 components.root)))) (sym kind)
-      (IsCanonical-from_test (map component_of (in_canonical_order (views_from 0 components.root))) (order_sorts (views_from 0 components.root)))
+      let all = views_from 0 components.root ++ other_views components in
+      subst (λ k. IsCanonical (map component_of (table_of_kind k all))) (sym kind)
+      (IsCanonical-from_test (map component_of (in_canonical_order all)) (order_sorts all))
 
   pub table_indices_differ : AllPairs (λ d e. d.index ≢ e.index) (table components)
   table_indices_differ i j d before within =

@@ -55,8 +55,8 @@ abbrev pub row_of : Alternative → Row
 row_of a = record { name = a.name; tree = a.type.tree; may_be_absent = false }
 
 abbrev pub table_of : Alternatives → Table Row
-table_of (closed root) = record { root = map row_of root; additions = None }
-table_of (extensible root added) = record { root = map row_of root; additions = Some (map row_of added) }
+table_of (closed root) = record { root = map row_of root; additions = None; others = [] }
+table_of (extensible root added) = record { root = map row_of root; additions = Some (map row_of added); others = [] }
 
 -- all rows of a table, those of the root first
 abbrev pub all_rows : Table Row → List Row

@@ -19,12 +19,15 @@ pub data Kind : Type 0 where
   is_sequence : Kind
   is_set : Kind
 
--- Whether there is an extension marker, and the additions after it (X.680, 25.1).
+-- Whether there is an extension marker, and the additions after it (X.680, 25.1); and where there is a second marker, the
+-- components of the root that are after that.
 pub data Extension (V : Type 0) : Type 1 where
   no_marker : Extension V
   marker : List (ComponentType V) → Extension V
+  two_markers : List (ComponentType V) → List (ComponentType V) → Extension V
 
--- The components, in the order of their definition: those of the root, and then the additions.
+-- The components, in the order of their definition: those of the root, then the additions, and then, behind a second marker,
+-- those of the root again.
 pub record Components (V : Type 0) : Type 1 where
   pub kind : Kind
   pub root : List (ComponentType V)
@@ -44,6 +47,13 @@ extensible_sequence root additions = record { kind = is_sequence; root = root; e
 abbrev pub extensible_set : {V : Type 0} → List (ComponentType V) → List (ComponentType V) → Components V
 extensible_set root additions = record { kind = is_set; root = root; extension = marker additions }
 
+-- with two extension markers, between which are the additions
+abbrev pub sequence_in_parts : {V : Type 0} → List (ComponentType V) → List (ComponentType V) → List (ComponentType V) → Components V
+sequence_in_parts root additions others = record { kind = is_sequence; root = root; extension = two_markers additions others }
+
+abbrev pub set_in_parts : {V : Type 0} → List (ComponentType V) → List (ComponentType V) → List (ComponentType V) → Components V
+set_in_parts root additions others = record { kind = is_set; root = root; extension = two_markers additions others }
+
 -- the field, at its index among fields in canonical order
 abbrev pub insert_in_order : FieldView → List FieldView → List FieldView
 insert_in_order e [] = e ∷ []
@@ -58,6 +68,16 @@ in_canonical_order (e ∷ es) = insert_in_order e (in_canonical_order es)
 abbrev pub table_of_kind : Kind → List FieldView → List FieldView
 table_of_kind is_sequence es = es
 table_of_kind is_set es = in_canonical_order es
+
+-- the fields of the root that records have before the additions, and those that they have apart: in a SEQUENCE those of both
+-- parts of the root, in a SET all, whose order is that of their tags
+abbrev pub first_of_kind : Kind → List FieldView → List FieldView → List FieldView
+first_of_kind is_sequence es fs = es
+first_of_kind is_set es fs = in_canonical_order (es ++ fs)
+
+abbrev pub others_of_kind : Kind → List FieldView → List FieldView
+others_of_kind is_sequence fs = fs
+others_of_kind is_set fs = []
 
 -- all tags that must be distinct are: as in a SEQUENCE, or as in a SET
 abbrev pub AreDistinctIn : {V : Type 0} → Kind → List (ComponentType V) → Type 0
@@ -83,35 +103,49 @@ tag_of is_set = universal 17
 abbrev pub has_marker : {V : Type 0} → Extension V → Bool
 has_marker no_marker = false
 has_marker (marker additions) = true
+has_marker (two_markers additions others) = true
 
 -- the additions, none if there is no marker
 abbrev pub additions_of : {V : Type 0} → Extension V → List (ComponentType V)
 additions_of no_marker = []
 additions_of (marker additions) = additions
+additions_of (two_markers additions others) = additions
 
--- how many components come before the extension marker, if there is one
+-- the components of the root behind a second marker, none if there is no second one
+abbrev pub others_of : {V : Type 0} → Extension V → List (ComponentType V)
+others_of no_marker = []
+others_of (marker additions) = []
+others_of (two_markers additions others) = others
+
+-- the number, if there is an extension marker
 abbrev pub index_of_marker : {V : Type 0} → Extension V → ℕ → Option ℕ
 index_of_marker no_marker k = None
 index_of_marker (marker additions) k = Some k
+index_of_marker (two_markers additions others) k = Some k
 
 -- these rows after the extension marker, if there is one
 abbrev pub after_marker : {V : Type 0} → Extension V → List Row → Option (List Row)
 after_marker no_marker rows = None
 after_marker (marker additions) rows = Some rows
+after_marker (two_markers additions others) rows = Some rows
 
 -- rows of a table, those after the extension marker apart, by the index of the marker
 abbrev pub split_at_marker : List Row → Option ℕ → Table Row
-split_at_marker ls None = record { root = ls; additions = None }
-split_at_marker ls (Some k) = record { root = take k ls; additions = Some (drop k ls) }
+split_at_marker ls None = record { root = ls; additions = None; others = [] }
+split_at_marker ls (Some k) = record { root = take k ls; additions = Some (drop k ls); others = [] }
 
 module _ {V : Type 0} (components : Components V) where
   -- the additions, none if there is no extension marker
   abbrev pub added : List (ComponentType V)
   added = additions_of components.extension
 
+  -- the components of the root behind a second extension marker
+  abbrev pub others : List (ComponentType V)
+  others = others_of components.extension
+
   -- all components, in the order of their definition
   abbrev pub all_components : List (ComponentType V)
-  all_components = components.root ++ added
+  all_components = components.root ++ (added ++ others)
 
   -- the records of a value's
   abbrev pub component_records : V → List Record
@@ -119,8 +153,11 @@ module _ {V : Type 0} (components : Components V) where
 
   -- The rows of the field table: those of the root, and then the additions. The index of each is its index in the
   -- definition.
+  abbrev pub other_views : List FieldView
+  other_views = views_from (length components.root + length added) others
+
   abbrev pub root_views : List FieldView
-  root_views = table_of_kind components.kind (views_from 0 components.root)
+  root_views = table_of_kind components.kind (views_from 0 components.root ++ other_views)
 
   abbrev pub added_views : List FieldView
   added_views = views_from (length components.root) added
@@ -130,15 +167,19 @@ module _ {V : Type 0} (components : Components V) where
 
   -- the same, as records have it
   abbrev pub rows : Table Row
-  rows = record { root = map row_of root_views; additions = after_marker components.extension (map row_of added_views) }
+  rows = record {
+    root = map row_of (first_of_kind components.kind (views_from 0 components.root) other_views);
+    additions = after_marker components.extension (map row_of added_views);
+    others = map row_of (others_of_kind components.kind other_views);
+  }
 
-  -- how many components come before the extension marker, if there is one
+  -- how many fields of the table are those of the root, if there is an extension marker
   abbrev pub extension_index : Option ℕ
-  extension_index = index_of_marker components.extension (length components.root)
+  extension_index = index_of_marker components.extension (length components.root + length others)
 
   -- each component is written where it is defined, in the root or among the additions, which may be absent at will
   abbrev pub AreOnTheirSides : Type 0
-  AreOnTheirSides = EachCanBeOn in_root components.root × EachCanBeOn in_additions added ×
+  AreOnTheirSides = EachCanBeOn in_root (components.root ++ others) × EachCanBeOn in_additions added ×
       EachMayBeAbsent added
 
   -- The type of each component is well tagged, each can be on its side of the marker, and tags are distinct.

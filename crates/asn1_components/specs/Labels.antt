@@ -13,7 +13,7 @@ abbrev pub label_of : {V : Type 0} → Item V → Label
 label_of i = record { number = i.number; name = i.name }
 
 abbrev pub labels_of : {V : Type 0} → Enumeration V → Labels
-labels_of e = record { root = map label_of e.root; additions = option_map (map label_of) e.additions }
+labels_of e = record { root = map label_of e.root; additions = option_map (map label_of) e.additions; others = [] }
 
 -- the labels after the extension marker, none if there is no marker
 abbrev pub added_labels : Labels → List Label

@@ -3,7 +3,7 @@ use Rattle.std.specs.Prelude.{◌≡◌, ◌≢◌, ◌≤◌, ◌&&◌, ℕ, ze
 use Rattle.std.specs.Cmp.Lexicographic.{pointwise}
 use Rattle.std.specs.Option.{option_eq}
 use Rattle.std.specs.Result.{IsErrAnd}
-use Rattle.asn1_components.specs.Components.{Components, all_components, extensible_sequence, extensible_set, group, sequence, set}
+use Rattle.asn1_components.specs.Components.{Components, all_components, extensible_sequence, extensible_set, group, sequence, sequence_in_parts, set}
 use Rattle.asn1_components.specs.ComponentTypes.{ComponentType, default_in, optional_in, required}
 use Rattle.asn1_components.specs.Following.{BeginsApart, When}
 use Rattle.asn1_laws.specs.DecodeErrors.{missing_field, reason}
@@ -275,6 +275,12 @@ module _ {S V : Type 0} where
   abbrev pub extensible_sequence_after : ℕ → List (Slot S V) → Components V
   extensible_sequence_after k slots =
       extensible_sequence (components_of (take k slots)) (components_of (drop k slots))
+
+  -- one whose root has this many of them, then a marker and so many additions, and behind a second marker the others
+  abbrev pub sequence_in_parts_after : ℕ → ℕ → List (Slot S V) → Components V
+  sequence_in_parts_after k n slots =
+      sequence_in_parts (components_of (take k slots)) (components_of (take n (drop k slots)))
+      (components_of (drop n (drop k slots)))
 
   -- a SET of them, without an extension marker, and with one
   abbrev pub set_of_slots : List (Slot S V) → Components V

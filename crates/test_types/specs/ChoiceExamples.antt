@@ -21,6 +21,7 @@ reply_table = record {
       under_tag (codes "refused") (universal 5) ∷ [];
   additions = Some (
       under_tag (codes "later") (context 0) ∷ []);
+  others = [];
 }
 
 -- later : 9

@@ -10,4 +10,5 @@ color_labels = record {
       record { number = pos 1; name = codes "green" } ∷ [];
   additions = Some (
       record { number = pos 5; name = codes "blue" } ∷ []);
+  others = [];
 }

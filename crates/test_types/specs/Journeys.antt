@@ -62,6 +62,7 @@ abbrev stop_table : Table Row
 stop_table = record {
   root = at_will (codes "over") (leaf (context 1)) ∷ [];
   additions = None;
+  others = [];
 }
 
 -- the table of the outer group
@@ -71,6 +72,7 @@ route_table = record {
       at_will (codes "from") (leaf (context 0)) ∷
       at_will (codes "stop") stop_tree ∷ [];
   additions = None;
+  others = [];
 }
 
 -- the table of the journey
@@ -78,6 +80,7 @@ abbrev journey_table : Table Row
 journey_table = record {
   root = needed (codes "id") (leaf (universal 2)) ∷ [];
   additions = Some (at_will (codes "route") route_tree ∷ []);
+  others = [];
 }
 
 -- { id 7, from TRUE }, whose inner group is absent
