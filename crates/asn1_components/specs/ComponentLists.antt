@@ -35,6 +35,11 @@ abbrev pub views_from : {V : Type 0} → ℕ → List (ComponentType V) → List
 views_from k [] = []
 views_from k (c ∷ cs) = view_at k c ∷ views_from (k + 1) cs
 
+-- the names of all
+abbrev pub names_of : {V : Type 0} → List (ComponentType V) → List (List ℕ)
+names_of [] = []
+names_of (c ∷ cs) = c.name ∷ names_of cs
+
 -- the trees of all
 abbrev pub trees_of : {V : Type 0} → List (ComponentType V) → Trees
 trees_of [] = none
