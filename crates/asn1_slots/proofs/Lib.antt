@@ -5,3 +5,4 @@ pub mod ReadByIndex
 pub mod ReadChoices
 pub mod ReadInSets
 mod TreesWithTags
+pub mod NamesInTables
