@@ -10,3 +10,5 @@ pub mod EnumerationFacts
 pub mod ItemSearches
 pub mod ListSearches
 pub mod NumbersInTables
+pub mod WrittenAlike
+pub mod DistinctSets

@@ -3,9 +3,14 @@ use Rattle.std.specs.Prelude.{◌≡◌, ◌≢◌, ◌≤◌, ◌&&◌, ℕ, ze
 use Rattle.std.specs.Cmp.Lexicographic.{pointwise}
 use Rattle.std.specs.Option.{option_eq}
 use Rattle.std.specs.Result.{IsErrAnd}
-use Rattle.asn1_components.specs.Components.{Components, all_components, extensible_sequence, extensible_set, group, sequence, set}
+use Rattle.asn1_components.proofs.DistinctSets.{default_distinct, groups_distinct, optional_distinct, required_distinct}
+use Rattle.asn1_components.proofs.WrittenAlike.{default_alike, groups_alike, optional_alike, required_alike}
+use Rattle.asn1_components.specs.ComponentLists.{EachIsWellTagged}
+use Rattle.asn1_components.specs.Components.{Components, all_components, component_records, extensible_sequence, extensible_set, group, rows, sequence, set}
 use Rattle.asn1_components.specs.ComponentTypes.{ComponentType, default_in, optional_in, required}
 use Rattle.asn1_components.specs.Following.{BeginsApart, When}
+use Rattle.asn1_components.specs.DistinctSets.{IsDistinct}
+use Rattle.asn1_components.specs.WrittenAlike.{IsAlike}
 use Rattle.asn1_laws.specs.DecodeErrors.{missing_field, reason}
 use Rattle.asn1_laws.specs.Reading.{Outside, Reader, ReadsBack, records_in}
 use Rattle.asn1_laws.specs.ReadingTypes.{ReadsSetLeft}
@@ -17,6 +22,8 @@ use Rattle.asn1_fields.specs.FieldViews.{may_be_absent}
 use Rattle.asn1_model.specs.Composites.{default_records}
 use Rattle.asn1_model.specs.Records.{Record, Side, in_additions, in_root}
 use Rattle.asn1_model.specs.TaggedTypes.{TaggedType}
+use Rattle.asn1_model.specs.DistinctSets.{AreDistinct, SetsAreDistinctInside}
+use Rattle.asn1_model.specs.WrittenAlike.{AreAlikeInside, HaveSameRecords}
 use Rattle.asn1_slots.specs.Filling.{Fills, FillsGroup, FillsOnce, FillsOptional}
 use Rattle.asn1_slots.specs.InSets.{one_default, one_optional, one_required, slot_of_absent, slot_of_present, unless_default, written_default, written_optional, written_required}
 
@@ -67,6 +74,14 @@ pub record Slot (S V : Type 0) : Type 1 where
   -- what is absent has an empty slot
   pub is_absent : is_single ≡ true → (v : V) → component.IsWellTagged →
       unmarked (component.records v) ≡ [] → holds None v ≡ true
+  -- whether two values have equal components
+  pub equal : V → V → Bool
+  -- what is asked of the component's type so that these are written alike, which is enough
+  pub CanBeAlike : Type 0
+  pub alike : CanBeAlike → IsAlike component equal
+  -- the same of the SETs inside it, whose components are to have distinct tags
+  pub CanBeDistinct : Type 0
+  pub distinct : CanBeDistinct → IsDistinct component
 
 -- The slot of a component with a default: it has what the value has, or it is empty, and the value
 -- passes the test for the default.
@@ -81,6 +96,10 @@ holds_or_default eq default_value slot w = holds_or_passes eq (λ v. eq v defaul
 -- the test for the empty list, by the equality of the elements
 abbrev pub is_empty_list : {T A : Type 0} → (T → T → Bool) → Vec T A → Bool
 is_empty_list eq list = pointwise eq list.items []
+
+-- Equal values pass the test for a default together.
+abbrev pub PassTogether : {W : Type 0} → (W → W → Bool) → (W → Bool) → Type 0
+PassTogether {W = W} eq test = (x y : W) → eq x y ≡ true → test x ≡ test y
 
 holds_default : {W : Type 0} (eq : W → W → Bool) (test : W → Bool) (w : W) (slot : Option W) (is_default : Bool) →
     test w ≡ is_default → option_eq eq slot (unless_default is_default w) ≡ true →
@@ -150,6 +169,11 @@ module _ {S V W : Type 0} (name : List ℕ) where
         _ rest outer can of_type valid (written_required type can (get v)) some;
     is_absent = λ single v can none.
         slot_of_absent type can eq None (Some (get v)) _ (written_required type can (get v)) refl none;
+    equal = λ v w. eq (get v) (get w);
+    CanBeAlike = AreAlikeInside type eq;
+    alike = λ each. required_alike name get type each;
+    CanBeDistinct = SetsAreDistinctInside type;
+    distinct = λ own. required_distinct name get type own;
   }
 
   -- of one that may be absent, on this side
@@ -174,6 +198,11 @@ module _ {S V W : Type 0} (name : List ℕ) where
         _ rest outer can of_type valid (written_optional type can side (get v)) some;
     is_absent = λ single v can none.
         slot_of_absent type can eq None (get v) _ (written_optional type can side (get v)) refl none;
+    equal = λ v w. option_eq eq (get v) (get w);
+    CanBeAlike = AreAlikeInside type eq;
+    alike = λ each. optional_alike side name get type each;
+    CanBeDistinct = SetsAreDistinctInside type;
+    distinct = λ own. optional_distinct side name get type own;
   }
 
   -- of the root, and of the additions
@@ -210,6 +239,11 @@ module _ {S V W : Type 0} (name : List ℕ) where
     is_absent = λ single v can none. default_is_read eq test (get v) None
         (slot_of_absent type can eq None (unless_default (test (get v)) (get v)) _
         (written_default type can side (test (get v)) (get v)) refl none);
+    equal = λ v w. eq (get v) (get w);
+    CanBeAlike = PassTogether eq test × AreAlikeInside type eq;
+    alike = λ each. default_alike side name get test type each.0 each.1;
+    CanBeDistinct = SetsAreDistinctInside type;
+    distinct = λ own. default_distinct side name get (λ v. test (get v)) type own;
   }
 
   -- of one default value, in the root and among the additions
@@ -238,6 +272,11 @@ module _ {S V W : Type 0} (name : List ℕ) where
     is_one = λ wrong. no_group wrong;
     reads_once = λ R old new after result wrong. no_group wrong;
     is_absent = λ wrong. no_group wrong;
+    equal = λ v w. option_eq eq (get v) (get w);
+    CanBeAlike = EachIsWellTagged (all_components components) → HaveSameRecords eq (component_records components);
+    alike = λ each can v w same. groups_alike (rows components) (component_records components) (each can.0.0) (get v) (get w) same;
+    CanBeDistinct = EachIsWellTagged (all_components components) → (w : W) → AreDistinct (component_records components w);
+    distinct = λ own can v. groups_distinct (rows components) (component_records components) (own can.0.0) (get v);
   }
 
 module _ {S V T A : Type 0} (name : List ℕ) where
@@ -266,6 +305,19 @@ module _ {S V : Type 0} where
   abbrev pub components_of : List (Slot S V) → List (ComponentType V)
   components_of [] = []
   components_of (h ∷ hs) = h.component ∷ components_of hs
+
+  -- the comparisons of the slots, and what is asked of the types of all
+  abbrev pub comparisons : List (Slot S V) → List (V → V → Bool)
+  comparisons [] = []
+  comparisons (h ∷ hs) = h.equal ∷ comparisons hs
+
+  abbrev pub EachCanBeAlike : List (Slot S V) → Type 0
+  EachCanBeAlike [] = ⊤
+  EachCanBeAlike (h ∷ hs) = h.CanBeAlike × EachCanBeAlike hs
+
+  abbrev pub EachCanBeDistinct : List (Slot S V) → Type 0
+  EachCanBeDistinct [] = ⊤
+  EachCanBeDistinct (h ∷ hs) = h.CanBeDistinct × EachCanBeDistinct hs
 
   -- a SEQUENCE of these components, without an extension marker
   abbrev pub sequence_of_slots : List (Slot S V) → Components V

@@ -21,6 +21,7 @@
 //! | [`Tagging`] | the tagging of a component or an alternative | `Taggings` |
 //! | [`NotRead`], [`in_component`] | a component that was not read, and its error with its name | `ReadSlots` |
 //! | [`laws`] | a component with a default is absent if it has the default, and only then | `Slots` |
+//! | [`written_alike`] | types whose equal values are written alike | |
 //!
 //! The main promises (docs/PROMISES.md has more):
 //!
@@ -51,6 +52,7 @@ mod slot_values;
 mod tag_indices;
 mod tagged;
 mod tagging;
+pub mod written_alike;
 
 pub use by_index::{
     DecodeByIndex, NotRead, decode_fields_by_index, decode_fields_naming_errors,
