@@ -65,6 +65,7 @@ TABLE = {
     "folders": ("folders", [], []),
     "greetings": ("greetings", [], []),
     "ldap": ("asn1_ldap", [f"--extern={name}=asn1_recursive::{name}" for name in FILTERS], ["asn1_recursive"]),
+    "operations": ("operations", [], ["asn1_tables"]),
     "queries": ("queries", [], []),
     "signals": ("signals", [], ["asn1_tables"]),
     "snmp": ("snmp", [], []),
@@ -441,6 +442,8 @@ TABLES = ("M DEFINITIONS AUTOMATIC TAGS ::= BEGIN\nITEM ::= CLASS { &id INTEGER 
           "Same ITEM ::= { a | b }\nLess ITEM ::= { a EXCEPT b }\nEmpty ITEM ::= { ... }\na ITEM ::= { NULL BY 1 }\nb ITEM ::= { BOOLEAN BY 1 }\nEND\n")
 BESIDE = ("M DEFINITIONS AUTOMATIC TAGS ::= BEGIN\nTree ::= CHOICE { leaf NULL, trees SEQUENCE OF Tree }\nTreeReader ::= SEQUENCE { a NULL }\n"
           "TreeOf ::= SEQUENCE { a NULL }\nEND\n")
+NUMBERED = ("M DEFINITIONS AUTOMATIC TAGS ::= BEGIN\nTree ::= CHOICE { leaf NULL, node Node }\n"
+         "Node ::= SEQUENCE { args-x INTEGER, args SEQUENCE { x BOOLEAN, inner Tree OPTIONAL } }\nEND\n")
 CLASH = "M DEFINITIONS ::= BEGIN\nA ::= SEQUENCE { a NULL OPTIONAL, b NULL }\nEND\n"
 
 
@@ -490,6 +493,9 @@ def try_arguments():
             ["object set 'Less' has no table: it has EXCEPT", "objects 'a' and 'b' have the same &id"], 0))
     expect("types with the names of files of a circle", sorted(path for path in files_of(run(["x"], BESIDE)[0]) if path.startswith("src/tree")),
            ["src/tree.rt", "src/tree_of.rt", "src/tree_of2.rt", "src/tree_parts.rt", "src/tree_reader.rt", "src/tree_reader2.rt"])
+    parts = files_of(run(["x"], NUMBERED)[0]).get("src/tree_parts.rt", "")
+    expect("two parts of a circle with one name", [line for line in parts.splitlines() if " struct " in line],
+           [f"pub(crate) struct {name};" for name in ("NodeArgsXPart", "NodeArgsXPart2", "TreeOfLeafPart")])
     expect("--check", run(["x", "--check"], RIGHT), ("", "", 0))
     written, told, status = run(["x", "--help"])
     expect("--help", ("--extern" in written, told, status), (True, "", 0))

@@ -77,8 +77,12 @@ pub(crate) fn type_uses(
     )
 }
 
-// The line that brings in the variants of a type; no text if it has none.
-fn variant_uses(alloc: Global, circle: Circle<'_>, file: &TypeFile) -> Result<String, AllocError> {
+/// The line that brings in the variants of a type; no text if it has none.
+pub(crate) fn variant_uses(
+    alloc: Global,
+    circle: Circle<'_>,
+    file: &TypeFile,
+) -> Result<String, AllocError> {
     match &file.body {
         TypeBody::Choice(choice) => {
             let variants = variant_names(alloc, file, choice)?;

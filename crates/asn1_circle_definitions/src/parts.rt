@@ -2,7 +2,7 @@
 use crate::circle::Circle;
 use asn1_rust_code::{Draft, TypeName};
 use asn1_rust_components::{TypeBody, TypeFile, Usage};
-use asn1_rust_names::camel_case;
+use asn1_rust_names::{TakenNames, camel_case};
 use std::alloc::{AllocError, Global};
 
 /// A type that holds no type of its circle, under the name by which definitions cite its meaning.
@@ -10,6 +10,8 @@ use std::alloc::{AllocError, Global};
 pub(crate) struct Part<'a> {
     /// The name, as `call_name_part`.
     pub(crate) name: String,
+    /// The name of the struct that names its meaning, as `CallNamePart`.
+    pub(crate) structure: String,
     /// The type.
     pub(crate) definition: &'a TypeName,
 }
@@ -17,28 +19,40 @@ pub(crate) struct Part<'a> {
 /// The types in a circle that hold no type of it, each once.
 pub(crate) fn parts_of<'a>(alloc: Global, circle: Circle<'a>) -> Result<Vec<Part<'a>>, AllocError> {
     let mut parts = Vec::new(alloc);
+    let mut names = TakenNames::new(alloc);
     for file in circle.members {
-        match &file.body {
-            TypeBody::Choice(choice) => {
-                for alternative in &choice.alternatives {
-                    if alternative.held.is_none() {
-                        let name = alternative.variant.as_str();
-                        push_part(alloc, &mut parts, file, name, &alternative.definition)?;
-                    }
-                }
-            }
-            TypeBody::Sequence(body) => {
-                for component in &body.components {
-                    if component.held.is_none() && !is_group(&component.usage) {
-                        let name = component.field.as_str();
-                        push_part(alloc, &mut parts, file, name, &component.definition)?;
-                    }
-                }
-            }
-            _ => {}
-        }
+        push_parts(alloc, &mut parts, &mut names, file)?;
     }
     Ok(parts)
+}
+
+// Adds those in a type.
+fn push_parts<'a>(
+    alloc: Global,
+    parts: &mut Vec<Part<'a>>,
+    names: &mut TakenNames,
+    file: &'a TypeFile,
+) -> Result<(), AllocError> {
+    match &file.body {
+        TypeBody::Choice(choice) => {
+            for alternative in &choice.alternatives {
+                if alternative.held.is_none() {
+                    let name = alternative.variant.as_str();
+                    push_part(alloc, parts, names, file, name, &alternative.definition)?;
+                }
+            }
+        }
+        TypeBody::Sequence(body) => {
+            for component in &body.components {
+                if component.held.is_none() && !is_group(&component.usage) {
+                    let name = component.field.as_str();
+                    push_part(alloc, parts, names, file, name, &component.definition)?;
+                }
+            }
+        }
+        _ => {}
+    }
+    Ok(())
 }
 
 /// Whether a component is a group of additions.
@@ -50,6 +64,7 @@ pub(crate) fn is_group(usage: &Usage) -> bool {
 fn push_part<'a>(
     alloc: Global,
     parts: &mut Vec<Part<'a>>,
+    names: &mut TakenNames,
     file: &TypeFile,
     name: &str,
     definition: &'a TypeName,
@@ -63,8 +78,19 @@ fn push_part<'a>(
         lower.push(character.to_ascii_lowercase())?;
     }
     let lower = lower.as_str();
-    let name = format!(in alloc; "{module}_{lower}_part")?;
-    parts.push(Part { name, definition })?;
+    let wanted = format!(in alloc; "{module}_{lower}_part")?;
+    let wanted = wanted.as_str();
+    let plain = struct_name(alloc, wanted)?;
+    let plain = plain.as_str();
+    let structure = names.take(plain)?;
+    // Two parts of one name are told apart by a number, in both of their names.
+    let number = structure.as_str().strip_prefix(plain).unwrap_or("");
+    let name = format!(in alloc; "{wanted}{number}")?;
+    parts.push(Part {
+        name,
+        structure,
+        definition,
+    })?;
     Ok(())
 }
 
@@ -105,8 +131,7 @@ pub fn parts_file(alloc: Global, circle: Circle<'_>) -> Result<String, AllocErro
 fn append_part(draft: &mut Draft, part: &Part<'_>) -> Result<(), AllocError> {
     let alloc = draft.alloc();
     draft.use_type(part.definition)?;
-    let name = struct_name(alloc, part)?;
-    let name = name.as_str();
+    let name = part.structure.as_str();
     let text = part.definition.text.as_str();
     draft.text(format!(in alloc;
         "\
@@ -124,10 +149,10 @@ impl Meant for {name} {{
     )?)
 }
 
-// The name of the struct that names a meaning.
-fn struct_name(alloc: Global, part: &Part<'_>) -> Result<String, AllocError> {
+// The name in the form of a struct.
+fn struct_name(alloc: Global, name: &str) -> Result<String, AllocError> {
     let mut hyphened = String::new(alloc);
-    for character in part.name.chars() {
+    for character in name.chars() {
         hyphened.push(if character == '_' { '-' } else { character })?;
     }
     camel_case(alloc, hyphened.as_bytes())
@@ -143,7 +168,7 @@ pub(crate) fn part_uses(
     let crate_name = circle.crate_name;
     let module = circle.parts;
     for part in parts {
-        let structure = struct_name(alloc, part)?;
+        let structure = part.structure.as_str();
         let name = part.name.as_str();
         let line = format!(in alloc;
             "use Rattle.{crate_name}.specs.contracts.{module}.{structure}Meant.TheImpl.{{ghosts as {name}}}\n"

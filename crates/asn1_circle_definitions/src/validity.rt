@@ -1,6 +1,6 @@
 //! The proof that each value of a circle is valid.
 use crate::circle::{Circle, elements_of, meaning_term};
-use crate::lists::{all_type_uses, definition_uses, type_uses, variant_name};
+use crate::lists::{all_type_uses, definition_uses, variant_name, variant_uses};
 use crate::outside::{
     Outside, has_group, is_known, mark, mark_parts, module_at, outside_of, valid_files,
 };
@@ -138,15 +138,17 @@ fn validity_uses(
     Ok(uses)
 }
 
-// The lines that bring in a type outside: its meaning, its name and its variants.
+// The lines that bring in a type outside: its meaning, its name and its variants. Its own name may be that of a word.
 fn outside_uses(alloc: Global, circle: Circle<'_>, file: &TypeFile) -> Result<String, AllocError> {
     let crate_name = circle.crate_name;
     let module = file.module.as_str();
     let name = file.plain_name();
-    let types = type_uses(alloc, circle, file)?;
-    let types = types.as_str();
+    let variants = variant_uses(alloc, circle, file)?;
+    let variants = variants.as_str();
     format!(in alloc;
-        "use Rattle.{crate_name}.specs.contracts.{module}.{name}AsnType.TheImpl.{{ghosts as {module}_ghosts}}\n{types}"
+        "use Rattle.{crate_name}.specs.contracts.{module}.{name}AsnType.TheImpl.{{ghosts as {module}_ghosts}}
+use Rattle.{crate_name}.specs.declared.{module}.{name}.{{{name} as {module}_values}}
+{variants}"
     )
 }
 
@@ -180,7 +182,7 @@ fn type_lemma(
         )?
     } else {
         format!(in alloc;
-            "{module}_is_valid : (accepts : List ℕ → Bool) (v : {name}) → {module}_ghosts.meaning.IsValid accepts v\n"
+            "{module}_is_valid : (accepts : List ℕ → Bool) (v : {module}_values) → {module}_ghosts.meaning.IsValid accepts v\n"
         )?
     };
     let statement = statement.as_str();

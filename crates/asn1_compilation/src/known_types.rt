@@ -1,6 +1,6 @@
 //! The types that exist already.
 use crate::job::{ExternModule, Job};
-use asn1_print::{Extern, rust_name};
+use asn1_print::{Extern, known_words, rust_name};
 use asn1_resolved::Schema;
 use asn1_rust_names::TakenNames;
 use std::alloc::{AllocError, Global};
@@ -78,11 +78,12 @@ fn push_types(
     known: ExternModule<'_>,
     schema: &Schema<'_>,
 ) -> Result<(), AllocError> {
+    let words = known_words(alloc, schema, Some(known.name))?;
     let mut names = TakenNames::new(alloc);
     for defined in schema.types.iter().take(schema.defined) {
         let (module, name) = (defined.module, defined.name);
         if module == known.name && !externs.iter().any(|named| named.is_for(module, name)) {
-            let wanted = rust_name(alloc, name)?;
+            let wanted = rust_name(alloc, &words, name)?;
             let taken = names.take(wanted.as_str())?;
             let module = Some(Vec::from_slice(alloc, module)?);
             types.push(known_type(alloc, module, name, known.path, taken.as_str())?)?;

@@ -299,6 +299,9 @@ impl<'a> Cursor<'a> {
         }
         let module = self.type_name(expected)?;
         self.expect_symbol(b".", Expected::Dot)?;
+        if self.sees_symbol(b"&") {
+            return Err(self.not_taken(Construct::SetField));
+        }
         let name = self.identifier(Expected::ValueName)?;
         Ok(Reference {
             module: Some(module),

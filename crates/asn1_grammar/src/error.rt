@@ -213,6 +213,8 @@ pub enum Construct {
     Class,
     /// A parameterized value.
     ParameterizedValue,
+    /// A field of an object set where a value is.
+    SetField,
 }
 
 impl Construct {
@@ -225,6 +227,7 @@ impl Construct {
             Construct::Time => "TIME",
             Construct::Class => "an information object class as a type",
             Construct::ParameterizedValue => "a parameterized value",
+            Construct::SetField => "a field of an object set as a value",
         }
     }
 }

@@ -9,7 +9,7 @@ use crate::grammar::Grammar;
 use crate::plain_constraints::begins_type;
 use crate::plain_types::any;
 use crate::values::parse_value;
-use asn1_notation::{Argument, Constraint, Type, TypeKind};
+use asn1_notation::{Argument, Constraint, Reference, Type, TypeKind};
 use asn1_tokens::TokenKind;
 
 /// Whether a type is next that begins with the name of a type or a class.
@@ -21,6 +21,21 @@ pub(crate) fn sees_named_type(cursor: &Cursor<'_>) -> bool {
 pub(crate) fn sees_selection(cursor: &Cursor<'_>) -> bool {
     cursor.sees_kind_after(0, TokenKind::Identifier)
         && cursor.sees_after(1, TokenKind::Symbol, b"<")
+}
+
+/// Whether the type in a field of an object is next, `object.&Type`.
+pub(crate) fn sees_type_of_object(cursor: &Cursor<'_>) -> bool {
+    cursor.sees_kind_after(0, TokenKind::Identifier)
+        && cursor.sees_after(1, TokenKind::Symbol, b".")
+        && cursor.sees_after(2, TokenKind::Symbol, b"&")
+}
+
+/// Reads the type in a field of an object (X.681, 15).
+pub(crate) fn type_of_object(cursor: &mut Cursor<'_>) -> Result<TypeKind, Fault> {
+    let name = cursor.identifier(Expected::ObjectName)?;
+    cursor.skip();
+    let names = field_names(cursor)?;
+    Ok(TypeKind::Field(Reference { module: None, name }, names))
 }
 
 impl<

@@ -3,14 +3,17 @@ use crate::associated::associated_type;
 use crate::components::skip_exception;
 use crate::cursor::Cursor;
 use crate::error::{Expected, Fault, Owner};
-use crate::named_types::sees_selection;
+use crate::named_types::{sees_selection, sees_type_of_object};
 use crate::words::{contents_kind, not_taken, string_kind};
 use asn1_notation::{EnumerationItem, NamedNumber, Span, Tag, TagClass, TagMode, TypeKind};
 use asn1_tokens::TokenKind;
 
 /// Reads the name of elements, if there is one.
 pub(crate) fn optional_identifier(cursor: &mut Cursor<'_>) -> Result<Option<Span>, Fault> {
-    if !cursor.sees_kind_after(0, TokenKind::Identifier) || sees_selection(cursor) {
+    if !cursor.sees_kind_after(0, TokenKind::Identifier)
+        || sees_selection(cursor)
+        || sees_type_of_object(cursor)
+    {
         return Ok(None);
     }
     let name = cursor.identifier(Expected::ElementName)?;

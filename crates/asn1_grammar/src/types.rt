@@ -4,7 +4,7 @@ ghost use Rattle.asn1_grammar.specs.Nests.{Nests};
 use crate::cursor::Cursor;
 use crate::error::{Expected, Fault};
 use crate::grammar::Grammar;
-use crate::named_types::{sees_named_type, sees_selection};
+use crate::named_types::{sees_named_type, sees_selection, sees_type_of_object, type_of_object};
 use crate::plain_types::{optional_identifier, plain_type, tag};
 use asn1_notation::{Constraint, Type, TypeKind};
 use asn1_tokens::TokenKind;
@@ -34,6 +34,8 @@ impl<
             self.named_type(cursor)?
         } else if sees_selection(cursor) {
             self.selection(cursor)?
+        } else if sees_type_of_object(cursor) {
+            type_of_object(cursor)?
         } else {
             plain_type(cursor)?
         };

@@ -1,8 +1,9 @@
 //! Values.
+use crate::classes::field_names;
 use crate::cursor::{Cursor, span_of};
 use crate::error::{Cause, Construct, Expected, Fault};
 use crate::words::is_plain_type;
-use asn1_notation::{ListItem, Value, ValueKind};
+use asn1_notation::{ListItem, Reference, Value, ValueKind};
 use asn1_tokens::TokenKind;
 
 /// Reads a value, with at most so many braces and colons inside it.
@@ -139,7 +140,7 @@ fn plain_value(cursor: &mut Cursor<'_>) -> Result<ValueKind, Fault> {
         TokenKind::ReservedWord => word_value(cursor),
         TokenKind::Identifier | TokenKind::TypeReference => {
             let reference = cursor.value_reference(Expected::Value)?;
-            Ok(ValueKind::Reference(reference))
+            named_value(cursor, reference)
         }
         TokenKind::Number | TokenKind::Symbol if sees_fraction(cursor) => {
             Err(cursor.not_taken(Construct::RealValue))
@@ -152,6 +153,16 @@ fn plain_value(cursor: &mut Cursor<'_>) -> Result<ValueKind, Fault> {
         TokenKind::HexString => Ok(text_value(cursor, ValueKind::Hex(span_of(token)))),
         TokenKind::CharacterString => Ok(text_value(cursor, ValueKind::Text(span_of(token)))),
     }
+}
+
+// Reads what is behind the name of a value: nothing, or the field of the object of this name (X.681, 15).
+fn named_value(cursor: &mut Cursor<'_>, reference: Reference) -> Result<ValueKind, Fault> {
+    if !cursor.sees_symbol(b".") || !cursor.sees_after(1, TokenKind::Symbol, b"&") {
+        return Ok(ValueKind::Reference(reference));
+    }
+    cursor.skip();
+    let names = field_names(cursor)?;
+    Ok(ValueKind::Field(reference, names))
 }
 
 // Reads a token that is the value.

@@ -37,6 +37,7 @@ mod identifiers;
 mod messages;
 mod modules;
 mod references;
+mod similar;
 mod source;
 mod types;
 mod values;

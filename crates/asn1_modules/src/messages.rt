@@ -1,5 +1,6 @@
 //! Messages about names.
 use crate::built_in::nearest_built_in;
+use crate::similar::similar_names;
 use asn1_names::{
     DefinedName, DoubledName, ImportedName, NameIndex, NameProblem, Names, UsedName, nearest_name,
 };
@@ -111,7 +112,8 @@ impl<'n, 'a> NameMessages<'n, 'a> {
             return Ok(());
         };
         self.suggestions_left = left;
-        match nearest_name(self.alloc, &self.names.defined, name)? {
+        let similar = similar_names(self.alloc, &self.names.defined, name)?;
+        match nearest_name(self.alloc, &similar, name)? {
             Some(nearest) if nearest.name == name => {
                 out.extend_from_slice(b"; it can be imported from module ")?;
                 append_name(out, nearest.module)

@@ -11,6 +11,7 @@ pub(crate) fn collect_value(
 ) -> Result<(), AllocError> {
     match &value.kind {
         ValueKind::Reference(reference) => collector.refer_or_name_item(reference),
+        ValueKind::Field(object, _) => collector.refer(object),
         ValueKind::Arc(_, number) => collector.refer_to_number(number),
         ValueKind::Alternative(name, value) => {
             collector.refer_to_open_type(*name)?;

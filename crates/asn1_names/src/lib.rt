@@ -10,7 +10,7 @@
 //! | [`find_undefined`] | the references that are to no definition |
 //! | [`check_names`], [`NameProblem`] | all of these |
 //! | [`NameIndex`] | the position of the first definition of each name |
-//! | [`nearest_name`] | the defined name that is most like another |
+//! | [`nearest_name`], [`most_edits`] | the defined name that is most like another; how many letters of it may differ |
 //!
 //! The contracts promise:
 //!
@@ -39,6 +39,6 @@ pub use doubled::{DoubledName, find_doubled};
 pub use imports::find_unknown_imports;
 pub use index::NameIndex;
 pub use names::{DefinedName, ImportedName, Names, Place, UsedName};
-pub use nearest::nearest_name;
+pub use nearest::{most_edits, nearest_name};
 pub use problems::{NameProblem, check_names};
 pub use undefined::find_undefined;

@@ -7,8 +7,8 @@ use crate::names::DefinedName;
 use std::alloc::{AllocError, Global};
 use strsim::generic_levenshtein;
 
-// How many letters of a name may differ from those of the name that is suggested: a third, and at least one.
-fn most_edits(name: &[u8]) -> usize
+/// How many letters of a name may differ from those of the name that is suggested: a third, and at least one.
+pub fn most_edits(name: &[u8]) -> usize
     ensures { result ≡ spec.most_edits name.now }
 {
     if name.len() < 6 { 1 } else { name.len() / 3 }

@@ -29,6 +29,8 @@ pub enum ValueKind {
     Text(Span),
     /// A name: of a value, an item of an ENUMERATED, or a named number.
     Reference(Reference),
+    /// A field of an information object, `object.&field`, by the names that lead to it.
+    Field(Reference, Vec<Span>),
     /// `name(number)`, an arc of an object identifier.
     Arc(Span, NumberName),
     /// An alternative of a CHOICE, `name : value`.

@@ -1,4 +1,5 @@
 //! Values.
+use crate::classes::print_field_names;
 use crate::numbers::{print_named_number, print_number, print_reference};
 use crate::printer::Printer;
 use asn1_notation::{ListItem, Value, ValueKind};
@@ -44,6 +45,11 @@ fn print_plain_value(printer: &mut Printer<'_>, value: &ValueKind) -> Result<(),
         ValueKind::Hex(text) => printer.push_span(*text),
         ValueKind::Text(text) => printer.push_span(*text),
         ValueKind::Reference(reference) => print_reference(printer, reference),
+        ValueKind::Field(object, names) => {
+            print_reference(printer, object)?;
+            printer.push(b".")?;
+            print_field_names(printer, names.as_slice())
+        }
         ValueKind::Arc(name, number) => print_named_number(printer, name, number),
         _ => Ok(()),
     }

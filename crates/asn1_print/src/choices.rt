@@ -9,8 +9,8 @@ use asn1_names::Place;
 use asn1_resolved::{Alternative, Alternatives, Type, TypeKind};
 use asn1_rust_code::{Tagging, TypeName};
 use asn1_rust_components::ChoiceType;
-use asn1_rust_names::{TakenNames, camel_case};
-use std::alloc::{AllocError, Global};
+use asn1_rust_names::TakenNames;
+use std::alloc::AllocError;
 
 /// A CHOICE of alternatives that were lowered.
 pub(crate) fn choice_with(
@@ -54,7 +54,7 @@ pub(crate) fn alternative_with(
     let held = held_by(plan.alloc, &definition)?;
     Ok(asn1_rust_components::Alternative {
         name: plan.text(texts.name.as_str())?,
-        variant: new_variant(plan.alloc, alternative.name, variants)?,
+        variant: new_variant(plan, alternative.name, variants)?,
         notation: quoted_part(plan.alloc, texts.notation.as_str())?,
         definition,
         tagging,
@@ -88,11 +88,11 @@ fn is_null_below_tags(definition: &Type<'_>) -> bool {
 
 /// A name that no other has for the variant of this name in ASN.1.
 pub(crate) fn new_variant(
-    alloc: Global,
+    plan: &Plan<'_, '_>,
     name: &[u8],
     variants: &mut TakenNames,
 ) -> Result<String, AllocError> {
-    let camel = camel_case(alloc, name)?;
+    let camel = plan.camel(name)?;
     variants.take(variant_name(camel.as_str()))
 }
 

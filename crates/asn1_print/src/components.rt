@@ -125,7 +125,7 @@ pub(crate) fn component_with(
     let held = held_by(plan.alloc, &definition)?;
     Ok(asn1_rust_components::Component {
         name: plan.text(texts.name.as_str())?,
-        field: field_name(plan.alloc, component, fields)?,
+        field: field_name(plan, component, fields)?,
         notation: quoted_part(plan.alloc, texts.notation.as_str())?,
         definition,
         tagging,
@@ -137,11 +137,12 @@ pub(crate) fn component_with(
 
 // The name of the field of a component.
 fn field_name(
-    alloc: Global,
+    plan: &Plan<'_, '_>,
     component: &Component<'_>,
     fields: &mut TakenNames,
 ) -> Result<String, AllocError> {
-    let snake = snake_case(alloc, component.name)?;
+    let name = plan.words.separated(component.name)?;
+    let snake = snake_case(plan.alloc, name.as_slice())?;
     fields.take(snake.as_str())
 }
 

@@ -46,7 +46,7 @@ fn item_of(
 ) -> Result<Item, AllocError> {
     Ok(Item {
         name: text_of(plan.alloc, item.name)?,
-        variant: new_variant(plan.alloc, item.name, variants)?,
+        variant: new_variant(plan, item.name, variants)?,
         number: item.number,
     })
 }
@@ -59,7 +59,7 @@ pub(crate) fn variant_of(
 ) -> Result<Option<String>, AllocError> {
     let mut variants = TakenNames::new(plan.alloc);
     for item in &enumeration.root {
-        let variant = new_variant(plan.alloc, item.name, &mut variants)?;
+        let variant = new_variant(plan, item.name, &mut variants)?;
         if item.name == name {
             return Ok(Some(variant));
         }

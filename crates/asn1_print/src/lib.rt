@@ -12,7 +12,7 @@
 //! | [`list_types`], [`ListedType`] | the names of its types |
 //! | [`Request`], [`Extern`] | a schema with its texts, and the types that exist already |
 //! | [`Printed`], [`PrintedFile`] | the files, and what cannot be printed |
-//! | [`rust_name`] | the name of a type |
+//! | [`rust_name`], [`known_words`] | the name of a type; the words of capitals that it may be made of |
 //!
 //! What cannot be printed is an error with its place, and what is not carried, as the size of a SEQUENCE OF, is a warning. No contract
 //! covers the text: the check of the printed crate proves it. The call fails only if memory runs out, and ends for each schema.
@@ -26,6 +26,7 @@ mod components;
 mod defaults;
 mod enumerations;
 mod integers;
+mod known_words;
 mod lowering;
 mod notation;
 mod parameters;
@@ -42,6 +43,7 @@ mod types;
 mod values;
 mod written;
 
+pub use known_words::known_words;
 pub use plan::rust_name;
 pub use printing::print_crate;
 pub use program::{ListedType, list_types, print_program};

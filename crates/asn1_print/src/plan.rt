@@ -1,5 +1,6 @@
 //! The names of the definitions of a schema, and the files as far as they were made.
 use crate::circles::{CurrentCircle, GenericType, PlannedCircle, plan_circles};
+use crate::known_words::known_words;
 use crate::recursion::list_references;
 use crate::request::{Extern, PrintedFile, Request};
 use crate::strings::is_restricted_string;
@@ -8,7 +9,7 @@ use asn1_names::Place;
 use asn1_resolved::{Problem, Severity, Type, TypeDefinition, TypeKind};
 use asn1_rust_code::{Import, TagNumber, TypeName, class_word, order_of};
 use asn1_rust_components::{Alias, Constant, Marker, TypeFile};
-use asn1_rust_names::{TakenNames, camel_case, snake_case};
+use asn1_rust_names::{KnownWords, TakenNames, camel_case, snake_case};
 use asn1_rust_types::ModuleNames;
 use std::alloc::{AllocError, Global};
 use std::collections::HashMap;
@@ -118,16 +119,23 @@ const RESERVED: &[&str] = &[
     "WritesOpen",
 ];
 
-/// The modules that a crate has beside those of types, and the libraries of each crate.
+/// The modules that a crate has beside those of types, the libraries of each crate, and those of which a definition of a circle
+/// would be a word that its definitions bring in, as `list_meaning`.
 const MODULES: &[&str] = &[
     "aliases",
+    "all",
     "asn1_circles",
     "asn1_contents",
     "asn1_schema",
     "asn1_tables",
     "asn1_tags",
+    "chosen",
+    "each",
     "lib",
+    "list",
     "main",
+    "sequence_knot",
+    "set",
     "tags",
     "tests",
     "constants",
@@ -164,6 +172,8 @@ pub(crate) struct Plan<'r, 'a> {
     // By the texts and the offsets at which they begin.
     unnamed_types: HashMap<(usize, usize), UnnamedType>,
     templates: Templates,
+    /// The words of capitals that the modules have by themselves.
+    pub(crate) words: KnownWords,
     taken_names: TakenNames,
     taken_modules: TakenNames,
     pub(crate) files: Vec<PrintedFile>,
@@ -216,9 +226,10 @@ fn library_of(path: &str) -> &str {
     }
 }
 
-/// The name in Rust of a type with this name in ASN.1, unless another type has it.
-pub fn rust_name(alloc: Global, name: &[u8]) -> Result<String, AllocError> {
-    let camel = camel_case(alloc, name)?;
+/// The name in Rust of a type with this name in ASN.1, unless another type has it. The words are those that its modules have.
+pub fn rust_name(alloc: Global, words: &KnownWords, name: &[u8]) -> Result<String, AllocError> {
+    let name = words.separated(name)?;
+    let camel = camel_case(alloc, name.as_slice())?;
     unreserved(alloc, camel.as_str())
 }
 
@@ -260,7 +271,8 @@ pub(crate) fn plan_of<'r, 'a>(
     request: Request<'r, 'a>,
 ) -> Result<Plan<'r, 'a>, AllocError> {
     let templates = Templates::of(alloc, request.sources)?;
-    let mut plan = empty_plan(alloc, request, templates);
+    let words = known_words(alloc, request.schema, None)?;
+    let mut plan = empty_plan(alloc, request, templates, words);
     plan.reserve_names()?;
     plan.name_types()?;
     plan.references = list_references(&plan)?;
@@ -274,6 +286,7 @@ fn empty_plan<'r, 'a>(
     alloc: Global,
     request: Request<'r, 'a>,
     templates: Templates,
+    words: KnownWords,
 ) -> Plan<'r, 'a> {
     Plan {
         alloc,
@@ -282,6 +295,7 @@ fn empty_plan<'r, 'a>(
         explicit_tags: Vec::new(alloc),
         unnamed_types: HashMap::new(alloc),
         templates,
+        words,
         taken_names: TakenNames::new(alloc),
         taken_modules: TakenNames::new(alloc),
         files: Vec::new(alloc),
@@ -342,9 +356,9 @@ impl Plan<'_, '_> {
 
     // The names of a definition whose type does not exist already.
     fn planned_here(&mut self, definition: &TypeDefinition<'_>) -> Result<PlannedType, AllocError> {
-        let mut camel = camel_case(self.alloc, definition.name)?;
+        let mut camel = self.camel(definition.name)?;
         for argument in &definition.arguments {
-            let word = camel_case(self.alloc, argument)?;
+            let word = self.camel(argument)?;
             camel.push_str(word.as_str())?;
         }
         let name = self.new_name(camel.as_str())?;
@@ -464,6 +478,12 @@ impl Plan<'_, '_> {
     /// A text of its own.
     pub(crate) fn text(&self, text: &str) -> Result<String, AllocError> {
         String::from_str(self.alloc, text)
+    }
+
+    /// A name of ASN.1 as types and variants have it.
+    pub(crate) fn camel(&self, name: &[u8]) -> Result<String, AllocError> {
+        let separated = self.words.separated(name)?;
+        camel_case(self.alloc, separated.as_slice())
     }
 
     /// A name for a type that no other has.

@@ -12,7 +12,7 @@ use asn1_names::Place;
 use asn1_resolved::{Range, Type, TypeKind, Value};
 use asn1_resolved_tables::{Row, Table};
 use asn1_rust_code::TypeName;
-use asn1_rust_names::{TakenNames, camel_case, snake_case};
+use asn1_rust_names::{TakenNames, snake_case};
 use asn1_rust_tables::{KeyKind, OpenRow, OpenTable, RowKey, table_file};
 use std::alloc::AllocError;
 
@@ -83,7 +83,7 @@ fn add_table(plan: &mut Plan<'_, '_>, table: &Table<'_>) -> Result<(), AllocErro
         crate_name: plan.text(plan.request.crate_name)?,
         module: plan.text(module.as_str())?,
         summary,
-        key_field: text_of(plan.alloc, table.key)?,
+        key_field: key_field(plan, table)?,
         key_name: key_name(plan, table)?,
         key,
         rows,
@@ -104,12 +104,33 @@ fn page_of(plan: &Plan<'_, '_>, summary: &str) -> Result<Vec<String>, AllocError
     Ok(lines)
 }
 
-// The name of the enum: that of the set; and of the column, where its class has several.
+// The name of the enum: that of the set; of the column, where its class has several; of the key, where another is UNIQUE; and of the
+// alternative, where the key is a CHOICE.
 fn enum_name(plan: &Plan<'_, '_>, table: &Table<'_>) -> Result<String, AllocError> {
-    let mut name = camel_case(plan.alloc, table.name)?;
+    let mut name = plan.camel(table.name)?;
     if table.is_one_of_many {
-        let column = camel_case(plan.alloc, table.column)?;
+        let column = plan.camel(table.column)?;
         name.push_str(column.as_str())?;
+    }
+    if table.is_by_other_key {
+        let key = plan.camel(table.key)?;
+        name.push_str("By")?;
+        name.push_str(key.as_str())?;
+    }
+    if let Some(alternative) = table.alternative {
+        let alternative = plan.camel(alternative)?;
+        name.push_str(alternative.as_str())?;
+    }
+    Ok(name)
+}
+
+// The name of the field that is the key, with the alternative of its value behind a colon.
+fn key_field(plan: &Plan<'_, '_>, table: &Table<'_>) -> Result<String, AllocError> {
+    let mut name = text_of(plan.alloc, table.key)?;
+    if let Some(alternative) = table.alternative {
+        let alternative = text_of(plan.alloc, alternative)?;
+        name.push_str(": ")?;
+        name.push_str(alternative.as_str())?;
     }
     Ok(name)
 }
@@ -120,7 +141,10 @@ fn key_name(plan: &Plan<'_, '_>, table: &Table<'_>) -> Result<String, AllocError
     for name in CALL_NAMES {
         let _taken = names.take(name)?;
     }
-    let name = snake_case(plan.alloc, table.key)?;
+    let name = plan
+        .words
+        .separated(table.alternative.unwrap_or(table.key))?;
+    let name = snake_case(plan.alloc, name.as_slice())?;
     names.take(name.as_str())
 }
 
@@ -201,7 +225,7 @@ fn rows_of(
     for (index, row) in table.rows.iter().enumerate() {
         if let Some(key) = row_key(plan, &row.key)? {
             let wanted = row_name(plan, row, index)?;
-            let wanted = new_variant(plan.alloc, wanted.as_bytes(), &mut names)?;
+            let wanted = new_variant(plan, wanted.as_bytes(), &mut names)?;
             let written = written(plan, row.place)?;
             let texts = part_texts(plan, name, wanted.as_str(), written.as_str())?;
             if let Some(definition) = cell_name(plan, &row.cell, texts.owner())? {
@@ -248,7 +272,7 @@ fn row_key(plan: &Plan<'_, '_>, key: &Value<'_>) -> Result<Option<RowKey>, Alloc
 // The name of a variant: that of the object or of its key, without `id-`, or else its number.
 fn row_name(plan: &Plan<'_, '_>, row: &Row<'_>, index: usize) -> Result<String, AllocError> {
     match row.name {
-        Some(name) => camel_case(plan.alloc, name.strip_prefix(b"id-").unwrap_or(name)),
+        Some(name) => plan.camel(name.strip_prefix(b"id-").unwrap_or(name)),
         None => {
             let number = index.saturating_add(1);
             format!(in plan.alloc; "Object{number}")

@@ -6,7 +6,6 @@ use asn1_names::Place;
 use asn1_notation::{ContentsKind, StringKind};
 use asn1_resolved::{Constraint, ConstraintKind, Tag, Type, TypeKind};
 use asn1_rust_code::{TagNumber, Tagging, TypeName};
-use asn1_rust_names::camel_case;
 use std::alloc::{AllocError, Global};
 
 /// Where a type is used: what a type without a name is called there.
@@ -55,7 +54,7 @@ pub(crate) fn part_texts(
     notation: &str,
 ) -> Result<PartTexts, AllocError> {
     let alloc = plan.alloc;
-    let camel = camel_case(alloc, part.as_bytes())?;
+    let camel = plan.camel(part.as_bytes())?;
     let camel = camel.as_str();
     Ok(PartTexts {
         name: plan.text(part)?,

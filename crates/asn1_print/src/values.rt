@@ -36,7 +36,7 @@ pub(crate) fn add_value(
         return plan.warn(definition.place, "this value has no constant in Rust");
     };
     let constant = Constant {
-        name: constant_name(plan.alloc, definition.name, names)?,
+        name: constant_name(plan, definition.name, names)?,
         notation: quoted_origin(plan, definition.origin)?,
         definition: kind,
         value,
@@ -68,8 +68,13 @@ fn constant_value(
 }
 
 // A name that no other constant has.
-fn constant_name(alloc: Global, name: &[u8], names: &mut TakenNames) -> Result<String, AllocError> {
-    let upper = upper_case(alloc, name)?;
+fn constant_name(
+    plan: &Plan<'_, '_>,
+    name: &[u8],
+    names: &mut TakenNames,
+) -> Result<String, AllocError> {
+    let name = plan.words.separated(name)?;
+    let upper = upper_case(plan.alloc, name.as_slice())?;
     names.take(upper.as_str())
 }
 
@@ -103,7 +108,7 @@ pub(crate) fn numbers_of(
     let mut names = TakenNames::new(alloc);
     let mut constants = Vec::new(alloc);
     for number in numbers {
-        let constant = number_constant(alloc, number, kind, &mut names)?;
+        let constant = number_constant(plan, number, kind, &mut names)?;
         constants.push(constant)?;
     }
     let wanted = format!(in alloc; "{name}Names")?;
@@ -115,14 +120,15 @@ pub(crate) fn numbers_of(
 
 // The constant of this kind for a named number or a named bit.
 fn number_constant(
-    alloc: Global,
+    plan: &Plan<'_, '_>,
     number: &NamedNumber<'_>,
     kind: &'static str,
     names: &mut TakenNames,
 ) -> Result<Constant, AllocError> {
+    let alloc = plan.alloc;
     let value = number.number;
     Ok(Constant {
-        name: constant_name(alloc, number.name, names)?,
+        name: constant_name(plan, number.name, names)?,
         notation: number_text(alloc, number)?,
         definition: kind,
         value: ConstantValue::Literal(format!(in alloc; "{value}")?),

@@ -19,7 +19,11 @@ pub struct Table<'a> {
     pub is_one_of_many: bool,
     /// The name of the field that tells the row.
     pub key: &'a [u8],
-    /// The type of that field.
+    /// Whether the class has another field that is UNIQUE, which this one is not.
+    pub is_by_other_key: bool,
+    /// The alternative whose values the keys are, if that field is a CHOICE. The set has a table for each such alternative.
+    pub alternative: Option<&'a [u8]>,
+    /// The type of that field, or of the alternative.
     pub key_type: Type<'a>,
     /// The rows, in the order of the text. No two have the same key.
     pub rows: Vec<Row<'a>>,
@@ -32,7 +36,7 @@ pub struct Row<'a> {
     pub name: Option<&'a [u8]>,
     /// The object, from brace to brace.
     pub place: Place,
-    /// The key.
+    /// The key, which is the value of the alternative, if the table is for one.
     pub key: Value<'a>,
     /// The type.
     pub cell: Type<'a>,

@@ -141,7 +141,7 @@ impl<'r, 'a> Resolver<'r, 'a> {
         )?;
         for argument in named.arguments {
             if let Argument::Braced(span) = argument {
-                self.keep_set(named.scope, *span)?;
+                self.keep_set(named.scope, *span, None)?;
             }
         }
         Ok(())
@@ -211,7 +211,7 @@ impl<'r, 'a> Resolver<'r, 'a> {
     ) -> Result<(), Fault> {
         let Some(wanted) = wanted_of(template.scope, parameter, argument) else {
             if let Argument::Braced(span) = argument {
-                self.keep_set(named.scope, *span)?;
+                self.keep_set(named.scope, *span, None)?;
             }
             return Ok(());
         };
@@ -373,10 +373,25 @@ impl<'r, 'a> Resolver<'r, 'a> {
                     key.push(b'V')?;
                     self.push_number(key, index)
                 }
-                None => self.push_place(key, scope, written.value.start),
+                None => {
+                    let (source, start) = self.place_of_object(scope, reference, written);
+                    self.push_object(key, source, start)
+                }
             },
             _ => self.push_place(key, scope, written.value.start),
         }
+    }
+
+    // Appends the place of the definition of an object.
+    fn push_object(
+        &mut self,
+        key: &mut Vec<u8>,
+        source: usize,
+        start: usize,
+    ) -> Result<(), AllocError> {
+        key.push(b'O')?;
+        self.push_number(key, source)?;
+        self.push_number(key, start)
     }
 
     /// The type behind parameters that are arguments of others.

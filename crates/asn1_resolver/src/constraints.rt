@@ -49,8 +49,10 @@ impl<'r, 'a> Resolver<'r, 'a> {
             asn1_notation::ConstraintKind::Extensible(root, _) => {
                 self.add_constraint(constraints, bounded.with_marker(), root)
             }
-            asn1_notation::ConstraintKind::Table(set, _) => {
-                self.keep_set(bounded.of.scope, *set)
+            asn1_notation::ConstraintKind::Table(set, paths) => {
+                let scope = bounded.of.scope;
+                let key = self.key_of_relation(scope, paths.as_slice())?;
+                self.keep_set(scope, *set, key)
             }
             _ => {
                 let resolved = self.constraint(bounded, constraint)?;

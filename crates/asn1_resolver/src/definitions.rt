@@ -170,12 +170,16 @@ fn define<'a>(
 ) -> Defined<'a>
     ensures { result.place ≡ place_in scope.entry.source assignment.now.name }
 {
+    let parameters = assignment.parameters.as_slice();
     Defined {
-        scope,
+        scope: Scope {
+            parameters,
+            ..scope
+        },
         name: scope.octets(assignment.name),
         place: scope.place(assignment.name),
         origin,
         definition,
-        parameters: assignment.parameters.as_slice(),
+        parameters,
     }
 }

@@ -38,13 +38,16 @@ enum Fields<'r, 'a> {
 }
 
 impl<'r, 'a> Resolver<'r, 'a> {
-    /// The type of the field to which names lead from a class.
+    /// The type of the field to which names lead from a class, or the type in a field of an object.
     pub(crate) fn field_type(
         &mut self,
         scope: Scope<'a>,
         class: &Reference,
         names: &[Span],
     ) -> Result<FieldType<'r, 'a>, Fault> {
+        if matches!(scope.octets(class.name), [b'a'..=b'z', ..]) {
+            return self.type_of_object(scope, class, names);
+        }
         let mut class_scope = scope;
         let mut class = *class;
         for name in names {

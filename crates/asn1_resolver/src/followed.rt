@@ -27,8 +27,15 @@ impl<'r, 'a> Resolver<'r, 'a> {
         let mut governing = base;
         let mut current = written;
         for _ in 0..MAX_DEPTH {
-            let ValueKind::Reference(reference) = &current.value.kind else {
-                return Ok(Followed::Literal(governing, current));
+            let reference = match &current.value.kind {
+                ValueKind::Reference(reference) => reference,
+                ValueKind::Field(object, names) => {
+                    let (governed, next) = self.field_value(current.scope, object, names)?;
+                    governing = self.base(governed)?;
+                    current = next;
+                    continue;
+                }
+                _ => return Ok(Followed::Literal(governing, current)),
             };
             let (governed, next) = match item_of(governing, current.scope, *reference) {
                 Some(Item::Name(name)) => return Ok(Followed::Item(name)),
@@ -57,13 +64,22 @@ impl<'r, 'a> Resolver<'r, 'a> {
             NumberName::Reference(reference) => reference,
         };
         let (governed, written) = self.find_value(scope, &reference)?;
+        self.followed_number(governed, written, scope, reference.name)
+    }
+
+    /// The whole number that a value is, behind this name.
+    pub(crate) fn followed_number(
+        &mut self,
+        governed: Governed<'r, 'a>,
+        written: Written<'r, 'a>,
+        scope: Scope<'a>,
+        name: Span,
+    ) -> Result<i128, Fault> {
         let base = self.base(governed)?;
         match self.follow(base, written)? {
-            Followed::Literal(base, literal) => {
-                self.literal_number(base, literal, scope, reference.name)
-            }
+            Followed::Literal(base, literal) => self.literal_number(base, literal, scope, name),
             Followed::Number(scope, number) => self.number(scope, &number),
-            Followed::Item(_) => Err(self.refuse_no_number(scope, reference.name)),
+            Followed::Item(_) => Err(self.refuse_no_number(scope, name)),
         }
     }
 

@@ -4,7 +4,7 @@ ghost use Rattle.asn1_modules.specs.Places.{place_in};
 
 use asn1_modules::used_name;
 use asn1_names::{Place, UsedName};
-use asn1_notation::{Module, Reference, Span, Type, Value};
+use asn1_notation::{Module, Parameter, Reference, Span, Type, Value};
 
 /// A module of a text.
 #[derive(Clone, Copy)]
@@ -19,6 +19,8 @@ pub(crate) struct Scope<'a> {
     pub(crate) module: &'a Module,
     /// The index of the instance that gives the parameters of a template their arguments.
     pub(crate) instance: Option<usize>,
+    /// The parameters of the definition.
+    pub(crate) parameters: &'a [Parameter],
 }
 
 impl<'a> Scope<'a> {
@@ -33,6 +35,7 @@ impl<'a> Scope<'a> {
             name: module.name.octets(text),
             module,
             instance: None,
+            parameters: &[],
         }
     }
 
@@ -47,6 +50,20 @@ impl<'a> Scope<'a> {
             instance: Some(instance),
             ..self
         }
+    }
+
+    /// The parameter of this name.
+    pub(crate) fn parameter(self, reference: &Reference) -> Option<&'a Parameter> {
+        if reference.module.is_some() {
+            return None;
+        }
+        let name = self.octets(reference.name);
+        for parameter in self.parameters {
+            if self.octets(parameter.name) == name {
+                return Some(parameter);
+            }
+        }
+        None
     }
 
     /// The octets of a name.

@@ -1,6 +1,7 @@
 //! Ranges of whole numbers.
 use crate::fault::Fault;
 use crate::governed::{Governed, Scope, Written};
+use crate::object_fields::span_of_field;
 use crate::resolver::Resolver;
 use asn1_notation::{Constraint, ConstraintKind, EndPoint, EndValue, NumberName, ValueKind};
 use asn1_resolved::{Range, Value};
@@ -14,6 +15,9 @@ impl<'r, 'a> Resolver<'r, 'a> {
         constraint: &'r Constraint,
     ) -> Result<Option<Range>, Fault> {
         match &constraint.kind {
+            ConstraintKind::Value(value) if self.is_open_field(scope, value) => Ok(None),
+            ConstraintKind::Range(lower, upper)
+                if self.is_open_end(scope, lower) || self.is_open_end(scope, upper) => { Ok(None) }
             ConstraintKind::Value(value) => {
                 let number = self.bound(base, Written { scope, value })?;
                 Ok(Some(Range {
@@ -58,6 +62,14 @@ impl<'r, 'a> Resolver<'r, 'a> {
         }
     }
 
+    // Whether an end of a range is a field that only an argument tells.
+    fn is_open_end(&self, scope: Scope<'a>, end: &EndPoint) -> bool {
+        match &end.value {
+            EndValue::Value(value) => self.is_open_field(scope, value),
+            _ => false,
+        }
+    }
+
     // The number at an end of a range. One that is left out is a step away from the end.
     fn end_point(
         &mut self,
@@ -96,6 +108,12 @@ impl<'r, 'a> Resolver<'r, 'a> {
                     written.scope,
                     NumberName::Reference(*reference),
                 ),
+                ValueKind::Field(object, names) => {
+                    let scope = written.scope;
+                    let name = span_of_field(object, names.as_slice());
+                    let (governed, written) = self.field_value(scope, object, names.as_slice())?;
+                    self.followed_number(governed, written, scope, name)
+                }
                 _ => Err(self.refuse_bound(written)),
             },
         }

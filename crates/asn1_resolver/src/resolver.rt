@@ -4,6 +4,7 @@ use crate::definitions::Definitions;
 use crate::fault::Fault;
 use crate::finder::Finder;
 use crate::instances::Instances;
+use crate::relations::Enclosing;
 use crate::tables::UsedSet;
 use asn1_modules::NameMessages;
 use asn1_names::{Names, Place};
@@ -33,8 +34,10 @@ pub(crate) struct Resolver<'r, 'a> {
     pub(crate) objects: &'r Objects<'a>,
     /// The object sets that types name, as they were met.
     pub(crate) used_sets: Vec<UsedSet<'a>>,
-    /// Those of which it is known that they are used, with their modules.
-    pub(crate) known_sets: HashSet<(&'a [u8], &'a [u8])>,
+    /// Those of which it is known that they are used, with their modules and the fields that tell their rows.
+    pub(crate) known_sets: HashSet<(&'a [u8], &'a [u8], &'a [u8])>,
+    /// The SEQUENCEs and SETs that are resolved, the innermost last.
+    pub(crate) enclosing: Vec<Enclosing<'r, 'a>>,
     /// Whether errors are warnings: no type needs the object that is read.
     pub(crate) is_lenient: bool,
     /// The type behind the references and tags of each definition of a type, as far as they were followed.
@@ -73,6 +76,7 @@ impl<'r, 'a> Resolver<'r, 'a> {
             objects,
             used_sets: Vec::new(alloc),
             known_sets: HashSet::new(alloc),
+            enclosing: Vec::new(alloc),
             is_lenient: false,
             bases,
             messages: NameMessages::new(alloc, names)?,

@@ -10,19 +10,27 @@ use std::alloc::AllocError;
 use std::collections::HashSet;
 
 impl<'r, 'a> Resolver<'r, 'a> {
-    /// Keeps that a type names an object set, from brace to brace. The name of a parameter is no such set.
-    pub(crate) fn keep_set(&mut self, scope: Scope<'a>, set: Span) -> Result<(), Fault> {
+    /// Keeps that a type names an object set, from brace to brace, and the field of its class that tells the row, if a component is
+    /// named. The name of a parameter is no such set.
+    pub(crate) fn keep_set(
+        &mut self,
+        scope: Scope<'a>,
+        set: Span,
+        key: Option<&'a [u8]>,
+    ) -> Result<(), Fault> {
         let (qualifier, name) = name_in(scope.octets(set));
         let is_set = self
             .definitions
             .classes
             .is_skipped(scope.name, qualifier, name);
         let module = qualifier.unwrap_or(scope.name);
-        if is_set && self.known_sets.insert((module, name))? {
+        let field = key.unwrap_or(b"");
+        if is_set && self.known_sets.insert((module, name, field))? {
             self.used_sets.push(UsedSet {
                 module,
                 name,
                 place: scope.place(set),
+                key,
             })?;
         }
         Ok(())

@@ -3,6 +3,7 @@ use crate::component_list::{ComponentList, Construct, Extent, Listed};
 use crate::fault::Fault;
 use crate::fields::FieldType;
 use crate::governed::{Governed, Scope};
+use crate::relations::Enclosing;
 use crate::resolver::Resolver;
 use crate::values::MAX_DEPTH;
 use asn1_notation::{ComponentItem, Span};
@@ -133,12 +134,18 @@ impl<'r, 'a> Resolver<'r, 'a> {
         depth: usize,
     ) -> Result<Components<'a>, Fault> {
         let list = self.list_components(scope, items, construct)?;
+        self.enclosing.push(Enclosing {
+            scope,
+            items,
+            construct,
+        })?;
         let root = self.resolve_listed(&list, list.root(), depth)?;
         let mut additions = Vec::new(self.alloc);
         for extent in &list.additions {
             let components = self.resolve_listed(&list, *extent, depth)?;
             add_addition(&mut additions, components, extent.is_group)?;
         }
+        let _ = self.enclosing.pop();
         Ok(Components {
             root,
             is_extensible: list.is_extensible,
@@ -267,7 +274,12 @@ impl<'r, 'a> Resolver<'r, 'a> {
             asn1_notation::Usage::Required => Ok(Usage::Required),
             asn1_notation::Usage::Optional => Ok(Usage::Optional),
             asn1_notation::Usage::Default(value) => {
-                match self.value(listed.governed(), listed.written(value)) {
+                let written = listed.written(value);
+                if self.is_open_field(written.scope, value) {
+                    self.warn_of_open_field(written)?;
+                    return Ok(Usage::Optional);
+                }
+                match self.value(listed.governed(), written) {
                     Ok(value) => Ok(Usage::Default(value)),
                     Err(Fault::Refused) => Ok(Usage::Optional),
                     Err(Fault::Memory) => Err(Fault::Memory),

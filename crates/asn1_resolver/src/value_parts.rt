@@ -3,6 +3,7 @@ use crate::component_list::{ComponentList, Construct, Listed};
 use crate::fault::Fault;
 use crate::governed::{Governed, Scope, Written};
 use crate::items::find_number;
+use crate::object_fields::span_of_field;
 use crate::resolver::Resolver;
 use asn1_names::Place;
 use asn1_notation::{ListItem, NamedNumber, NumberName, Span, TypeKind, Usage, ValueKind};
@@ -264,19 +265,17 @@ impl<'r, 'a> Resolver<'r, 'a> {
         written: Written<'r, 'a>,
         value: &Value<'a>,
     ) -> Result<(), Fault> {
-        let ValueKind::Reference(reference) = &written.value.kind else {
-            return Ok(());
+        let name = match &written.value.kind {
+            ValueKind::Reference(reference) => reference.name,
+            ValueKind::Field(object, names) => span_of_field(object, names.as_slice()),
+            _ => return Ok(()),
         };
         if suits(&base.definition.kind, value) || self.suits_field(base, value)? {
             return Ok(());
         }
         let scope = written.scope;
         let word = type_word(&base.definition.kind);
-        Err(self.refuse_name(
-            scope.place(reference.name),
-            scope.octets(reference.name),
-            word,
-        ))
+        Err(self.refuse_name(scope.place(name), scope.octets(name), word))
     }
 
     // Whether a value is one of a field of a class that has no tree of its own.

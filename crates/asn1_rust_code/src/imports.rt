@@ -34,6 +34,11 @@ struct OrderedImport {
     import: Import,
 }
 
+// Whether two imports are the same. Names differ more often than paths.
+fn is_same(one: &Import, other: &Import) -> bool {
+    one.name == other.name && one.path == other.path && one.is_foreign == other.is_foreign
+}
+
 /// The names that a file imports.
 #[derive(Drop)]
 pub struct Imports {
@@ -57,7 +62,11 @@ impl Imports {
 
     /// Adds a name, if it is not there.
     pub fn add(&mut self, import: Import) -> Result<(), AllocError> {
-        if !self.imports.iter().any(|known| known.import == import) {
+        if !self
+            .imports
+            .iter()
+            .any(|known| is_same(&known.import, &import))
+        {
             self.imports.push(OrderedImport {
                 is_foreign: import.is_foreign,
                 path_order: order_of(self.alloc, import.path.as_str())?,

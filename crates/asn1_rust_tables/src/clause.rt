@@ -79,7 +79,7 @@ pub(crate) fn append_key_clause(draft: &mut Draft, table: &OpenTable) -> Result<
         2,
         "// The key is that of the row, or the one that was kept.",
     )?;
-    draft.line(2, "ensures told { elim self.now as (λ _. Type 0) [")?;
+    draft.line(2, "ensures key { elim self.now as (λ _. Type 0) [")?;
     for row in &table.rows {
         let variant = row.name.as_str();
         let own = key_term(draft, table, &row.key)?;

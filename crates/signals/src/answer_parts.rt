@@ -96,7 +96,7 @@ impl AnswerParts {
     /// The `&number` of the value.
     pub fn number(&self) -> u16
         // The key is that of the row, or the one that was kept.
-        ensures told { elim self.now as (λ _. Type 0) [
+        ensures key { elim self.now as (λ _. Type 0) [
           | variants.Cause x ↦ result ≡ 4
           | variants.Speed x ↦ result ≡ 300
           | variants.Object3 x ↦ result ≡ 301

@@ -98,7 +98,7 @@ impl RequestParts {
     /// The `&number` of the value.
     pub fn number(&self) -> u16
         // The key is that of the row, or the one that was kept.
-        ensures told { elim self.now as (λ _. Type 0) [
+        ensures key { elim self.now as (λ _. Type 0) [
           | variants.Cause x ↦ result ≡ 4
           | variants.Route x ↦ result ≡ 9
           | variants.Object3 x ↦ result ≡ 12

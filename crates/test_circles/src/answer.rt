@@ -4,6 +4,7 @@ use asn1_ber::BerRules;
 use asn1_der::DerRules;
 use asn1_schema::{Decode, DecodeError, Encode, EncodeError, Rules};
 use expressions::{Category, Chain, ChainOf, Expr, Rule};
+use folders::{Archive, File, Folder, Label};
 use std::alloc::Global;
 use std::fmt;
 
@@ -28,9 +29,13 @@ pub(crate) fn answer_to(alloc: Global, request: &Request<'_>) -> Answer {
         return links(alloc, request);
     }
     match request.type_name {
+        "Archive" => again::<Archive>(alloc, request),
         "Category" => again::<Category>(alloc, request),
         "Chain" => again::<Chain>(alloc, request),
         "Expr" => again::<Expr>(alloc, request),
+        "File" => again::<File>(alloc, request),
+        "Folder" => again::<Folder>(alloc, request),
+        "Label" => again::<Label>(alloc, request),
         "Rule" => again::<Rule>(alloc, request),
         _ => Answer::NotUnderstood,
     }

@@ -1,4 +1,4 @@
-//! Reads values of types that hold themselves, those of `expressions`, by lines that it reads from standard input.
+//! Reads values of types that hold themselves, those of `expressions` and `folders`, by lines that it reads from standard input.
 //!
 //! | Words | Work |
 //! |---|---|

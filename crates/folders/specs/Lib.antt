@@ -1,0 +1,5 @@
+pub mod Validity
+pub mod FolderLists
+pub mod FolderValidity
+pub mod FolderMeaning
+pub mod FolderReading
