@@ -27,7 +27,7 @@ fn is_small(octet: u8) -> bool {
     octet.is_ascii_lowercase() || octet.is_ascii_digit() || octet == b'_'
 }
 
-/// The type that an argument names, as `Filter=asn1_recursive::Filter` or `Module.Filter=asn1_recursive::Filter`; `None` if it has
+/// The type that an argument names, as `Name=asn1_x509::Name` or `Module.Name=asn1_x509::Name`; `None` if it has
 /// another form.
 pub fn extern_of(argument: &str) -> Option<Extern<'_>> {
     let (reference, target) = argument.split_once('=')?;

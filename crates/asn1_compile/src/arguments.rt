@@ -33,7 +33,7 @@ fn command<'a>(alloc: Global) -> Result<Command<'a>, AllocError> {
         .action(ArgAction::Append)
         .value_name("NAME=PATH")
         .help(
-            "A type that exists already, as Filter=asn1_recursive::Filter; if several modules define it, as Module.Filter=..",
+            "A type that exists already, as Name=asn1_x509::Name; if several modules define it, as Module.Name=..",
         );
     let extern_modules = Arg::new(alloc, "extern-module")
         .long("extern-module")

@@ -8,7 +8,7 @@
 //! | `CRATE` | the name of the crate |
 //! | `FILE`.. | reads these files as one set of modules, or standard input for `-` or if there is none |
 //! | `--out DIR` | writes the files into this folder; otherwise they go to standard output, each behind a line `=== PATH`. For a folder crates/NAME beside a file crates.txt, the lines of the crate, of its program and of its exports are added to that file, if they are not there |
-//! | `--extern NAME=PATH` | a type that exists already, as `Filter=asn1_recursive::Filter`, or with its module, `Module.Filter=..` |
+//! | `--extern NAME=PATH` | a type that exists already, as `Name=asn1_x509::Name`, or with its module, `Module.Name=..` |
 //! | `--extern-module MODULE=CRATE` | a module that was compiled already, as `PKIX1Explicit88=certificates` |
 //! | `--program` | writes, beside the crate, the program CRATE_convert, which converts values of the types (docs/USING.md) |
 //! | `--exports` | writes, beside the crate, the crate CRATE_c, which exports calls for the types to C, Rust and Python (docs/EMBEDDING.md) |

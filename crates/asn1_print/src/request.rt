@@ -25,7 +25,7 @@ pub struct Extern<'a> {
     pub module: Option<&'a [u8]>,
     /// The name in ASN.1.
     pub name: &'a [u8],
-    /// The crate or the module in it, as `asn1_recursive`.
+    /// The crate or the module in it, as `asn1_x509`.
     pub path: &'a str,
     /// The name in Rust.
     pub rust_name: &'a str,
