@@ -1,10 +1,10 @@
 //! The names of the definitions of a schema, and the files as far as they were made.
 use crate::circles::{CurrentCircle, GenericType, PlannedCircle, plan_circles};
-use crate::known_words::known_words;
 use crate::recursion::list_references;
 use crate::request::{Extern, PrintedFile, Request};
 use crate::strings::is_restricted_string;
 use crate::templates::Templates;
+use crate::words::known_words;
 use asn1_names::Place;
 use asn1_resolved::{Problem, Severity, Type, TypeDefinition, TypeKind};
 use asn1_rust_code::{Import, TagNumber, TypeName, class_word, order_of};
