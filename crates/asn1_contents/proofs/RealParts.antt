@@ -185,7 +185,7 @@ not_true : (b : Bool) → b ≡ false → not b ≡ true
 not_true true p = sym p
 not_true false p = refl
 
--- an exponent of so many octets, and a mantissa
+-- an exponent of this many octets, and a mantissa
 has_both : (count : ℕ) (exponent mantissa : List ℕ) → length exponent ≡ count → is_shortest exponent ≡ true → is_odd_number mantissa ≡ true →
     has_parts count (exponent ++ mantissa) ≡ true
 has_both count exponent mantissa len shortest odd =
