@@ -81,7 +81,6 @@ TABLE = {
 BY_HAND = {
     "asn1_x509": ("src/laws.rt", "src/signed.rt", "src/valid.rt", "specs/", "proofs/"),
     "asn1_x509_extensions": ("src/laws.rt", "src/valid.rt", "specs/", "proofs/"),
-    "signals": ("proofs/",),
 }
 
 # As many scopes as a value may nest.

@@ -1,9 +1,12 @@
 //! The call that reads a value of a table.
 use crate::clause::append_read_clause;
-use crate::definitions::{KeyKind, OpenTable};
+use crate::definitions::{KeyKind, OpenRow, OpenTable};
 use crate::keys::{argument_type, key_code};
 use asn1_rust_code::Draft;
 use std::alloc::AllocError;
+
+// The columns that a line has behind the indentation of a row.
+const ROW_WIDTH: usize = 88;
 
 /// Appends the call that reads a value.
 pub(crate) fn append_reader(draft: &mut Draft, table: &OpenTable) -> Result<(), AllocError> {
@@ -32,18 +35,36 @@ pub(crate) fn append_reader(draft: &mut Draft, table: &OpenTable) -> Result<(), 
     draft.line(1, "{")?;
     draft.line(2, format!(in alloc; "match {key} {{")?.as_str())?;
     for row in &table.rows {
-        let pattern = key_code(draft, &row.key)?;
-        let pattern = pattern.as_str();
-        let variant = row.name.as_str();
-        let front = format!(in alloc; "{pattern} =>")?;
-        let back = format!(in alloc;
-            "Ok(Self::{variant}(read_open(rules, alloc, octets, depth)?)),"
-        )?;
-        draft.definition(3, front.as_str(), back.as_str())?;
+        append_row(draft, row)?;
     }
     append_other(draft, table)?;
     draft.line(2, "}")?;
     draft.line(1, "}")
+}
+
+// Appends the arm of a row. It has no `?`, with which search finds no proof if the type of the row is a list.
+fn append_row(draft: &mut Draft, row: &OpenRow) -> Result<(), AllocError> {
+    let alloc = draft.alloc();
+    let pattern = key_code(draft, &row.key)?;
+    let pattern = pattern.as_str();
+    let variant = row.name.as_str();
+    let line = format!(in alloc; "{pattern} => match read_open(rules, alloc, octets, depth) {{")?;
+    if line.len() <= ROW_WIDTH {
+        draft.line(3, line.as_str())?;
+    } else {
+        draft.line(
+            3,
+            format!(in alloc; "{pattern} => match read_open(")?.as_str(),
+        )?;
+        draft.line(4, "rules, alloc, octets, depth,")?;
+        draft.line(3, ") {")?;
+    }
+    draft.text(format!(in alloc;
+        "                Ok(value) => Ok(Self::{variant}(value)),
+                Err(error) => Err(error),
+            }},
+"
+    )?)
 }
 
 // Appends the arm of an unknown key.

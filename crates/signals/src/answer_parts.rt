@@ -57,9 +57,18 @@ impl AnswerParts {
             MemoryRanOut error) }
     {
         match number {
-            4 => Ok(Self::Cause(read_open(rules, alloc, octets, depth)?)),
-            300 => Ok(Self::Speed(read_open(rules, alloc, octets, depth)?)),
-            301 => Ok(Self::Object3(read_open(rules, alloc, octets, depth)?)),
+            4 => match read_open(rules, alloc, octets, depth) {
+                Ok(value) => Ok(Self::Cause(value)),
+                Err(error) => Err(error),
+            },
+            300 => match read_open(rules, alloc, octets, depth) {
+                Ok(value) => Ok(Self::Speed(value)),
+                Err(error) => Err(error),
+            },
+            301 => match read_open(rules, alloc, octets, depth) {
+                Ok(value) => Ok(Self::Object3(value)),
+                Err(error) => Err(error),
+            },
             _ => {
                 let octets = Any::new(Vec::from_slice(alloc, octets)?);
                 Ok(Self::Other(number, octets))

@@ -59,9 +59,18 @@ impl RequestParts {
             MemoryRanOut error) }
     {
         match number {
-            4 => Ok(Self::Cause(read_open(rules, alloc, octets, depth)?)),
-            9 => Ok(Self::Route(read_open(rules, alloc, octets, depth)?)),
-            12 => Ok(Self::Object3(read_open(rules, alloc, octets, depth)?)),
+            4 => match read_open(rules, alloc, octets, depth) {
+                Ok(value) => Ok(Self::Cause(value)),
+                Err(error) => Err(error),
+            },
+            9 => match read_open(rules, alloc, octets, depth) {
+                Ok(value) => Ok(Self::Route(value)),
+                Err(error) => Err(error),
+            },
+            12 => match read_open(rules, alloc, octets, depth) {
+                Ok(value) => Ok(Self::Object3(value)),
+                Err(error) => Err(error),
+            },
             _ => {
                 let octets = Any::new(Vec::from_slice(alloc, octets)?);
                 Ok(Self::Other(number, octets))
