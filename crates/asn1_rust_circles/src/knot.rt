@@ -3,7 +3,6 @@ use asn1_circle_definitions::Circle;
 use asn1_rust_code::{Draft, Import, List, ListStyle, is_in_one_line};
 use asn1_rust_components::{Alternative, ListKind, TypeBody, TypeFile, constant_of};
 use asn1_rust_names::{TakenNames, snake_case};
-use asn1_rust_types::use_variants;
 use std::alloc::{AllocError, Global};
 
 // Imports a name of a module of the crate.
@@ -157,14 +156,23 @@ fn append_makers(
     for call in CALLS {
         let _call = names.take(call)?;
     }
-    let mut variants = Vec::new(alloc);
     for alternative in alternatives {
         let snake = snake_case(alloc, alternative.name.as_bytes())?;
         let call = names.take(snake.as_str())?;
         append_maker(draft, circle, file, alternative, call.as_str())?;
-        variants.push(alternative.variant.as_str())?;
     }
-    use_variants(draft, file, variants.as_slice())
+    use_variants(draft, circle, file)
+}
+
+// Brings in the variants, under a name of their own: a type of the circle may have the name of a variant.
+fn use_variants(draft: &mut Draft, circle: Circle<'_>, file: &TypeFile) -> Result<(), AllocError> {
+    let crate_name = circle.crate_name;
+    let module = file.module.as_str();
+    let name = file.plain_name();
+    let line = format!(in draft.alloc();
+        "ghost use Rattle.{crate_name}.specs.declared.{module}.{name}.TheVariants as variants;"
+    )?;
+    draft.use_ghost(line.as_str())
 }
 
 // Appends the call that makes a value of an alternative.
@@ -190,7 +198,7 @@ fn append_maker(
     )?)?;
     append_head(draft, name, call, text)?;
     draft.text(format!(in alloc;
-        "        ensures {{ IfOk result (λ made. in_knot made ≡ {variant} value) }}
+        "        ensures {{ IfOk result (λ made. in_knot made ≡ variants.{variant} value) }}
     {{
 "
     )?)?;

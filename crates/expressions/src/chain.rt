@@ -2,7 +2,7 @@
 ghost use Rattle.std.specs.Prelude.{IfOk, ◌≡◌};
 ghost use Rattle.asn1_schema.specs.Words.{IsWellTagged};
 ghost use Rattle.expressions.specs.ChainMeaning.{in_knot, is_made, meaning};
-ghost use Rattle.expressions.specs.declared.chain_of.ChainOf.TheVariants.{End, Link};
+ghost use Rattle.expressions.specs.declared.chain_of.ChainOf.TheVariants as variants;
 ghost use Rattle.asn1_schema.specs.model.Premises.{EachIsValid};
 
 use crate::chain_of::{CHAIN_OF, ChainOf};
@@ -44,14 +44,14 @@ impl Chain {
 
     /// A value of the alternative `end NULL`. The error is that of memory.
     pub fn end(alloc: Global, value: ()) -> Result<Chain, AllocError>
-        ensures { IfOk result (λ made. in_knot made ≡ End value) }
+        ensures { IfOk result (λ made. in_knot made ≡ variants.End value) }
     {
         Chain::new(alloc, ChainOf::End(value))
     }
 
     /// A value of the alternative `link Chain`. The error is that of memory.
     pub fn link(alloc: Global, value: Chain) -> Result<Chain, AllocError>
-        ensures { IfOk result (λ made. in_knot made ≡ Link value) }
+        ensures { IfOk result (λ made. in_knot made ≡ variants.Link value) }
     {
         Chain::new(alloc, ChainOf::Link(value))
     }

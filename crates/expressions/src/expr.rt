@@ -2,7 +2,7 @@
 ghost use Rattle.std.specs.Prelude.{IfOk, ◌≡◌};
 ghost use Rattle.asn1_schema.specs.Words.{IsWellTagged};
 ghost use Rattle.expressions.specs.ExprMeaning.{in_knot, is_made, meaning};
-ghost use Rattle.expressions.specs.declared.expr_of.ExprOf.TheVariants.{Number, Sum, Call, Not};
+ghost use Rattle.expressions.specs.declared.expr_of.ExprOf.TheVariants as variants;
 ghost use Rattle.asn1_schema.specs.model.Premises.{EachIsValid};
 
 use crate::call::CallOf;
@@ -45,28 +45,28 @@ impl Expr {
 
     /// A value of the alternative `number INTEGER`. The error is that of memory.
     pub fn number(alloc: Global, value: Integer) -> Result<Expr, AllocError>
-        ensures { IfOk result (λ made. in_knot made ≡ Number value) }
+        ensures { IfOk result (λ made. in_knot made ≡ variants.Number value) }
     {
         Expr::new(alloc, ExprOf::Number(value))
     }
 
     /// A value of the alternative `sum Terms`. The error is that of memory.
     pub fn sum(alloc: Global, value: Vec<Expr>) -> Result<Expr, AllocError>
-        ensures { IfOk result (λ made. in_knot made ≡ Sum value) }
+        ensures { IfOk result (λ made. in_knot made ≡ variants.Sum value) }
     {
         Expr::new(alloc, ExprOf::Sum(value))
     }
 
     /// A value of the alternative `call Call`. The error is that of memory.
     pub fn call(alloc: Global, value: CallOf<Expr>) -> Result<Expr, AllocError>
-        ensures { IfOk result (λ made. in_knot made ≡ Call value) }
+        ensures { IfOk result (λ made. in_knot made ≡ variants.Call value) }
     {
         Expr::new(alloc, ExprOf::Call(value))
     }
 
     /// A value of the alternative `not Expr`. The error is that of memory.
     pub fn not(alloc: Global, value: Expr) -> Result<Expr, AllocError>
-        ensures { IfOk result (λ made. in_knot made ≡ Not value) }
+        ensures { IfOk result (λ made. in_knot made ≡ variants.Not value) }
     {
         Expr::new(alloc, ExprOf::Not(value))
     }
