@@ -6,7 +6,7 @@ use asn1_circle_definitions::{
     writer_answers,
 };
 use asn1_rust_components::TypeFile;
-use asn1_rust_types::ProofFile;
+use asn1_rust_types::{ProofFile, knot_table_proof};
 use std::alloc::{AllocError, Global};
 
 /// The files of a circle: the knot, whose own file is this, its reader, names for meanings, definitions and proofs.
@@ -36,6 +36,9 @@ fn files_of(
     files.push(meaning_definitions(alloc, circle, body)?)?;
     files.push(reading_definitions(alloc, circle)?)?;
     files.push(tags_proof(alloc, circle, body)?)?;
+    if let Some(proof) = knot_table_proof(alloc, own, body)? {
+        files.push(proof)?;
+    }
     files.push(writer_proof(alloc, circle)?)?;
     files.push(measures_proof(alloc, circle)?)?;
     files.push(reader_proof(alloc, circle)?)?;

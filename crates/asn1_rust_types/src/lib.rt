@@ -5,7 +5,7 @@
 //! | [`type_file`] | the file of a type (`TypeFile` of `asn1_rust_components`) |
 //! | [`root_file`], [`ModuleNames`] | the root file of a crate |
 //! | [`append_enum`], [`append_choice_writer`] and the like | the parts of a CHOICE |
-//! | [`proof_files`], [`ProofFile`] | the proofs that the check does not find by itself |
+//! | [`proof_files`], [`knot_table_proof`], [`ProofFile`] | the proofs that the check does not find by itself |
 //!
 //! The text is in the layout of `rt fmt`. No contract covers it: the check of the printed crate proves it. Calls fail only if
 //! memory runs out.
@@ -23,5 +23,5 @@ pub use choice::{
     append_made, append_trees_of_choice,
 };
 pub use files::{ModuleNames, root_file, type_file};
-pub use proofs::{ProofFile, proof_files};
+pub use proofs::{ProofFile, knot_table_proof, proof_files};
 pub use variants::use_variants;

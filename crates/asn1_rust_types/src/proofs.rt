@@ -87,15 +87,36 @@ fn push_tree_proofs(
     file: &TypeFile,
     choice: &ChoiceType,
 ) -> Result<(), AllocError> {
-    let is_long = choice.alternatives.len() > FEW;
-    let has_choice = choice.alternatives.iter().any(begins_with_choice);
-    if has_choice {
+    if choice.alternatives.iter().any(begins_with_choice) {
         proofs.push(tree_proof(alloc, file, TREES)?)?;
     }
-    if has_choice || is_long && choice.alternatives.iter().any(is_untagged) {
+    if needs_table_proof(file, choice) {
         proofs.push(tree_proof(alloc, file, TABLE)?)?;
     }
     Ok(())
+}
+
+// Whether the check may not prove the table of a CHOICE by itself.
+fn needs_table_proof(file: &TypeFile, choice: &ChoiceType) -> bool {
+    if choice.alternatives.iter().any(begins_with_choice) {
+        return true;
+    }
+    choice.alternatives.len() > FEW
+        && (has_parameter(file) || choice.alternatives.iter().any(is_untagged))
+}
+
+/// The proof of the table of a knot that is made of this type; `None` if the check finds it by itself.
+pub fn knot_table_proof(
+    alloc: Global,
+    own: &TypeFile,
+    body: &TypeFile,
+) -> Result<Option<ProofFile>, AllocError> {
+    match &body.body {
+        TypeBody::Choice(choice) if needs_table_proof(body, choice) => {
+            Ok(Some(tree_proof(alloc, own, TABLE)?))
+        }
+        _ => Ok(None),
+    }
 }
 
 // Whether an alternative begins with the tags of a CHOICE.
