@@ -24,4 +24,3 @@ pub use choice::{
 };
 pub use files::{ModuleNames, root_file, type_file};
 pub use proofs::{ProofFile, knot_table_proof, proof_files};
-pub use variants::use_variants;

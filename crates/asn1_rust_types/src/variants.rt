@@ -4,7 +4,7 @@ use asn1_rust_components::TypeFile;
 use std::alloc::{AllocError, Global};
 
 /// Brings in the variants of a type for its clauses.
-pub fn use_variants(
+pub(crate) fn use_variants(
     draft: &mut Draft,
     file: &TypeFile,
     variants: &[&str],
