@@ -83,7 +83,7 @@ fn push_part<'a>(
     let plain = struct_name(alloc, wanted)?;
     let plain = plain.as_str();
     let structure = names.take(plain)?;
-    // Two parts of one name are told apart by a number, in both of their names.
+    // Two parts of one name get a number, in both of their names.
     let number = structure.as_str().strip_prefix(plain).unwrap_or("");
     let name = format!(in alloc; "{wanted}{number}")?;
     parts.push(Part {

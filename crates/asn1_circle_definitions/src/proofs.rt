@@ -271,8 +271,6 @@ pub fn reader_answers(alloc: Global, circle: Circle<'_>) -> Result<String, Alloc
     let module = circle.module;
     let reader = circle.reader;
     let (tagged, call) = reader_words(circle);
-    let read = read_answer(alloc, circle)?;
-    let read = read.as_str();
     format!(in alloc;
         "use Rattle.std.proofs.Common.{{Err, subst, sym}}
 use Rattle.asn1_circles.specs.Words.{{constraint_set}}
@@ -286,27 +284,16 @@ close_knot-requires g t c = record {{ tagged = {tagged} }}
 pub returns-clause-after_reading : goal.returns-clause-after_reading
 returns-clause-after_reading g t c =
     c.close_knot.ensures.after_reading c.args.tag (constraint_set c.args.constraints.now) c.args.decoder.now c.{call}-of.ensures.after_reading
-{read}
+
+pub returns-clause-read : goal.returns-clause-read
+returns-clause-read g t c =
+    c.close_knot.ensures.read c.args.tag (constraint_set c.args.constraints.now) c.args.decoder.now c.{call}-of.ensures.read
+
 pub read-returns : goal.read-returns
 read-returns g t c =
     let after = c.in-Err.ensures.after_reading in
     subst (λ e. ReadsKnot g.D.Decoder.reader c.args.at c.args.inside.now c.read_{module}.new.decoder (Err e)) (sym c.from_error.ensures)
     (record {{ read = c.in-Err.ensures.read; same_depth = after.same_depth; failed_as_before = after.failed_as_before }})
-"
-    )
-}
-
-// The answer for the value that was read, which a SEQUENCE needs.
-fn read_answer(alloc: Global, circle: Circle<'_>) -> Result<String, AllocError> {
-    if circle.is_choice() {
-        return Ok(String::new(alloc));
-    }
-    let (_, call) = reader_words(circle);
-    format!(in alloc;
-        "
-pub returns-clause-read : goal.returns-clause-read
-returns-clause-read g t c =
-    c.close_knot.ensures.read c.args.tag (constraint_set c.args.constraints.now) c.args.decoder.now c.{call}-of.ensures.read
 "
     )
 }

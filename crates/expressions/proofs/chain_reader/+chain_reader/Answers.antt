@@ -11,6 +11,10 @@ pub returns-clause-after_reading : goal.returns-clause-after_reading
 returns-clause-after_reading g t c =
     c.close_knot.ensures.after_reading c.args.tag (constraint_set c.args.constraints.now) c.args.decoder.now c.decode_choice_with-of.ensures.after_reading
 
+pub returns-clause-read : goal.returns-clause-read
+returns-clause-read g t c =
+    c.close_knot.ensures.read c.args.tag (constraint_set c.args.constraints.now) c.args.decoder.now c.decode_choice_with-of.ensures.read
+
 pub read-returns : goal.read-returns
 read-returns g t c =
     let after = c.in-Err.ensures.after_reading in
