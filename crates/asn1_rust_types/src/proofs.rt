@@ -197,6 +197,8 @@ struct Arm {
     clause: &'static str,
     // Whether it writes an addition, by reference to an option.
     is_addition: bool,
+    // Whether its call is given the name of a type that has the parameter of a circle.
+    is_named: bool,
     // Whether the check does not prove it by itself.
     is_answered: bool,
 }
@@ -208,12 +210,15 @@ fn arms_of_choice(alloc: Global, alternatives: &[Alternative]) -> Result<Vec<Arm
     for alternative in alternatives {
         let (call, clause) = call_of_alternative(alternative);
         let is_plain = !matches!(alternative.tagging, Tagging::Explicit(_));
+        let is_named = !is_plain && is_of_parameter(alternative);
         arms.push(Arm {
             place: String::from_str(alloc, alternative.variant.as_str())?,
             call,
             clause,
             is_addition: false,
+            is_named,
             is_answered: (is_long || is_in_circle(alternative)) && is_plain
+                || is_named
                 || alternative.definition.is_explicit,
         })?;
     }
@@ -224,6 +229,14 @@ fn arms_of_choice(alloc: Global, alternatives: &[Alternative]) -> Result<Vec<Arm
 fn is_in_circle(alternative: &Alternative) -> bool {
     match &alternative.held {
         Some(held) => held.lists.is_empty() && held.member.is_some(),
+        None => false,
+    }
+}
+
+// Whether the type of an alternative is a list in its circle, or one of its types with a parameter.
+fn is_of_parameter(alternative: &Alternative) -> bool {
+    match &alternative.held {
+        Some(held) => !held.lists.is_empty() || held.member.is_some(),
         None => false,
     }
 }
@@ -247,6 +260,7 @@ fn arms_of_components(alloc: Global, components: &[Component]) -> Result<Vec<Arm
             call,
             clause,
             is_addition: component.is_addition,
+            is_named: false,
             is_answered: component.definition.is_explicit,
         })?;
     }
@@ -369,7 +383,13 @@ fn answer_of(alloc: Global, arm: &Arm, earlier: &[Arm]) -> Result<String, AllocE
     let call = step_name(alloc, arm.call, place, is_first_call)?;
     let call = call.as_str();
     let first = format!(in alloc; "\npub returns-in-{place} : goal.returns-in-{place}\n")?;
-    let second = if arm.is_addition {
+    let second = if arm.is_named {
+        let identifier = step_name(alloc, "identifier", place, is_first_call)?;
+        let identifier = identifier.as_str();
+        format!(in alloc;
+            "returns-in-{place} g c = rw c.in-{place}.is (rw c.{identifier}.ensures at c.{call}.{clause})\n"
+        )?
+    } else if arm.is_addition {
         let is_first_option = !earlier.iter().any(|other| other.is_addition);
         let option = step_name(alloc, "as_ref", place, is_first_option)?;
         let option = option.as_str();
