@@ -41,9 +41,6 @@ CRATES = TOP / "crates"
 PROGRAM = CRATES / "asn1_compile"
 MODULES = TOP / "examples" / "modules"
 
-# The types of LDAP that asn1_recursive has, since a filter holds itself.
-FILTERS = ["Filter", "AttributeValueAssertion", "SubstringFilter", "MatchingRuleAssertion"]
-
 # The types of certificates that their extensions name, and those that the Cryptographic Message Syntax names.
 NAMED = ["CertificateSerialNumber", "DirectoryString", "Name"]
 SIGNED = [*NAMED, "AlgorithmIdentifier", "Certificate", "Extensions", "PKIX1Explicit88.Time", "UniqueIdentifier", "Version"]
@@ -64,7 +61,7 @@ TABLE = {
     "externals": ("externals", [], []),
     "folders": ("folders", [], []),
     "greetings": ("greetings", [], []),
-    "ldap": ("asn1_ldap", [f"--extern={name}=asn1_recursive::{name}" for name in FILTERS], ["asn1_recursive"]),
+    "ldap": ("asn1_ldap", [], []),
     "operations": ("operations", [], ["asn1_tables"]),
     "queries": ("queries", [], []),
     "signals": ("signals", [], ["asn1_tables"]),

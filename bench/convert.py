@@ -25,8 +25,6 @@ ROOT = pathlib.Path(__file__).resolve().parent.parent
 # Each element can open two scopes, of which the program reads 64.
 NESTED = 32
 CONVERSATIONS = sorted((ROOT / "examples" / "ldap").glob("*.ber"))
-EXTERNS = [f"--extern={name}=asn1_recursive::{name}"
-           for name in ("Filter", "AttributeValueAssertion", "SubstringFilter", "MatchingRuleAssertion")]
 
 SCRIPT = """#!/usr/bin/env escript
 %%! -noshell -pa {folder} -pa {jiffy}
@@ -71,7 +69,7 @@ def with_another_status(program, message):
 
 def printed(clone):
     """The folder of the program, which is printed beside the crate that is here already."""
-    words = ["asn1_ldap", *EXTERNS, "--program", "--out", clone / "crates" / "asn1_ldap", ROOT / "examples" / "modules" / "ldap.asn1"]
+    words = ["asn1_ldap", "--program", "--out", clone / "crates" / "asn1_ldap", ROOT / "examples" / "modules" / "ldap.asn1"]
     tried(clone / "crates" / "asn1_compile", [str(word) for word in words])
     changed = subprocess.run(["git", "status", "--short"], cwd=clone, capture_output=True, text=True).stdout.split("\n")
     wrong = [line for line in changed if line and line not in (" M crates.txt", "?? crates/asn1_ldap_convert/")]

@@ -261,7 +261,7 @@ def most_levels(request, step):
 
 
 # How many nested scopes each level takes of the types that hold themselves, and how many the innermost takes.
-SCOPES = {"node": (2, 2), "not": (2, 1), "and": (2, 1), "nested": (2, 1), "open": (3, 1)}
+SCOPES = {"node": (2, 2), "nested": (2, 1), "open": (3, 1)}
 
 
 def measure_stack():

@@ -1,22 +1,23 @@
 #!/usr/bin/env python3
-"""Other spellings in BER of the values that test_vectors has in DER.
+"""Other spellings in BER of the values that test_vectors and test_module_types have in DER.
 
     bench/spellings.py --lines COUNT [SEED]
     bench/spellings.py --run COUNT [SEED]
 
-Each value that a line of crates/test_vectors/stdout reads and has in DER, of a type with lines in BER, is spelled anew, at random, by
-X.690, 8: lengths in more octets than they need, or indefinite; of elements with universal tags also a BOOLEAN that is TRUE by any octet
+Each value that a line of the stdout of one of the programs reads and has in DER, of a type with lines in BER, is spelled anew, at random,
+by X.690, 8: lengths in more octets than they need, or indefinite; of elements with universal tags also a BOOLEAN that is TRUE by any octet
 but zero, unused bits of any value, strings in pieces, nested, and the elements of sets in another order. The first call prints lines for
-test_vectors. The second gives lines to the built program (`rt run` in crates/test_vectors builds it), whose answer has to be the DER of
-the value, and damages each line once more: the answer to that is an error or a value, and the program ends. The status is 0 if all is
-as it has to be.
+the two. The second gives lines to the built programs (`rt run` in the folder of each builds it), whose answer has to be the DER of the
+value, and damages each line once more: the answer to that is an error or a value, and the program ends. The status is 0 if all is as it
+has to be.
 """
 import pathlib
 import random
 import subprocess
 import sys
 
-CRATE = pathlib.Path(__file__).resolve().parent.parent / "crates" / "test_vectors"
+CRATES = pathlib.Path(__file__).resolve().parent.parent / "crates"
+PROGRAMS = ("test_vectors", "test_module_types")
 
 BOOLEAN, BIT_STRING, OCTET_STRING, SET = 1, 3, 4, 17
 STRINGS = {OCTET_STRING, 12, 18, 19, 20, 22, 25, 26, 27, 30}
@@ -24,9 +25,9 @@ STRINGS = {OCTET_STRING, 12, 18, 19, 20, 22, 25, 26, 27, 30}
 OPEN_TYPES = {"Any", "Envelope", "Open", "Notice", "RdnSequence", "Certificate"}
 
 
-def samples():
-    """The types, depths and DER of the values that lines read, of the types with lines in BER."""
-    found, asked = {}, (CRATE / "stdout").read_text().splitlines()
+def samples(program):
+    """The types, depths and DER of the values that lines of a program read, of the types with lines in BER."""
+    found, asked = {}, (CRATES / program / "stdout").read_text().splitlines()
     kinds = {line.split(" ", 2)[1] for line in asked if line.startswith("ber ")}
     for line in asked:
         request, _, answer = line.partition(" -> ")
@@ -39,7 +40,7 @@ def samples():
             continue
         if data and words[1] in kinds:
             found.setdefault((words[1], data), int(words[2]))
-    return [(kind, depth, data) for (kind, data), depth in found.items()]
+    return [(program, kind, depth, data) for (kind, data), depth in found.items()]
 
 
 def parse(data):
@@ -145,12 +146,12 @@ def split(data):
 
 
 def lines(count, seed):
-    """Lines for the program, each with the answer that it has to get."""
-    dice, known = random.Random(seed), samples()
+    """Lines for the programs, each with its program and the answer that it has to get."""
+    dice, known = random.Random(seed), [sample for program in PROGRAMS for sample in samples(program)]
     for _ in range(count):
-        kind, depth, data = dice.choice(known)
+        program, kind, depth, data = dice.choice(known)
         other = spell(dice, data, kind.split("]")[-1] not in OPEN_TYPES)
-        yield f"ber {kind} {depth} read der {other.hex(' ')}", data.hex(" ")
+        yield program, f"ber {kind} {depth} read der {other.hex(' ')}", data.hex(" ")
 
 
 def damaged(dice, line):
@@ -168,12 +169,19 @@ def main():
     seed = int(sys.argv[3]) if len(sys.argv) > 3 else 1
     made = list(lines(int(sys.argv[2]), seed))
     if sys.argv[1] == "--lines":
-        for line, _ in made:
+        for _, line, _ in made:
             print(line)
         return 0
-    dice, faults = random.Random(seed), 0
-    asked = [line for line, _ in made] + [damaged(dice, line) for line, _ in made]
-    ran = subprocess.run([CRATE / "out" / "test_vectors"], input="\n".join(asked) + "\n", capture_output=True, text=True)
+    dice = random.Random(seed)
+    faults = sum(faults_of(program, [(line, wanted) for name, line, wanted in made if name == program], dice) for program in PROGRAMS)
+    print(f"spellings: {len(made)}, faults: {faults}")
+    return faults > 0
+
+
+def faults_of(program, made, dice):
+    """Gives a program its lines, and each once more with damage; prints what is wrong in the answers, and tells how much that is."""
+    faults, asked = 0, [line for line, _ in made] + [damaged(dice, line) for line, _ in made]
+    ran = subprocess.run([CRATES / program / "out" / program], input="\n".join(asked) + "\n", capture_output=True, text=True)
     answers = ran.stdout.splitlines()
     for (line, wanted), answer in zip(made, answers):
         if answer.rstrip(" ;") != f"{line} -> {wanted}":
@@ -186,8 +194,7 @@ def main():
     if len(answers) != len(asked) or ran.returncode:
         faults += 1
         print(f"{len(answers)} answers to {len(asked)} lines, status {ran.returncode}: {ran.stderr}")
-    print(f"spellings: {len(made)}, faults: {faults}")
-    return faults > 0
+    return faults
 
 
 if __name__ == "__main__":

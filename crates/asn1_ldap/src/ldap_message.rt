@@ -102,6 +102,7 @@ impl ConstructedType for LdapMessage {
 }
 
 /// A `LdapMessage` can be inside other types.
+#[tactic(auto, using(asn1_schema::proofs::Trees::tree_shapes, crate::proofs::FilterTags::knot_can))]
 pub fn ldap_message_is_well_tagged()
     ensures { IsWellTagged ⟦<LdapMessage as AsnType>⟧.meaning }
 {}

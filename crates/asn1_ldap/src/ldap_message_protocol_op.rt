@@ -246,6 +246,7 @@ impl ChoiceType for LdapMessageProtocolOp {
 }
 
 /// A `LdapMessageProtocolOp` can be inside other types.
+#[tactic(auto, using(asn1_schema::proofs::Trees::tree_shapes, crate::proofs::FilterTags::knot_can))]
 pub fn ldap_message_protocol_op_is_well_tagged()
     ensures { IsWellTagged ⟦<LdapMessageProtocolOp as AsnType>⟧.meaning }
 {}

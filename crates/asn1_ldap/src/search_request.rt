@@ -16,9 +16,9 @@ ghost use Rattle.std.specs.Prelude.{[], codes, ◌∷◌};
 ghost use Rattle.asn1_schema.specs.Words.{IsWellTagged, application, constructed_agrees, constructed_type_under, extensible_sequence_after, required_slot, untagged};
 
 use crate::aliases::{AttributeSelection, Ldapdn};
+use crate::filter::Filter;
 use crate::search_request_deref_aliases::SearchRequestDerefAliases;
 use crate::search_request_scope::SearchRequestScope;
-use asn1_recursive::Filter;
 use asn1_schema::{
     AsnType, ConstrainedInteger, Constraints, ConstructedType, Decode, DecodeByIndex, DecodeError,
     Decoded, Decoder, Encode, EncodeError, EncodeFields, Encoder, Field, FieldTable, Identifier,
@@ -146,6 +146,7 @@ impl ConstructedType for SearchRequest {
 }
 
 /// A `SearchRequest` can be inside other types.
+#[tactic(auto, using(asn1_schema::proofs::Trees::tree_shapes, crate::proofs::FilterTags::knot_can))]
 pub fn search_request_is_well_tagged()
     ensures { IsWellTagged ⟦<SearchRequest as AsnType>⟧.meaning }
 {}

@@ -86,6 +86,7 @@ impl Enumerated for SearchRequestDerefAliases {
 }
 
 /// A `SearchRequestDerefAliases` can be inside other types.
+#[tactic(auto, using(asn1_schema::proofs::Trees::tree_shapes, crate::proofs::FilterTags::knot_can))]
 pub fn search_request_deref_aliases_is_well_tagged()
     ensures { IsWellTagged ⟦<SearchRequestDerefAliases as AsnType>⟧.meaning }
 {}

@@ -68,6 +68,7 @@ impl Enumerated for SearchRequestScope {
 }
 
 /// A `SearchRequestScope` can be inside other types.
+#[tactic(auto, using(asn1_schema::proofs::Trees::tree_shapes, crate::proofs::FilterTags::knot_can))]
 pub fn search_request_scope_is_well_tagged()
     ensures { IsWellTagged ⟦<SearchRequestScope as AsnType>⟧.meaning }
 {}

@@ -1,28 +1,28 @@
--- The texts of filters that hold sets of filters.
-use Rattle.std.proofs.Common.{◌≡◌, ℕ, List, [], ◌∷◌, ◌++◌, ap, codes, refl, ◌∙◌}
-use Rattle.std.specs.List.{flat_map}
-use Rattle.asn1_ldap_text.specs.Filters.{filter_text, filters_text}
-use Rattle.asn1_recursive.specs.declared.filter.Filter.{Filter, And', Or', Row_of-Filter, end_of-Filter, more_of-Filter, items-the_row-Filter}
-use Rattle.asn1_recursive.specs.declared.filter.Filter.TheBlock.{items_hidden-the_row-Filter-0}
-use Rattle.asn1_recursive.specs.declared.filter.Filter.TheVariants.{And, Or}
-use mathlib.Core.Former.{Count}
+-- The text of a filter is that of what it is made of.
+use Rattle.std.proofs.Common.{◌≡◌, ℕ, List, ◌∙◌, refl}
+use Rattle.std.proofs.lemmas.List.Folds.{flat_map-map}
+use Rattle.asn1_ldap.specs.FilterMeaning.{in_knot}
+use Rattle.asn1_ldap.specs.declared.filter.Filter.{Filter, Filter-F, out-Filter, fold_out-Filter, map-Filter}
+use Rattle.asn1_ldap.specs.declared.filter_of.FilterOf.{FilterOf}
+use Rattle.asn1_ldap.specs.declared.filter_of.FilterOf.TheVariants.{And, Or, Not, EqualityMatch, Substrings, GreaterOrEqual, LessOrEqual, Present, ApproxMatch, ExtensibleMatch}
+use Rattle.asn1_ldap_text.specs.Filters.{content_text, filter_text}
 
--- the texts of filters, one after another
-filters_text_is : (n : _) (row : Row_of-Filter n) → filters_text row ≡ flat_map filter_text (items-the_row-Filter n row)
-filters_text_is n end_of-Filter = refl
-filters_text_is n (more_of-Filter filter rest) = ap (λ l. filter_text filter ++ l) (filters_text_is _ rest)
+-- the text of what a filter is made of, by the texts of the filters in it
+abbrev text_by : Filter-F Filter → FilterOf Filter → List ℕ
+text_by f v = content_text (λ text. text) (map-Filter Filter (List ℕ) filter_text (record f { 0 = record f.0 { value = v } })).0.value
 
-abbrev row_of : Filter → (n : Count) × Row_of-Filter n
-row_of (And' shape row) = (_, row)
-row_of (Or' shape row) = (_, row)
-row_of _ = (_, end_of-Filter)
+same_texts : (f : Filter-F Filter) (v : FilterOf Filter) → text_by f v ≡ content_text filter_text v
+same_texts f (And filters) = rw (flat_map-map (λ text. text) filter_text filters) refl
+same_texts f (Or filters) = rw (flat_map-map (λ text. text) filter_text filters) refl
+same_texts f (Not inner) = refl
+same_texts f (EqualityMatch assertion) = refl
+same_texts f (Substrings assertion) = refl
+same_texts f (GreaterOrEqual assertion) = refl
+same_texts f (LessOrEqual assertion) = refl
+same_texts f (Present attribute) = refl
+same_texts f (ApproxMatch assertion) = refl
+same_texts f (ExtensibleMatch assertion) = refl
 
-pub filter_text-And : (v : List Filter) → filter_text (And v) ≡ codes "(&" ++ (flat_map filter_text v ++ codes ")")
-filter_text-And v =
-    let row = row_of (And v) in
-    ap (λ l. codes "(&" ++ (l ++ codes ")")) (filters_text_is row.0 row.1 ∙ ap (flat_map filter_text) (items_hidden-the_row-Filter-0 v))
-
-pub filter_text-Or : (v : List Filter) → filter_text (Or v) ≡ codes "(|" ++ (flat_map filter_text v ++ codes ")")
-filter_text-Or v =
-    let row = row_of (Or v) in
-    ap (λ l. codes "(|" ++ (l ++ codes ")")) (filters_text_is row.0 row.1 ∙ ap (flat_map filter_text) (items_hidden-the_row-Filter-0 v))
+pub filter_text_is : (filter : Filter) → filter_text filter ≡ content_text filter_text (in_knot filter)
+filter_text_is filter =
+    fold_out-Filter (List ℕ) (λ f. content_text (λ text. text) f.0.value) filter ∙ same_texts (out-Filter filter) (out-Filter filter).0.value

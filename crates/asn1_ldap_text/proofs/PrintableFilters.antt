@@ -1,5 +1,5 @@
 -- The texts of strings, attributes and filters are printable.
-use Rattle.std.proofs.Common.{◌≡◌, ℕ, Bool, true, false, List, [], ◌∷◌, ◌++◌, ◌==◌, Option, None, Some, codes, length, refl}
+use Rattle.std.proofs.Common.{◌≡◌, ℕ, Bool, true, false, List, [], ◌∷◌, ◌++◌, ◌==◌, Option, None, Some, codes, length, map, refl, subst, sym}
 use Rattle.std.specs.Fmt.{decimal}
 use Rattle.std.specs.List.{AllPass, flat_map}
 use Rattle.std.proofs.lemmas.List.Sums.{AllPass-from_list_all}
@@ -7,17 +7,19 @@ use Rattle.asn1_ldap.specs.declared.partial_attribute.PartialAttribute.{PartialA
 use Rattle.asn1_ldap_text.specs.Assertions.{assertion_text, closed_value, dn_text, lead_of, lead_text, matching_rule_text, open_part, part_text, parts_text, present_text, rule_text, substrings_text}
 use Rattle.asn1_ldap_text.specs.Attributes.{after_comma, attribute_text}
 use Rattle.asn1_ldap_text.specs.Escapes.{escaped_text, is_printable}
-use Rattle.asn1_ldap_text.specs.Filters.{filter_text, filters_text}
+use Rattle.asn1_ldap_text.specs.Filters.{content_text, filter_text}
 use Rattle.asn1_ldap_text.specs.Lengths.{length_text, optional_length}
 use Rattle.asn1_ldap_text.specs.Strings.{after_space, named, named_unless_empty, optional_word, quoted, word}
 use Rattle.asn1_ldap_text.specs.declared.escapes.Place.TheVariants.{Assertion, Quotes, Word}
 use Rattle.asn1_ldap_text.proofs.Printable.{Printable, both, decimal_printable, each, either, escaped_printable}
-use Rattle.asn1_recursive.specs.declared.attribute_value_assertion.AttributeValueAssertion.{AttributeValueAssertion}
-use Rattle.asn1_recursive.specs.declared.filter.Filter.{Filter, And', Or', Not', EqualityMatch, Substrings, GreaterOrEqual, LessOrEqual, Present, ApproxMatch, ExtensibleMatch, Row_of-Filter, end_of-Filter, more_of-Filter}
-use Rattle.asn1_recursive.specs.declared.matching_rule_assertion.MatchingRuleAssertion.{MatchingRuleAssertion}
-use Rattle.asn1_recursive.specs.declared.substring.Substring.{Substring}
-use Rattle.asn1_recursive.specs.declared.substring.Substring.TheVariants.{Initial, Any, Final}
-use Rattle.asn1_recursive.specs.declared.substring_filter.SubstringFilter.{SubstringFilter}
+use Rattle.asn1_ldap.specs.declared.attribute_value_assertion.AttributeValueAssertion.{AttributeValueAssertion}
+use Rattle.asn1_ldap.specs.declared.filter.Filter.{Filter, Filter-F, fold-roll-Filter, ind-Filter, map-Filter}
+use Rattle.asn1_ldap.specs.declared.filter_of.FilterOf.{FilterOf}
+use Rattle.asn1_ldap.specs.declared.filter_of.FilterOf.TheVariants.{And, Or, Not, EqualityMatch, Substrings, GreaterOrEqual, LessOrEqual, Present, ApproxMatch, ExtensibleMatch}
+use Rattle.asn1_ldap.specs.declared.matching_rule_assertion.MatchingRuleAssertion.{MatchingRuleAssertion}
+use Rattle.asn1_ldap.specs.declared.substring_filter_substrings_element.SubstringFilterSubstringsElement.{SubstringFilterSubstringsElement as Substring}
+use Rattle.asn1_ldap.specs.declared.substring_filter_substrings_element.SubstringFilterSubstringsElement.TheVariants.{Initial, Any, Final}
+use Rattle.asn1_ldap.specs.declared.substring_filter.SubstringFilter.{SubstringFilter}
 
 -- ---- strings
 
@@ -62,8 +64,8 @@ closed_printable value = both (escaped_text Assertion value) (codes ")") (escape
 
 assertion_printable : (operator : List ℕ) (a : AttributeValueAssertion) → Printable operator → Printable (assertion_text operator a)
 assertion_printable operator a h =
-    both (word a.attribute) (operator ++ closed_value a.value) (word_printable a.attribute)
-    (both operator (closed_value a.value) h (closed_printable a.value))
+    both (word a.attribute_desc) (operator ++ closed_value a.assertion_value) (word_printable a.attribute_desc)
+    (both operator (closed_value a.assertion_value) h (closed_printable a.assertion_value))
 
 present_printable : (attribute : List ℕ) → Printable (present_text attribute)
 present_printable attribute = both (word attribute) (codes "=*)") (word_printable attribute) refl
@@ -92,7 +94,7 @@ parts_printable parts =
 
 substrings_printable : (a : SubstringFilter) → Printable (substrings_text a)
 substrings_printable a =
-    both (word a.attribute) (codes "=" ++ parts_text a.substrings.items) (word_printable a.attribute) (parts_printable a.substrings.items)
+    both (word a.type_) (codes "=" ++ parts_text a.substrings.items) (word_printable a.type_) (parts_printable a.substrings.items)
 
 dn_printable : (b : Bool) → Printable (dn_text b)
 dn_printable true = refl
@@ -105,25 +107,43 @@ rule_printable a =
 
 matching_rule_printable : (a : MatchingRuleAssertion) → Printable (matching_rule_text a)
 matching_rule_printable a =
-    both (optional_word [] a.attribute) (rule_text a ++ (codes ":=" ++ closed_value a.value)) (optional_word_printable [] a.attribute refl)
-    (both (rule_text a) (codes ":=" ++ closed_value a.value) (rule_printable a) (closed_printable a.value))
+    both (optional_word [] a.type_) (rule_text a ++ (codes ":=" ++ closed_value a.match_value)) (optional_word_printable [] a.type_ refl)
+    (both (rule_text a) (codes ":=" ++ closed_value a.match_value) (rule_printable a) (closed_printable a.match_value))
 
-mutual
-  pub filter_printable : (filter : Filter) → Printable (filter_text filter)
-  filter_printable (And' shape filters) = both (filters_text filters) (codes ")") (filters_printable filters) refl
-  filter_printable (Or' shape filters) = both (filters_text filters) (codes ")") (filters_printable filters) refl
-  filter_printable (Not' place inner) = both (filter_text inner) (codes ")") (filter_printable inner) refl
-  filter_printable (EqualityMatch assertion) = assertion_printable (codes "=") assertion refl
-  filter_printable (Substrings assertion) = substrings_printable assertion
-  filter_printable (GreaterOrEqual assertion) = assertion_printable (codes ">=") assertion refl
-  filter_printable (LessOrEqual assertion) = assertion_printable (codes "<=") assertion refl
-  filter_printable (Present attribute) = present_printable attribute
-  filter_printable (ApproxMatch assertion) = assertion_printable (codes "~=") assertion refl
-  filter_printable (ExtensibleMatch assertion) = matching_rule_printable assertion
+-- a filter with a printable text
+abbrev PrintableFilter : Type 0
+PrintableFilter = (filter : Filter) × Printable (filter_text filter)
 
-  filters_printable : {m : _} (filters : Row_of-Filter m) → Printable (filters_text filters)
-  filters_printable end_of-Filter = refl
-  filters_printable (more_of-Filter filter rest) = both (filter_text filter) (filters_text rest) (filter_printable filter) (filters_printable rest)
+-- the texts of such filters, one after another
+abbrev all_texts : List PrintableFilter → List ℕ
+all_texts filters = flat_map (λ text. text) (map filter_text (map (λ inner. inner.0) filters))
+
+texts_printable : (filters : List PrintableFilter) → Printable (all_texts filters)
+texts_printable [] = refl
+texts_printable (filter ∷ rest) = both (filter_text filter.0) (all_texts rest) filter.1 (texts_printable rest)
+
+-- the text of what a filter is made of, of such filters
+abbrev text_of : Filter-F PrintableFilter → FilterOf PrintableFilter → List ℕ
+text_of f content = content_text (λ text. text) (map-Filter Filter (List ℕ) filter_text
+    (map-Filter PrintableFilter Filter (λ inner. inner.0) (record f { 0 = record f.0 { value = content } }))).0.value
+
+content_printable : (f : Filter-F PrintableFilter) (content : FilterOf PrintableFilter) → Printable (text_of f content)
+content_printable f (And filters) = both (all_texts filters) (codes ")") (texts_printable filters) refl
+content_printable f (Or filters) = both (all_texts filters) (codes ")") (texts_printable filters) refl
+content_printable f (Not inner) = both (filter_text inner.0) (codes ")") inner.1 refl
+content_printable f (EqualityMatch assertion) = assertion_printable (codes "=") assertion refl
+content_printable f (Substrings assertion) = substrings_printable assertion
+content_printable f (GreaterOrEqual assertion) = assertion_printable (codes ">=") assertion refl
+content_printable f (LessOrEqual assertion) = assertion_printable (codes "<=") assertion refl
+content_printable f (Present attribute) = present_printable attribute
+content_printable f (ApproxMatch assertion) = assertion_printable (codes "~=") assertion refl
+content_printable f (ExtensibleMatch assertion) = matching_rule_printable assertion
+
+pub filter_printable : (filter : Filter) → Printable (filter_text filter)
+filter_printable = ind-Filter (λ filter. Printable (filter_text filter)) (λ x y is.
+    subst Printable (sym (fold-roll-Filter (List ℕ) (λ f. content_text (λ text. text) f.0.value) x))
+    (subst (λ z. Printable (content_text (λ text. text) (map-Filter Filter (List ℕ) filter_text z).0.value)) is
+    (content_printable y y.0.value)))
 
 -- each character of a filter's text passes the test
 pub filter_passes : (filter : Filter) → AllPass is_printable (filter_text filter)

@@ -41,7 +41,7 @@ use Rattle.asn1_ldap_text.specs.Searches.{after_blank, aliases_name, aliases_tex
 use Rattle.asn1_ldap_text.specs.Strings.{after_space, named, named_unless_empty, optional_word, quoted, word}
 use Rattle.asn1_ldap_text.proofs.Printable.{Printable, both, each, either, integer_printable}
 use Rattle.asn1_ldap_text.proofs.PrintableFilters.{attribute_printable, attributes_printable, filter_printable, length_printable, named_unless_empty_printable, optional_length_printable, optional_word_printable, quoted_printable, values_printable, word_printable}
-use Rattle.asn1_recursive.specs.declared.attribute_value_assertion.AttributeValueAssertion.{AttributeValueAssertion}
+use Rattle.asn1_ldap.specs.declared.attribute_value_assertion.AttributeValueAssertion.{AttributeValueAssertion}
 use Rattle.asn1_values.specs.Text.{integer_text}
 
 -- ---- results
@@ -163,7 +163,7 @@ modify_dn_request_printable r =
     (both (old_rdn_text r.deleteoldrdn) (superior_text r.new_superior) (old_rdn_printable r.deleteoldrdn) (superior_printable r.new_superior)))
 
 compared_printable : (a : AttributeValueAssertion) → Printable (compared_text a)
-compared_printable a = both (word a.attribute) (named (codes " ") a.value) (word_printable a.attribute) (quoted_printable a.value)
+compared_printable a = both (word a.attribute_desc) (named (codes " ") a.assertion_value) (word_printable a.attribute_desc) (quoted_printable a.assertion_value)
 
 compare_request_printable : (r : CompareRequest) → Printable (compare_request_text r)
 compare_request_printable r = both (quoted r.entry) (compared_text r.ava) (quoted_printable r.entry) (compared_printable r.ava)

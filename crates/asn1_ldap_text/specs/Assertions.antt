@@ -4,11 +4,11 @@ use Rattle.std.specs.List.{flat_map}
 use Rattle.asn1_ldap_text.specs.Escapes.{escaped_text}
 use Rattle.asn1_ldap_text.specs.Strings.{optional_word, word}
 use Rattle.asn1_ldap_text.specs.declared.escapes.Place.TheVariants.{Assertion}
-use Rattle.asn1_recursive.specs.declared.attribute_value_assertion.AttributeValueAssertion.{AttributeValueAssertion}
-use Rattle.asn1_recursive.specs.declared.matching_rule_assertion.MatchingRuleAssertion.{MatchingRuleAssertion}
-use Rattle.asn1_recursive.specs.declared.substring.Substring.{Substring}
-use Rattle.asn1_recursive.specs.declared.substring.Substring.TheVariants.{Initial, Any, Final}
-use Rattle.asn1_recursive.specs.declared.substring_filter.SubstringFilter.{SubstringFilter}
+use Rattle.asn1_ldap.specs.declared.attribute_value_assertion.AttributeValueAssertion.{AttributeValueAssertion}
+use Rattle.asn1_ldap.specs.declared.matching_rule_assertion.MatchingRuleAssertion.{MatchingRuleAssertion}
+use Rattle.asn1_ldap.specs.declared.substring_filter_substrings_element.SubstringFilterSubstringsElement.{SubstringFilterSubstringsElement as Substring}
+use Rattle.asn1_ldap.specs.declared.substring_filter_substrings_element.SubstringFilterSubstringsElement.TheVariants.{Initial, Any, Final}
+use Rattle.asn1_ldap.specs.declared.substring_filter.SubstringFilter.{SubstringFilter}
 
 -- a value, and the parenthesis that closes its assertion
 abbrev pub closed_value : List ℕ → List ℕ
@@ -16,7 +16,7 @@ closed_value value = escaped_text Assertion value ++ codes ")"
 
 -- `simple`, with its operator
 abbrev pub assertion_text : List ℕ → AttributeValueAssertion → List ℕ
-assertion_text operator a = codes "(" ++ (word a.attribute ++ (operator ++ closed_value a.value))
+assertion_text operator a = codes "(" ++ (word a.attribute_desc ++ (operator ++ closed_value a.assertion_value))
 
 -- `present`
 abbrev pub present_text : List ℕ → List ℕ
@@ -49,7 +49,7 @@ parts_text parts = lead_text parts ++ (flat_map part_text parts ++ codes ")")
 
 -- `substring`
 abbrev pub substrings_text : SubstringFilter → List ℕ
-substrings_text a = codes "(" ++ (word a.attribute ++ (codes "=" ++ parts_text a.substrings.items))
+substrings_text a = codes "(" ++ (word a.type_ ++ (codes "=" ++ parts_text a.substrings.items))
 
 -- `dnattrs`, if the components of names are matched too
 abbrev pub dn_text : Bool → List ℕ
@@ -62,4 +62,4 @@ rule_text a = dn_text a.dn_attributes ++ optional_word (codes ":") a.matching_ru
 
 -- `extensible`
 abbrev pub matching_rule_text : MatchingRuleAssertion → List ℕ
-matching_rule_text a = codes "(" ++ (optional_word [] a.attribute ++ (rule_text a ++ (codes ":=" ++ closed_value a.value)))
+matching_rule_text a = codes "(" ++ (optional_word [] a.type_ ++ (rule_text a ++ (codes ":=" ++ closed_value a.match_value)))

@@ -12,7 +12,7 @@ use Rattle.asn1_ldap.specs.declared.modify_request_changes_element.ModifyRequest
 use Rattle.asn1_ldap.specs.declared.modify_request_changes_element_operation.ModifyRequestChangesElementOperation.{ModifyRequestChangesElementOperation}
 use Rattle.asn1_ldap_text.specs.Attributes.{after_comma, attribute_text}
 use Rattle.asn1_ldap_text.specs.Strings.{named, word}
-use Rattle.asn1_recursive.specs.declared.attribute_value_assertion.AttributeValueAssertion.{AttributeValueAssertion}
+use Rattle.asn1_ldap.specs.declared.attribute_value_assertion.AttributeValueAssertion.{AttributeValueAssertion}
 
 -- the name of what is done with an attribute
 abbrev pub change_name : ModifyRequestChangesElementOperation → List ℕ
@@ -49,7 +49,7 @@ modify_dn_request_text r = named (codes "modify DN request: name ") r.entry ++ n
 
 -- the attribute and the value that are compared
 abbrev pub compared_text : AttributeValueAssertion → List ℕ
-compared_text a = codes ", " ++ (word a.attribute ++ named (codes " ") a.value)
+compared_text a = codes ", " ++ (word a.attribute_desc ++ named (codes " ") a.assertion_value)
 
 -- a request to compare a value
 abbrev pub compare_request_text : CompareRequest → List ℕ

@@ -15,7 +15,7 @@ use Rattle.asn1_ldap.specs.declared.search_result_entry.SearchResultEntry.{Searc
 use Rattle.asn1_ldap_text.specs.Attributes.{after_comma}
 use Rattle.asn1_ldap_text.specs.Filters.{filter_text}
 use Rattle.asn1_ldap_text.specs.Strings.{after_space, named, word}
-use Rattle.asn1_recursive.specs.declared.filter.Filter.{Filter}
+use Rattle.asn1_ldap.specs.declared.filter.Filter.{Filter}
 use Rattle.asn1_values.specs.Text.{integer_text}
 
 -- the name of a scope

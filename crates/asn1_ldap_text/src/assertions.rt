@@ -6,7 +6,10 @@ ghost use Rattle.asn1_ldap_text.specs.Assertions.{assertion_text, closed_value, 
 
 use crate::escapes::{Place, push_escaped};
 use crate::strings::{push_optional_word, push_word};
-use asn1_recursive::{AttributeValueAssertion, MatchingRuleAssertion, Substring, SubstringFilter};
+use asn1_ldap::{
+    AttributeValueAssertion, MatchingRuleAssertion, SubstringFilter,
+    SubstringFilterSubstringsElement as Substring,
+};
 use asn1_values::OctetString;
 use std::alloc::AllocError;
 
@@ -20,9 +23,9 @@ pub(crate) fn push_assertion(
         string_bytes text.old ++ assertion_text operator.now assertion.now) }
 {
     text.push_str("(")?;
-    push_word(text, assertion.attribute.as_slice())?;
+    push_word(text, assertion.attribute_desc.as_slice())?;
     text.push_str(operator)?;
-    push_value(text, assertion.value.as_slice())
+    push_value(text, assertion.assertion_value.as_slice())
 }
 
 /// Appends the assertion that an attribute is there: `present`.
@@ -44,7 +47,7 @@ pub(crate) fn push_substrings(
         string_bytes text.old ++ substrings_text assertion.now) }
 {
     text.push_str("(")?;
-    push_word(text, assertion.attribute.as_slice())?;
+    push_word(text, assertion.type_.as_slice())?;
     text.push_str("=")?;
     push_parts(text, assertion.substrings.as_slice())
 }
@@ -58,10 +61,10 @@ pub(crate) fn push_matching_rule(
         string_bytes text.old ++ matching_rule_text assertion.now) }
 {
     text.push_str("(")?;
-    push_optional_word(text, "", &assertion.attribute)?;
+    push_optional_word(text, "", &assertion.type_)?;
     push_rule(text, assertion)?;
     text.push_str(":=")?;
-    push_value(text, assertion.value.as_slice())
+    push_value(text, assertion.match_value.as_slice())
 }
 
 /// Appends a value, and the parenthesis that closes its assertion.

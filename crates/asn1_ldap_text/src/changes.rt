@@ -8,9 +8,9 @@ use crate::attributes::{push_attribute, push_attributes};
 use crate::items::push_item;
 use crate::strings::{push_named, push_word};
 use asn1_ldap::{
-    AddRequest, CompareRequest, ModifyDnRequest, ModifyRequest, ModifyRequestChangesElement,
+    AddRequest, AttributeValueAssertion, CompareRequest, ModifyDnRequest, ModifyRequest,
+    ModifyRequestChangesElement,
 };
-use asn1_recursive::AttributeValueAssertion;
 use asn1_values::OctetString;
 use std::alloc::AllocError;
 
@@ -121,6 +121,6 @@ fn push_compared(text: &mut String, assertion: &AttributeValueAssertion) -> Resu
         string_bytes text.old ++ compared_text assertion.now) }
 {
     text.push_str(", ")?;
-    push_word(text, assertion.attribute.as_slice())?;
-    push_named(text, " ", assertion.value.as_slice())
+    push_word(text, assertion.attribute_desc.as_slice())?;
+    push_named(text, " ", assertion.assertion_value.as_slice())
 }

@@ -7,7 +7,7 @@ ghost use Rattle.asn1_ldap_text.specs.Filters.{filter_text};
 
 use crate::assertions::{push_assertion, push_matching_rule, push_present, push_substrings};
 use crate::sets::elements;
-use asn1_recursive::Filter;
+use asn1_ldap::{Filter, FilterOf};
 use std::alloc::{AllocError, Global};
 
 /// The text of a filter. It fails only if memory runs out.
@@ -26,21 +26,21 @@ pub(crate) fn push_filter(text: &mut String, filter: &Filter) -> Result<(), Allo
     ensures { OnOk result (string_bytes text.new ≡
         string_bytes text.old ++ filter_text filter.now) }
 {
-    match filter {
-        Filter::And(filters) => push_set(text, "(&", elements(filters)),
-        Filter::Or(filters) => push_set(text, "(|", elements(filters)),
-        Filter::Not(inner) => {
+    match &*filter.0 {
+        FilterOf::And(filters) => push_set(text, "(&", elements(filters)),
+        FilterOf::Or(filters) => push_set(text, "(|", elements(filters)),
+        FilterOf::Not(inner) => {
             text.push_str("(!")?;
             push_filter(text, inner)?;
             text.push_str(")")
         }
-        Filter::EqualityMatch(assertion) => push_assertion(text, "=", assertion),
-        Filter::Substrings(assertion) => push_substrings(text, assertion),
-        Filter::GreaterOrEqual(assertion) => push_assertion(text, ">=", assertion),
-        Filter::LessOrEqual(assertion) => push_assertion(text, "<=", assertion),
-        Filter::Present(attribute) => push_present(text, attribute),
-        Filter::ApproxMatch(assertion) => push_assertion(text, "~=", assertion),
-        Filter::ExtensibleMatch(assertion) => push_matching_rule(text, assertion),
+        FilterOf::EqualityMatch(assertion) => push_assertion(text, "=", assertion),
+        FilterOf::Substrings(assertion) => push_substrings(text, assertion),
+        FilterOf::GreaterOrEqual(assertion) => push_assertion(text, ">=", assertion),
+        FilterOf::LessOrEqual(assertion) => push_assertion(text, "<=", assertion),
+        FilterOf::Present(attribute) => push_present(text, attribute),
+        FilterOf::ApproxMatch(assertion) => push_assertion(text, "~=", assertion),
+        FilterOf::ExtensibleMatch(assertion) => push_matching_rule(text, assertion),
     }
 }
 

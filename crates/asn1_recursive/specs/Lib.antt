@@ -1,3 +1,1 @@
-pub mod FilterAlternatives
-pub mod FilterCases
 pub mod NestedAlternatives

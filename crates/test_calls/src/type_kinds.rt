@@ -3,7 +3,7 @@ use crate::hollow::Hollow;
 use crate::marker_tags::{ApplicationTag, ContextTag, PrivateTag};
 use crate::named_types::{TypeCase, TypeNames};
 use asn1_open::Open;
-use asn1_recursive::{Filter, Nested};
+use asn1_recursive::Nested;
 use asn1_samples::{
     Badge, Color, Corner, Envelope, Gauge, Labelled, Node, Notice, Pair, Person, Plate, Profile,
     Settings, Shape, Ticket, Visit,
@@ -212,7 +212,6 @@ impl TypeNames for Samples {
             "Corner" => Some(case.try_type::<Corner>()),
             "Color" => Some(case.try_type::<Color>()),
             "Open" => Some(case.try_type::<Open>()),
-            "Filter" => Some(case.try_type::<Filter>()),
             "Nested" => Some(case.try_type::<Nested>()),
             _ => None,
         }

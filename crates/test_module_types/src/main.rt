@@ -1,8 +1,8 @@
 //! Asks codecs of types of modules, by lines that it reads from standard input, and writes a line for each to standard output.
 //!
-//! The lines are those of `test_vectors`. The types are written over `asn1_schema`, most by `asn1_compile`: the messages of LDAP, the
-//! names of certificates, and the first type of docs/TYPES.md. So `test_calls`, which most tests of codecs use, waits for none of
-//! them. The stored run is the test: Erlang's asn1ct and OpenSSL made octets and answers, as each line says.
+//! The lines are those of `test_vectors`. The types are written over `asn1_schema`, most by `asn1_compile`: the messages of LDAP and
+//! their filters, the names of certificates, and the first type of docs/TYPES.md. So `test_calls`, which most tests of codecs use,
+//! waits for none of them. The stored run is the test: octets and answers were made as those of `test_vectors`, as each line says.
 #![tactic(auto)]
 
 mod module_types;

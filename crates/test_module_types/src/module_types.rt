@@ -2,7 +2,7 @@
 use asn1_bench::BenchRules;
 use asn1_ber::BerRules;
 use asn1_der::DerRules;
-use asn1_ldap::LdapMessage;
+use asn1_ldap::{Filter, LdapMessage};
 use asn1_tagform::TagRules;
 use asn1_user_types::Price;
 use asn1_x509::RdnSequence;
@@ -17,18 +17,19 @@ impl TypeNames for ModuleTypes {
         match name {
             "LdapMessage" => Some(case.try_type::<LdapMessage>()),
             "RdnSequence" => Some(case.try_type::<RdnSequence>()),
-            _ => Shop.try_named(case, name),
+            _ => SmallTypes.try_named(case, name),
         }
     }
 }
 
-/// The type of a shop, in the packed form and in the tag form too.
+/// Filters and the type of a shop, in the packed form and in the tag form too.
 #[derive(Clone, Copy, Drop)]
-struct Shop;
+struct SmallTypes;
 
-impl TypeNames for Shop {
+impl TypeNames for SmallTypes {
     fn try_named<C: TypeCase>(&self, case: &C, name: &str) -> Option<C::Answer> {
         match name {
+            "Filter" => Some(case.try_type::<Filter>()),
             "Price" => Some(case.try_type::<Price>()),
             _ => None,
         }
@@ -42,10 +43,10 @@ impl Answers for ModuleTypes {
         match asked.conversion() {
             Some((Codec::Der, Codec::Der)) => converted(self, asked, &der, &der),
             Some((Codec::Ber, Codec::Der)) => converted(self, asked, &ber, &der),
-            Some((Codec::Packed, Codec::Der)) => converted(&Shop, asked, &packed, &der),
-            Some((Codec::Der, Codec::Packed)) => converted(&Shop, asked, &der, &packed),
-            Some((Codec::TagForm, Codec::Der)) => converted(&Shop, asked, &tags, &der),
-            Some((Codec::Der, Codec::TagForm)) => converted(&Shop, asked, &der, &tags),
+            Some((Codec::Packed, Codec::Der)) => converted(&SmallTypes, asked, &packed, &der),
+            Some((Codec::Der, Codec::Packed)) => converted(&SmallTypes, asked, &der, &packed),
+            Some((Codec::TagForm, Codec::Der)) => converted(&SmallTypes, asked, &tags, &der),
+            Some((Codec::Der, Codec::TagForm)) => converted(&SmallTypes, asked, &der, &tags),
             _ => None,
         }
     }

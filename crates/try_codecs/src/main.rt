@@ -21,8 +21,8 @@
 //!
 //! The answer to `changed` has the places at which not one byte alone makes a value, each with the number of such bytes. If
 //! `DEPTH` is too small to write the value of `nest`, it is written without a limit. `CODEC` and `TYPE` are as in `test_vectors`,
-//! of the lists that `trial.rt` names; after `nest` and `drop` the type is `node`, `not` or `and` for two kinds of filter, `nested`
-//! or `open`. Lines that are empty or begin with `#` are written as they are, and ` ; ` begins a comment.
+//! of the lists that `trial.rt` names; after `nest` and `drop` the type is `node`, `nested` or `open`. Lines that are empty or begin
+//! with `#` are written as they are, and ` ; ` begins a comment.
 //!
 //! No contract covers the answers. The theorem of `round_trip` is that a valid value comes back, and each call is proved to panic
 //! for nothing; the program asks both of what was built.

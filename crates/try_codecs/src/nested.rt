@@ -2,8 +2,8 @@
 use asn1_dec::Decode;
 use asn1_enc::{Encode, EncodeError};
 use asn1_open::Open;
-use asn1_recursive::{Filter, Nested};
-use asn1_types::{InstanceOf, SetOf};
+use asn1_recursive::Nested;
+use asn1_types::InstanceOf;
 use std::alloc::Global;
 use std::io;
 use test_calls::made::units;
@@ -21,8 +21,6 @@ pub(crate) fn run(rt: &impl Print, alloc: Global, request: &Request<'_>) -> io::
             node_chain(alloc, levels).map_err(Failure::from),
             request,
         ),
-        "not" => go(rt, alloc, nots(alloc, levels), request),
-        "and" => go(rt, alloc, ands(alloc, levels), request),
         "nested" => go(rt, alloc, flag_inside(alloc, levels), request),
         "open" => go(rt, alloc, null_inside_instances(alloc, levels), request),
         _ => println!(rt; "not understood"),
@@ -123,29 +121,4 @@ fn instance(alloc: Global, value: Open) -> Result<Open, Failure> {
         Ok(instance) => Ok(Open::InstanceOf(instance)),
         Err(_) => Err(Failure::Memory),
     }
-}
-
-/// A filter for a name inside this many NOT, one in another.
-fn nots(alloc: Global, around: usize) -> Result<Filter, Failure> {
-    let mut filter = units(alloc, b"cn").map(Filter::Present)?;
-    for _level in 0..around {
-        filter = match Box::new(alloc, filter) {
-            Ok(inner) => Filter::Not(inner),
-            Err(_) => return Err(Failure::Memory),
-        };
-    }
-    Ok(filter)
-}
-
-/// A filter for a name inside this many AND of one, one in another.
-fn ands(alloc: Global, around: usize) -> Result<Filter, Failure> {
-    let mut filter = units(alloc, b"cn").map(Filter::Present)?;
-    for _level in 0..around {
-        let mut filters = SetOf::new(alloc);
-        filter = match filters.insert(filter) {
-            Ok(()) => Filter::And(filters),
-            Err(_) => return Err(Failure::Memory),
-        };
-    }
-    Ok(filter)
 }

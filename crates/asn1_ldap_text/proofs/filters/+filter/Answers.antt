@@ -1,8 +1,11 @@
-use Rattle.asn1_ldap_text.proofs.FilterTexts.{filter_text-And, filter_text-Or}
+use Rattle.std.proofs.Common.{sym}
+use Rattle.asn1_ldap_text.proofs.FilterTexts.{filter_text_is}
 use Rattle.asn1_ldap_text.proofs.filters.+filter.Goals as goal
 
 pub push_filter-returns-in-And : goal.push_filter-returns-in-And
-push_filter-returns-in-And t c = rw (c.in-And.is, filter_text-And c.in-And.filters) (rw c.elements.ensures at c.push_set.ensures)
+push_filter-returns-in-And t c =
+    rw (filter_text_is c.args.filter.now, sym c.deref.ensures, c.in-And.is) (rw c.elements.ensures at c.push_set.ensures)
 
 pub push_filter-returns-in-Or : goal.push_filter-returns-in-Or
-push_filter-returns-in-Or t c = rw (c.in-Or.is, filter_text-Or c.in-Or.filters) (rw c.elements-in-Or.ensures at c.push_set-in-Or.ensures)
+push_filter-returns-in-Or t c =
+    rw (filter_text_is c.args.filter.now, sym c.deref.ensures, c.in-Or.is) (rw c.elements-in-Or.ensures at c.push_set-in-Or.ensures)

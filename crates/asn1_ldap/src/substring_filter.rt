@@ -1,42 +1,44 @@
-//! `SubstringFilter ::= SEQUENCE { type AttributeDescription, substrings SEQUENCE SIZE (1..MAX) OF substring CHOICE { .. } }` (RFC
-//! 4511, 4.5.1)
+//! `SubstringFilter` of the module `Lightweight-Directory-Access-Protocol-V3`.
+//!
+//! ```text
+//! SubstringFilter ::= SEQUENCE {
+//!     type AttributeDescription,
+//!     substrings SEQUENCE (SIZE (1..MAX)) OF substring CHOICE { .. }
+//! }
+//! ```
 ghost use Rattle.std.specs.Prelude.{[], codes, ◌∷◌};
-ghost use Rattle.asn1_slots.specs.Slots.{required_slot, sequence_of_slots};
-ghost use Rattle.asn1_types.specs.Words.{IsWellTagged, constructed_agrees, constructed_type, untagged};
+ghost use Rattle.asn1_schema.specs.Words.{IsWellTagged, constructed_agrees, constructed_type, extensible_sequence_after, required_slot, untagged};
 
-use crate::substring::Substring;
-use asn1_dec::{Decode, DecodeError, Decoder};
-use asn1_enc::{Encode, EncodeError, EncodeFields, Encoder};
-use asn1_slots::{DecodeByIndex, Decoded, Tagging, decode_sequence_naming_errors, required};
-use asn1_types::{
-    AsnType, Constraints, ConstructedType, Field, FieldTable, Identifier, Tag, TypeTable,
+use crate::aliases::AttributeDescription;
+use crate::substring_filter_substrings_element::SubstringFilterSubstringsElement;
+use asn1_schema::{
+    AsnType, Constraints, ConstructedType, Decode, DecodeByIndex, DecodeError, Decoded, Decoder,
+    Encode, EncodeError, EncodeFields, Encoder, Field, FieldTable, Identifier, Tag, Tagging,
+    TypeTable, decode_sequence_naming_errors, required,
 };
-use asn1_values::OctetString;
 use std::alloc::{AllocError, Global};
 
-/// The parts of a text, in their order.
-pub type Substrings = Vec<Substring>;
-
-/// The parts that a text has to contain. The caller ensures that there is one, and that none is before the first or after the last.
+/// `SubstringFilter` of the module `Lightweight-Directory-Access-Protocol-V3`.
 #[derive(PartialEq, Eq, Debug, Drop)]
 pub struct SubstringFilter {
     /// `type AttributeDescription`
-    pub attribute: OctetString,
-    /// `substrings SEQUENCE SIZE (1..MAX) OF substring CHOICE { .. }`
-    pub substrings: Substrings,
+    pub type_: AttributeDescription,
+    /// `substrings SEQUENCE (SIZE (1..MAX)) OF substring CHOICE { .. }`
+    pub substrings: Vec<SubstringFilterSubstringsElement>,
 }
 
 impl DecodeByIndex for SubstringFilter {
-    type Slots = (Option<OctetString>, Option<Substrings>);
+    type Slots = (
+        Option<AttributeDescription>,
+        Option<Vec<SubstringFilterSubstringsElement>>,
+    );
 
-    ghost layout = { required_slot (codes "type") (λ v. v.attribute) (λ s. s.0)
-        (untagged ⟦<OctetString as AsnType>⟧.meaning) ⟦<OctetString as PartialEq>⟧.eq ∷
-        required_slot (codes "substrings") (λ v. v.substrings) (λ s. s.1)
-        (untagged ⟦<Substrings as AsnType>⟧.meaning) ⟦<Substrings as PartialEq>⟧.eq ∷ [] };
+    ghost layout = { required_slot (codes "type") (λ v. v.type_) (λ s. s.0) (untagged ⟦<AttributeDescription as AsnType>⟧.meaning) ⟦<AttributeDescription as PartialEq>⟧.eq ∷
+        required_slot (codes "substrings") (λ v. v.substrings) (λ s. s.1) (untagged ⟦<Vec<SubstringFilterSubstringsElement> as AsnType>⟧.meaning) ⟦<Vec<SubstringFilterSubstringsElement> as PartialEq>⟧.eq ∷ [] };
 
-    fn full(_alloc: Global, slots: Self::Slots) -> Result<SubstringFilter, AllocError> {
-        Ok(SubstringFilter {
-            attribute: slots.0.unwrap(),
+    fn full(_alloc: Global, slots: Self::Slots) -> Result<Self, AllocError> {
+        Ok(Self {
+            type_: slots.0.unwrap(),
             substrings: slots.1.unwrap(),
         })
     }
@@ -51,7 +53,7 @@ impl DecodeByIndex for SubstringFilter {
 }
 
 impl FieldTable for SubstringFilter {
-    ghost components = { sequence_of_slots ⟦<SubstringFilter as DecodeByIndex>⟧.layout };
+    ghost components = { extensible_sequence_after 2 ⟦<SubstringFilter as DecodeByIndex>⟧.layout };
 
     fn field_count() -> usize {
         2
@@ -59,14 +61,17 @@ impl FieldTable for SubstringFilter {
 
     fn field_at(index: usize) -> Option<Field<'static>> {
         match index {
-            0 => Some(Field::new_required_type::<OctetString>(0, "type")),
-            1 => Some(Field::new_required_type::<Substrings>(1, "substrings")),
+            0 => Some(Field::new_required_type::<AttributeDescription>(0, "type")),
+            1 => Some(Field::new_required_type::<Vec<SubstringFilterSubstringsElement>>(
+                1,
+                "substrings",
+            )),
             _ => None,
         }
     }
 
     fn extension_index() -> Option<usize> {
-        None
+        Some(2)
     }
 }
 
@@ -86,7 +91,7 @@ impl ConstructedType for SubstringFilter {
     ghost agrees = { constructed_agrees };
 }
 
-/// A `SubstringFilter` is well tagged.
+/// A `SubstringFilter` can be inside other types.
 pub fn substring_filter_is_well_tagged()
     ensures { IsWellTagged ⟦<SubstringFilter as AsnType>⟧.meaning }
 {}
@@ -106,7 +111,7 @@ impl Encode for SubstringFilter {
 impl EncodeFields for SubstringFilter {
     fn encode_field<E: Encoder>(&self, index: usize, encoder: &mut E) -> Result<(), EncodeError> {
         match index {
-            0 => self.attribute.encode(encoder),
+            0 => self.type_.encode(encoder),
             1 => self.substrings.encode(encoder),
             _ => Ok(()),
         }
@@ -118,7 +123,7 @@ impl Decode for SubstringFilter {
         decoder: &mut D,
         tag: Tag,
         constraints: &Constraints<'_>,
-    ) -> Result<SubstringFilter, DecodeError> {
+    ) -> Result<Self, DecodeError> {
         decode_sequence_naming_errors(decoder, tag, constraints)
     }
 }

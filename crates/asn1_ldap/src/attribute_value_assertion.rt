@@ -1,39 +1,41 @@
-//! `AttributeValueAssertion ::= SEQUENCE { attributeDesc AttributeDescription, assertionValue AssertionValue }` (RFC 4511, 4.1.6), of
-//! which both are an OCTET STRING.
+//! `AttributeValueAssertion` of the module `Lightweight-Directory-Access-Protocol-V3`.
+//!
+//! ```text
+//! AttributeValueAssertion ::= SEQUENCE {
+//!     attributeDesc AttributeDescription,
+//!     assertionValue AssertionValue
+//! }
+//! ```
 ghost use Rattle.std.specs.Prelude.{[], codes, ◌∷◌};
-ghost use Rattle.asn1_slots.specs.Slots.{required_slot, sequence_of_slots};
-ghost use Rattle.asn1_types.specs.Words.{IsWellTagged, constructed_agrees, constructed_type, untagged};
+ghost use Rattle.asn1_schema.specs.Words.{IsWellTagged, constructed_agrees, constructed_type, extensible_sequence_after, required_slot, untagged};
 
-use asn1_dec::{Decode, DecodeError, Decoder};
-use asn1_enc::{Encode, EncodeError, EncodeFields, Encoder};
-use asn1_slots::{DecodeByIndex, Decoded, Tagging, decode_sequence_naming_errors, required};
-use asn1_types::{
-    AsnType, Constraints, ConstructedType, Field, FieldTable, Identifier, Tag, TypeTable,
+use crate::aliases::{AssertionValue, AttributeDescription};
+use asn1_schema::{
+    AsnType, Constraints, ConstructedType, Decode, DecodeByIndex, DecodeError, Decoded, Decoder,
+    Encode, EncodeError, EncodeFields, Encoder, Field, FieldTable, Identifier, Tag, Tagging,
+    TypeTable, decode_sequence_naming_errors, required,
 };
-use asn1_values::OctetString;
 use std::alloc::{AllocError, Global};
 
-/// An assertion on an attribute: its name, and a value.
+/// `AttributeValueAssertion` of the module `Lightweight-Directory-Access-Protocol-V3`.
 #[derive(PartialEq, Eq, Debug, Drop)]
 pub struct AttributeValueAssertion {
     /// `attributeDesc AttributeDescription`
-    pub attribute: OctetString,
+    pub attribute_desc: AttributeDescription,
     /// `assertionValue AssertionValue`
-    pub value: OctetString,
+    pub assertion_value: AssertionValue,
 }
 
 impl DecodeByIndex for AttributeValueAssertion {
-    type Slots = (Option<OctetString>, Option<OctetString>);
+    type Slots = (Option<AttributeDescription>, Option<AssertionValue>);
 
-    ghost layout = { required_slot (codes "attributeDesc") (λ v. v.attribute) (λ s. s.0)
-        (untagged ⟦<OctetString as AsnType>⟧.meaning) ⟦<OctetString as PartialEq>⟧.eq ∷
-        required_slot (codes "assertionValue") (λ v. v.value) (λ s. s.1)
-        (untagged ⟦<OctetString as AsnType>⟧.meaning) ⟦<OctetString as PartialEq>⟧.eq ∷ [] };
+    ghost layout = { required_slot (codes "attributeDesc") (λ v. v.attribute_desc) (λ s. s.0) (untagged ⟦<AttributeDescription as AsnType>⟧.meaning) ⟦<AttributeDescription as PartialEq>⟧.eq ∷
+        required_slot (codes "assertionValue") (λ v. v.assertion_value) (λ s. s.1) (untagged ⟦<AssertionValue as AsnType>⟧.meaning) ⟦<AssertionValue as PartialEq>⟧.eq ∷ [] };
 
-    fn full(_alloc: Global, slots: Self::Slots) -> Result<AttributeValueAssertion, AllocError> {
-        Ok(AttributeValueAssertion {
-            attribute: slots.0.unwrap(),
-            value: slots.1.unwrap(),
+    fn full(_alloc: Global, slots: Self::Slots) -> Result<Self, AllocError> {
+        Ok(Self {
+            attribute_desc: slots.0.unwrap(),
+            assertion_value: slots.1.unwrap(),
         })
     }
 
@@ -47,7 +49,7 @@ impl DecodeByIndex for AttributeValueAssertion {
 }
 
 impl FieldTable for AttributeValueAssertion {
-    ghost components = { sequence_of_slots ⟦<AttributeValueAssertion as DecodeByIndex>⟧.layout };
+    ghost components = { extensible_sequence_after 2 ⟦<AttributeValueAssertion as DecodeByIndex>⟧.layout };
 
     fn field_count() -> usize {
         2
@@ -55,14 +57,14 @@ impl FieldTable for AttributeValueAssertion {
 
     fn field_at(index: usize) -> Option<Field<'static>> {
         match index {
-            0 => Some(Field::new_required_type::<OctetString>(0, "attributeDesc")),
-            1 => Some(Field::new_required_type::<OctetString>(1, "assertionValue")),
+            0 => Some(Field::new_required_type::<AttributeDescription>(0, "attributeDesc")),
+            1 => Some(Field::new_required_type::<AssertionValue>(1, "assertionValue")),
             _ => None,
         }
     }
 
     fn extension_index() -> Option<usize> {
-        None
+        Some(2)
     }
 }
 
@@ -82,7 +84,7 @@ impl ConstructedType for AttributeValueAssertion {
     ghost agrees = { constructed_agrees };
 }
 
-/// An `AttributeValueAssertion` is well tagged.
+/// An `AttributeValueAssertion` can be inside other types.
 pub fn attribute_value_assertion_is_well_tagged()
     ensures { IsWellTagged ⟦<AttributeValueAssertion as AsnType>⟧.meaning }
 {}
@@ -102,8 +104,8 @@ impl Encode for AttributeValueAssertion {
 impl EncodeFields for AttributeValueAssertion {
     fn encode_field<E: Encoder>(&self, index: usize, encoder: &mut E) -> Result<(), EncodeError> {
         match index {
-            0 => self.attribute.encode(encoder),
-            1 => self.value.encode(encoder),
+            0 => self.attribute_desc.encode(encoder),
+            1 => self.assertion_value.encode(encoder),
             _ => Ok(()),
         }
     }
@@ -114,7 +116,7 @@ impl Decode for AttributeValueAssertion {
         decoder: &mut D,
         tag: Tag,
         constraints: &Constraints<'_>,
-    ) -> Result<AttributeValueAssertion, DecodeError> {
+    ) -> Result<Self, DecodeError> {
         decode_sequence_naming_errors(decoder, tag, constraints)
     }
 }

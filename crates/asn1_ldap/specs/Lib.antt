@@ -1,0 +1,5 @@
+pub mod Validity
+pub mod FilterLists
+pub mod FilterValidity
+pub mod FilterMeaning
+pub mod FilterReading

@@ -1,0 +1,42 @@
+//! The reader of `Filter`.
+ghost use Rattle.std.specs.Prelude.{◌<◌};
+ghost use Rattle.asn1_circles.specs.Words.{AfterReading, ReadsValue, constraint_set, said};
+ghost use Rattle.asn1_ldap.specs.FilterMeaning.{meaning};
+ghost use Rattle.asn1_ldap.specs.FilterReading.{ReadsKnot};
+
+use crate::filter::Filter;
+use crate::filter_of::FilterOf;
+use asn1_circles::{ReadError, close_knot, decode_choice_with};
+use asn1_schema::{Constraints, DecodeError, Decoder, Tag};
+
+/// Reads a value under a tag and constraints.
+#[cycle(filter_reader)]
+pub(crate) fn read_filter<E: ReadError, D: Decoder>(
+    decoder: &mut D,
+    tag: Tag,
+    constraints: &Constraints<'_>,
+) -> Result<Filter, DecodeError>
+    ensures read { ReadsValue D.reader meaning ⟦<Filter as PartialEq>⟧.eq tag
+        (constraint_set constraints.now) decoder.old decoder.new result }
+    ensures after_reading { AfterReading D.reader meaning tag (constraint_set constraints.now)
+        decoder.old decoder.new result }
+{
+    let depth = decoder.depth();
+    let read = move |inside: &mut D, at: Tag| -> Result<Filter, E>
+        requires { D.reader.depth_left inside.old < depth }
+        ensures { ReadsKnot D.reader at inside.old inside.new (said E.says result) }
+    {
+        let _ = &depth;
+        match read_filter::<E, D>(inside, at, &Constraints::NONE) {
+            Ok(value) => Ok(value),
+            Err(error) => Err(E::from_error(error)),
+        }
+    };
+    let of: Result<FilterOf<Filter>, DecodeError> = decode_choice_with(
+        decoder,
+        tag,
+        constraints,
+        &read,
+    );
+    close_knot(decoder, of)
+}
