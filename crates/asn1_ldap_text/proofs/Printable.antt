@@ -1,5 +1,5 @@
 -- Texts of printable characters: their parts, digits, and escaped octets.
-use Rattle.std.proofs.Common.{◌≡◌, ℕ, zero, suc, ◌+◌, ◌/◌, ◌%◌, ◌<◌, ◌≤◌, ◌==◌, ℤ, pos, negsuc, Bool, true, false, not, ◌&&◌, ◌||◌, List, [], ◌∷◌, ◌++◌, Option, None, Some, codes, cond, length, map, refl, ◌∙◌, arith}
+use Rattle.std.proofs.Common.{◌≡◌, ℕ, zero, suc, ◌+◌, ◌/◌, ◌%◌, ◌<◌, ◌≤◌, ◌==◌, ℤ, pos, negsuc, Bool, true, false, not, ◌&&◌, List, [], ◌∷◌, ◌++◌, cond, map, refl, ◌∙◌, arith}
 use Rattle.std.specs.Prelude.{unsigned_abs}
 use Rattle.std.specs.Fmt.{decimal, digit_glyph, digits, digits_onto, sign_text, signed_decimal}
 use Rattle.std.specs.Int.{is_negative}
@@ -10,7 +10,7 @@ use Rattle.std.proofs.lemmas.Int.Digits.{all_below_base_digits_of}
 use Rattle.std.proofs.lemmas.List.Folds.{list_all-append}
 use Rattle.asn1_values.specs.Decimal.{decimal_digits}
 use Rattle.asn1_values.specs.Text.{byte_text, integer_text, is_narrow}
-use Rattle.asn1_ldap_text.specs.Escapes.{escaped_text, is_plain, is_printable, is_special, octet_escaped, octet_text}
+use Rattle.asn1_ldap_text.specs.Escapes.{escaped_text, is_printable, is_special, octet_escaped, octet_text}
 use Rattle.asn1_ldap_text.specs.declared.escapes.Place.{Place}
 
 -- each character is printable

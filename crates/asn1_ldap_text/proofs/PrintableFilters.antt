@@ -1,5 +1,5 @@
 -- The texts of strings, attributes and filters are printable.
-use Rattle.std.proofs.Common.{◌≡◌, ℕ, Bool, true, false, List, [], ◌∷◌, ◌++◌, ◌==◌, Option, None, Some, codes, length, map, refl, subst, sym}
+use Rattle.std.proofs.Common.{ℕ, Bool, true, false, List, [], ◌∷◌, ◌++◌, ◌==◌, Option, None, Some, codes, length, map, refl, subst, sym}
 use Rattle.std.specs.Fmt.{decimal}
 use Rattle.std.specs.List.{AllPass, flat_map}
 use Rattle.std.proofs.lemmas.List.Sums.{AllPass-from_list_all}

@@ -1,8 +1,7 @@
 -- The texts of operations are printable.
-use Rattle.std.proofs.Common.{◌≡◌, ℕ, ℤ, pos, Bool, true, false, List, [], ◌∷◌, ◌++◌, ◌==◌, Option, None, Some, Vec, Global, codes, length, refl}
+use Rattle.std.proofs.Common.{ℕ, ℤ, pos, Bool, true, false, List, [], ◌++◌, ◌==◌, Option, None, Some, Vec, Global, codes, length, refl}
 use Rattle.std.specs.List.{flat_map}
 use Rattle.std.specs.Ordering.{int_eq}
-use Rattle.asn1_ldap.specs.contracts.search_request_deref_aliases.SearchRequestDerefAliasesPartialEq.TheImpl.{ghosts as alias_equality}
 use Rattle.asn1_ldap.specs.declared.add_request.AddRequest.{AddRequest}
 use Rattle.asn1_ldap.specs.declared.authentication_choice.AuthenticationChoice.{AuthenticationChoice}
 use Rattle.asn1_ldap.specs.declared.authentication_choice.AuthenticationChoice.TheVariants.{Simple, Sasl}
@@ -11,7 +10,6 @@ use Rattle.asn1_ldap.specs.declared.bind_response.BindResponse.{BindResponse}
 use Rattle.asn1_ldap.specs.declared.compare_request.CompareRequest.{CompareRequest}
 use Rattle.asn1_ldap.specs.declared.extended_request.ExtendedRequest.{ExtendedRequest}
 use Rattle.asn1_ldap.specs.declared.extended_response.ExtendedResponse.{ExtendedResponse}
-use Rattle.asn1_ldap.specs.declared.intermediate_response.IntermediateResponse.{IntermediateResponse}
 use Rattle.asn1_ldap.specs.declared.ldap_message_protocol_op.LdapMessageProtocolOp.{LdapMessageProtocolOp}
 use Rattle.asn1_ldap.specs.declared.ldap_message_protocol_op.LdapMessageProtocolOp.TheVariants as op
 use Rattle.asn1_ldap.specs.declared.ldap_result.LdapResult.{LdapResult}
@@ -32,13 +30,13 @@ use Rattle.asn1_ldap.specs.declared.search_result_entry.SearchResultEntry.{Searc
 use Rattle.asn1_ldap_text.specs.Attributes.{after_comma, attribute_text}
 use Rattle.asn1_ldap_text.specs.Binds.{authentication_text, bind_request_text, bind_response_text, sasl_text, version_text}
 use Rattle.asn1_ldap_text.specs.Changes.{add_request_text, change_name, change_text, compare_request_text, compared_text, modify_dn_request_text, modify_request_text, new_name_text, old_rdn_text, superior_text}
-use Rattle.asn1_ldap_text.specs.Extended.{extended_request_text, extended_response_text, intermediate_response_text, named_value_text}
+use Rattle.asn1_ldap_text.specs.Extended.{extended_request_text, extended_response_text, named_value_text}
 use Rattle.asn1_ldap_text.specs.Filters.{filter_text}
 use Rattle.asn1_ldap_text.specs.Lengths.{optional_length}
-use Rattle.asn1_ldap_text.specs.Operations.{abandon_text, operation_text}
+use Rattle.asn1_ldap_text.specs.Operations.{operation_text}
 use Rattle.asn1_ldap_text.specs.Results.{code_text, diagnosis_text, referral_text, response_text, result_text}
-use Rattle.asn1_ldap_text.specs.Searches.{after_blank, aliases_name, aliases_text, base_text, entry_text, limit_text, limits_text, reference_text, scope_text, search_filter_text, search_request_text, selection_text, types_only_text}
-use Rattle.asn1_ldap_text.specs.Strings.{after_space, named, named_unless_empty, optional_word, quoted, word}
+use Rattle.asn1_ldap_text.specs.Searches.{after_blank, aliases_text, base_text, entry_text, limit_text, limits_text, scope_text, search_filter_text, search_request_text, selection_text, types_only_text}
+use Rattle.asn1_ldap_text.specs.Strings.{named, named_unless_empty, optional_word, quoted, word}
 use Rattle.asn1_ldap_text.proofs.Printable.{Printable, both, each, either, integer_printable}
 use Rattle.asn1_ldap_text.proofs.PrintableFilters.{attribute_printable, attributes_printable, filter_printable, length_printable, named_unless_empty_printable, optional_length_printable, optional_word_printable, quoted_printable, values_printable, word_printable}
 use Rattle.asn1_ldap.specs.declared.attribute_value_assertion.AttributeValueAssertion.{AttributeValueAssertion}

@@ -1,12 +1,10 @@
 -- Escaped octets are determined by their text.
-use Rattle.std.proofs.Common.{◌≡◌, ℕ, ◌+◌, ◌/◌, ◌%◌, ◌<◌, ◌==◌, Bool, true, false, not, ◌&&◌, List, [], ◌∷◌, ◌++◌, All, ap, arith, codes, cond, refl, sym, ◌∙◌}
+use Rattle.std.proofs.Common.{◌≡◌, ℕ, ◌/◌, ◌%◌, ◌<◌, Bool, true, false, List, [], ◌∷◌, ◌++◌, All, ap, arith, cond, refl, sym, ◌∙◌}
 use Rattle.std.specs.Fmt.{digit_glyph, digits}
-use Rattle.std.specs.List.{flat_map}
 use Rattle.std.proofs.lemmas.Bool.Decides.{nat_tests}
 use Rattle.std.proofs.lemmas.Fmt.{hex_one_digit}
 use Rattle.std.proofs.lemmas.List.Elements.{All-head, All-tail}
-use Rattle.asn1_values.specs.Text.{byte_text}
-use Rattle.asn1_ldap_text.specs.Escapes.{escaped_text, is_plain, is_special, octet_escaped, octet_text}
+use Rattle.asn1_ldap_text.specs.Escapes.{escaped_text, is_plain, octet_escaped, octet_text}
 use Rattle.asn1_ldap_text.specs.declared.escapes.Place.{Place}
 use Rattle.asn1_ldap_text.specs.declared.escapes.Place.TheVariants.{Assertion, Quotes, Word}
 
