@@ -44,7 +44,7 @@ WITHOUT_VALUES = {"Profile", "Visit", "Badge", "PersonnelRecord", "Node", "Arcs"
 WITHOUT_JSON = {"Teletex", "Graphic", "Bmp"}
 
 # Components that are their DEFAULT, which Erlang writes in JSON, since its reader of DER filled them in.
-DEFAULTS = {"color": "red", "paid": False, "entry": {"key": 1, "note": 0}, "dnAttributes": False}
+DEFAULTS = {"color": "red", "paid": False, "entry": {"key": 1, "note": 0}, "dnAttributes": False, "criticality": False}
 
 SCRIPT = """#!/usr/bin/env escript
 %%! -noshell -pa {folder} -pa {jiffy}
