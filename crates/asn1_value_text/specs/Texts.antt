@@ -1,5 +1,6 @@
 -- The relations of an encoder of texts: how the open scopes are nested, and nothing of what is written.
-use Rattle.std.specs.Prelude.{◌≡◌, ◌+◌, ℕ, suc, false, length, List, ◌≢◌, ⊤, Result, Ok, Err}
+use Rattle.std.specs.List.{All}
+use Rattle.std.specs.Prelude.{◌≡◌, ◌+◌, ◌≤◌, ℕ, suc, false, length, List, ◌≢◌, ⊤, Result, Ok, Err}
 use Rattle.asn1_buffers.specs.Encoder.{scopes_in}
 use Rattle.asn1_laws.specs.Writing.{IsLawful, IsRejection, ScopeIsNotOpen, SameWritten, Writer, Written, in_group, in_scope, outermost, same_group, same_outermost, same_scope}
 use Rattle.asn1_laws.specs.declared.encode_error.EncodeError.{EncodeError}
@@ -40,3 +41,7 @@ text_format MayRefuse = record {
   rejects = λ rs. MayRefuse;
   accepts = λ octets. false;
 }
+
+-- a text of one line: no octet of it is a control character, of which the line feed is one
+abbrev pub IsOneLine : List ℕ → Type 0
+IsOneLine text = All (λ octet. 32 ≤ octet) text

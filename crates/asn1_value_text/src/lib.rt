@@ -32,7 +32,7 @@
 //! - A text in X.680's notation is made unless memory runs out or the value is nested deeper than the depth (`text_format` of
 //!   `specs/Texts.antt`). JSON may be refused besides; no clause says when.
 //! - A text of JSON is one document, no object of which has a name twice (`one_document` of [`json_text`]): each is read by the parser
-//!   of the kit before it is answered.
+//!   of the kit before it is answered. It is one line (`one_line`).
 //!
 //! No contract says which value a text has: the relations of the encoder hold of how the scopes are nested and of nothing else. The
 //! program test_texts is the test, beside Erlang's compiler (bench/texts.py).
@@ -40,7 +40,7 @@
 
 ghost use Rattle.asn1_model.specs.Meaning.{own_records};
 ghost use Rattle.asn1_rules.specs.Rules.{WritesWhole};
-ghost use Rattle.asn1_value_text.specs.Texts.{text_format};
+ghost use Rattle.asn1_value_text.specs.Texts.{IsOneLine, text_format};
 ghost use Rattle.json.specs.Json.{document};
 ghost use Rattle.json.specs.Strict.{HasUniqueKeys};
 ghost use Rattle.std.specs.Prelude.{⊤, IfOk, IsSomeAnd};
@@ -87,6 +87,7 @@ pub fn json_text<T: Encode>(alloc: Global, value: &T, depth: usize) -> Result<St
         (T.meaning.IsOfType value.now) depth result }
     ensures one_document { IfOk result (λ text.
         IsSomeAnd (document (string_bytes text)) HasUniqueKeys) }
+    ensures one_line { IfOk result (λ text. IsOneLine (string_bytes text)) }
 {
     let text = write_text::<JsonText, T>(alloc, value, depth)?;
     check_document(alloc, text.as_str())?;
