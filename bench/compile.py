@@ -440,6 +440,7 @@ BESIDE = ("M DEFINITIONS AUTOMATIC TAGS ::= BEGIN\nTree ::= CHOICE { leaf NULL, 
           "TreeOf ::= SEQUENCE { a NULL }\nEND\n")
 NUMBERED = ("M DEFINITIONS AUTOMATIC TAGS ::= BEGIN\nTree ::= CHOICE { leaf NULL, node Node }\n"
          "Node ::= SEQUENCE { args-x INTEGER, args SEQUENCE { x BOOLEAN, inner Tree OPTIONAL } }\nEND\n")
+GROUPED = "M DEFINITIONS AUTOMATIC TAGS ::= BEGIN\nH ::= SEQUENCE { a NULL, ..., [[ b H OPTIONAL, c NULL ]] }\nEND\n"
 CLASH = "M DEFINITIONS ::= BEGIN\nA ::= SEQUENCE { a NULL OPTIONAL, b NULL }\nEND\n"
 
 
@@ -483,6 +484,8 @@ def try_arguments():
     expect("circles that are not printed", (written, [line.split("; ")[0] for line in told.splitlines()], status),
            ("", ["-:2:1: no value of the types 'A', 'B' ends: each holds another", "-:4:1: no CHOICE or SEQUENCE without a tag is in each circle of the types 'C'",
                  "-:5:1: no CHOICE or SEQUENCE without a tag is in each circle of the types 'D', 'E'"], 1))
+    written, told, status = run(["x"], GROUPED)
+    expect("a circle through a group", (written, told.split(": ", 2)[-1].split(" is ")[0], status), ("", "a group of additions", 1))
     written, told, status = run(["x"], TABLES)
     expect("tables of object sets", (sorted(files_of(written)), [line.split(" warning: ")[-1] for line in told.splitlines()], status),
            (["src/a.rt", "src/lib.rt", "src/same.rt"],

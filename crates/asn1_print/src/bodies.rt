@@ -6,7 +6,7 @@ use crate::parameters::has_parameter;
 use crate::plan::Plan;
 use crate::types::Owner;
 use asn1_rust_components::{TypeBody, TypeFile};
-use asn1_rust_types::{proof_files, type_file};
+use asn1_rust_types::{Weights, proof_files, type_file};
 use std::alloc::AllocError;
 
 /// Adds a file.
@@ -17,23 +17,36 @@ pub(crate) fn push_file(
     owner: Owner<'_>,
 ) -> Result<(), AllocError> {
     let file = type_file_of(plan, body, names, owner)?;
-    let proofs = proof_files(plan.alloc, &file)?;
     let exported = exported_names(plan, &file, names)?;
     plan.add_module(names.module, false, exported)?;
-    push_source(plan, file)?;
-    push_files(plan, proofs)
+    push_source(plan, file)
 }
 
-// Adds the source of a file: that of a type with the parameter of a circle, if it holds it.
+// Adds the source of a file: that of a type with the parameter of a circle with its proofs, if it holds it.
 fn push_source(plan: &mut Plan<'_, '_>, file: TypeFile) -> Result<(), AllocError> {
     if file.lists.is_some() {
-        push_generic(plan, file)
+        let weights = Weights::new(plan.alloc);
+        let proofs = proof_files(plan.alloc, &file, &weights)?;
+        push_generic(plan, file)?;
+        push_files(plan, proofs)
     } else {
         let text = type_file(plan.alloc, &file)?;
         plan.add_source(file.module.as_str(), text)?;
         plan.printed.push(file)?;
         Ok(())
     }
+}
+
+/// Adds the proofs of the types without a parameter, when all of them were printed.
+pub(crate) fn push_proofs(plan: &mut Plan<'_, '_>) -> Result<(), AllocError> {
+    let weights = Weights::of(plan.alloc, plan.printed.as_slice(), plan.aliases.as_slice())?;
+    let mut proofs = Vec::new(plan.alloc);
+    for file in &plan.printed {
+        for proof in proof_files(plan.alloc, file, &weights)? {
+            proofs.push(proof)?;
+        }
+    }
+    push_files(plan, proofs)
 }
 
 // A file that was not printed.

@@ -5,7 +5,7 @@ use asn1_names::Place;
 use asn1_resolved::{Type, TypeKind};
 use asn1_rust_code::{Import, Tagging, TypeName};
 use asn1_rust_components::{
-    Alternative, Component, Held, ListKind, Tree, TypeBody, TypeFile, Usage,
+    Alternative, Component, Constructed, Held, ListKind, Tree, TypeBody, TypeFile, Usage,
 };
 use std::alloc::{AllocError, Global};
 
@@ -253,7 +253,7 @@ pub(crate) fn require_supported(
     }
 }
 
-// The first part of a type that no type of a circle can have, and what it is. A group is reported by the type that holds it.
+// The first part of a type that no type of a circle can have, and what it is.
 fn unsupported(body: &TypeBody) -> Option<(&str, &'static str)> {
     match body {
         TypeBody::Sequence(body) => {
@@ -272,12 +272,19 @@ fn unsupported(body: &TypeBody) -> Option<(&str, &'static str)> {
             }
             None
         }
-        TypeBody::Set(body) => match body.components.first() {
-            Some(component) => Some((component.name.as_str(), "a component of a SET")),
-            None => None,
-        },
-        _ => None,
+        TypeBody::Set(body) => first_component(body, "a component of a SET"),
+        TypeBody::Group(body) => first_component(body, "a group of additions"),
+        TypeBody::Enumerated(_) | TypeBody::RestrictedString(_) => None,
     }
+}
+
+// The first of components that no type of a circle can have.
+fn first_component<'a>(
+    body: &'a Constructed,
+    cause: &'static str,
+) -> Option<(&'a str, &'static str)> {
+    let component = body.components.first()?;
+    Some((component.name.as_str(), cause))
 }
 
 // Why a component cannot be in a type of a circle, if it cannot.

@@ -6,6 +6,7 @@
 //! | [`root_file`], [`ModuleNames`] | the root file of a crate |
 //! | [`append_enum`], [`append_choice_writer`] and the like | the parts of a CHOICE |
 //! | [`proof_files`], [`knot_table_proof`], [`ProofFile`] | the proofs that the check does not find by itself |
+//! | [`Weights`] | how many parts types have, which tells what the check finds by itself |
 //!
 //! The text is in the layout of `rt fmt`. No contract covers it: the check of the printed crate proves it. Calls fail only if
 //! memory runs out.
@@ -17,6 +18,7 @@ mod files;
 mod proofs;
 mod restricted_string;
 mod variants;
+mod weights;
 
 pub use choice::{
     ChoiceSubject, append_cases, append_choice_meaning, append_choice_writer, append_enum,
@@ -24,3 +26,4 @@ pub use choice::{
 };
 pub use files::{ModuleNames, root_file, type_file};
 pub use proofs::{ProofFile, knot_table_proof, proof_files};
+pub use weights::Weights;

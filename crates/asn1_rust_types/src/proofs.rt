@@ -1,4 +1,5 @@
 //! The proofs that the check does not find by itself.
+use crate::weights::Weights;
 use asn1_rust_code::Tagging;
 use asn1_rust_components::{
     Alternative, ChoiceType, Component, Constructed, Tree, TypeBody, TypeFile, Usage,
@@ -18,17 +19,27 @@ pub struct ProofFile {
 }
 
 /// The proofs of a type: those of the trees of a CHOICE with another in it; of the trees and the writer of a CHOICE of many
-/// alternatives; of the writer of a CHOICE of one; and of a writer of parts whose types are behind explicit tags.
-pub fn proof_files(alloc: Global, file: &TypeFile) -> Result<Vec<ProofFile>, AllocError> {
+/// alternatives; of the writer of a CHOICE of one; and of a writer of parts whose types are behind explicit tags, or are heavy.
+pub fn proof_files(
+    alloc: Global,
+    file: &TypeFile,
+    weights: &Weights,
+) -> Result<Vec<ProofFile>, AllocError> {
     let mut proofs = Vec::new(alloc);
     match &file.body {
         TypeBody::Choice(choice) => {
             push_tree_proofs(alloc, &mut proofs, file, choice)?;
-            push_choice_proof(alloc, &mut proofs, file, choice.alternatives.as_slice())?;
+            push_choice_proof(
+                alloc,
+                &mut proofs,
+                file,
+                choice.alternatives.as_slice(),
+                weights,
+            )?;
         }
-        TypeBody::Sequence(body) => push_component_proof(alloc, &mut proofs, file, body)?,
-        TypeBody::Set(body) => push_component_proof(alloc, &mut proofs, file, body)?,
-        TypeBody::Group(body) => push_component_proof(alloc, &mut proofs, file, body)?,
+        TypeBody::Sequence(body) => push_component_proof(alloc, &mut proofs, file, body, weights)?,
+        TypeBody::Set(body) => push_component_proof(alloc, &mut proofs, file, body, weights)?,
+        TypeBody::Group(body) => push_component_proof(alloc, &mut proofs, file, body, weights)?,
         TypeBody::Enumerated(_) | TypeBody::RestrictedString(_) => {}
     }
     Ok(proofs)
@@ -40,6 +51,7 @@ fn push_choice_proof(
     proofs: &mut Vec<ProofFile>,
     file: &TypeFile,
     alternatives: &[Alternative],
+    weights: &Weights,
 ) -> Result<(), AllocError> {
     match alternatives {
         // No answer holds of NULL, and the check needs none.
@@ -48,7 +60,7 @@ fn push_choice_proof(
             proofs.push(only_proof(alloc, file, only)?)?;
             Ok(())
         }
-        _ => push_arms_proof(alloc, proofs, file, alternatives),
+        _ => push_arms_proof(alloc, proofs, file, alternatives, weights),
     }
 }
 
@@ -64,8 +76,9 @@ fn push_arms_proof(
     proofs: &mut Vec<ProofFile>,
     file: &TypeFile,
     alternatives: &[Alternative],
+    weights: &Weights,
 ) -> Result<(), AllocError> {
-    let arms = arms_of_choice(alloc, alternatives)?;
+    let arms = arms_of_choice(alloc, alternatives, weights)?;
     push_writer_proof(alloc, proofs, file, CHOICE, arms.as_slice())
 }
 
@@ -75,8 +88,9 @@ fn push_component_proof(
     proofs: &mut Vec<ProofFile>,
     file: &TypeFile,
     body: &Constructed,
+    weights: &Weights,
 ) -> Result<(), AllocError> {
-    let arms = arms_of_components(alloc, body.components.as_slice())?;
+    let arms = arms_of_components(alloc, body.components.as_slice(), weights)?;
     push_writer_proof(alloc, proofs, file, COMPONENTS, arms.as_slice())
 }
 
@@ -204,20 +218,25 @@ struct Arm {
 }
 
 // The arms that write alternatives.
-fn arms_of_choice(alloc: Global, alternatives: &[Alternative]) -> Result<Vec<Arm>, AllocError> {
+fn arms_of_choice(
+    alloc: Global,
+    alternatives: &[Alternative],
+    weights: &Weights,
+) -> Result<Vec<Arm>, AllocError> {
     let is_long = alternatives.len() > FEW;
     let mut arms = Vec::new(alloc);
     for alternative in alternatives {
         let (call, clause) = call_of_alternative(alternative);
         let is_plain = !matches!(alternative.tagging, Tagging::Explicit(_));
         let is_named = !is_plain && is_of_parameter(alternative);
+        let is_heavy = weights.is_heavy(&alternative.definition);
         arms.push(Arm {
             place: String::from_str(alloc, alternative.variant.as_str())?,
             call,
             clause,
             is_addition: false,
             is_named,
-            is_answered: (is_long || is_in_circle(alternative)) && is_plain
+            is_answered: (is_long || is_in_circle(alternative) || is_heavy) && is_plain
                 || is_named
                 || alternative.definition.is_explicit,
         })?;
@@ -251,7 +270,11 @@ fn call_of_alternative(alternative: &Alternative) -> (&'static str, &'static str
 }
 
 // The arms that write components.
-fn arms_of_components(alloc: Global, components: &[Component]) -> Result<Vec<Arm>, AllocError> {
+fn arms_of_components(
+    alloc: Global,
+    components: &[Component],
+    weights: &Weights,
+) -> Result<Vec<Arm>, AllocError> {
     let mut arms = Vec::new(alloc);
     for (index, component) in components.iter().enumerate() {
         let (call, clause) = call_of(component);
@@ -261,7 +284,8 @@ fn arms_of_components(alloc: Global, components: &[Component]) -> Result<Vec<Arm
             clause,
             is_addition: component.is_addition,
             is_named: false,
-            is_answered: component.definition.is_explicit,
+            is_answered: component.definition.is_explicit
+                || weights.is_heavy(&component.definition),
         })?;
     }
     Ok(arms)
