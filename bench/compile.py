@@ -441,6 +441,9 @@ BESIDE = ("M DEFINITIONS AUTOMATIC TAGS ::= BEGIN\nTree ::= CHOICE { leaf NULL, 
 NUMBERED = ("M DEFINITIONS AUTOMATIC TAGS ::= BEGIN\nTree ::= CHOICE { leaf NULL, node Node }\n"
          "Node ::= SEQUENCE { args-x INTEGER, args SEQUENCE { x BOOLEAN, inner Tree OPTIONAL } }\nEND\n")
 GROUPED = "M DEFINITIONS AUTOMATIC TAGS ::= BEGIN\nH ::= SEQUENCE { a NULL, ..., [[ b H OPTIONAL, c NULL ]] }\nEND\n"
+CHOICES = ("M DEFINITIONS ::= BEGIN\nITEM ::= CLASS { &id INTEGER (0..255) UNIQUE, &Type } WITH SYNTAX { &Type BY &id }\n"
+           "A ::= SEQUENCE { id ITEM.&id ({Set}), a [0] ITEM.&Type ({Set}{@id}) }\nSet ITEM ::= { { SET { b B, c C } BY 1 } }\n"
+           "B ::= CHOICE { a NULL, ... }\nC ::= CHOICE { d BOOLEAN, ... }\nEND\n")
 CLASH = "M DEFINITIONS ::= BEGIN\nA ::= SEQUENCE { a NULL OPTIONAL, b NULL }\nEND\n"
 
 
@@ -490,6 +493,8 @@ def try_arguments():
     expect("tables of object sets", (sorted(files_of(written)), [line.split(" warning: ")[-1] for line in told.splitlines()], status),
            (["src/a.rt", "src/lib.rt", "src/same.rt"],
             ["object set 'Less' has no table: it has EXCEPT", "objects 'a' and 'b' have the same &id"], 0))
+    expect("extensible CHOICEs of a SET in an object", run(["x"], CHOICES),
+           ("", "-:4:29: a SET has at most one extensible CHOICE without a tag; give this one a tag\n", 1))
     expect("types with the names of files of a circle", sorted(path for path in files_of(run(["x"], BESIDE)[0]) if path.startswith("src/tree")),
            ["src/tree.rt", "src/tree_of.rt", "src/tree_of2.rt", "src/tree_parts.rt", "src/tree_reader.rt", "src/tree_reader2.rt"])
     parts = files_of(run(["x"], NUMBERED)[0]).get("src/tree_parts.rt", "")

@@ -15,7 +15,9 @@ use crate::left_out::LeftOut;
 use crate::message::{Message, messages_of};
 use crate::problems::syntax_problems;
 use asn1_grammar::{AssociatedModule, Parsed, associated_modules, parse};
-use asn1_module_check::{check_constructed, check_extensible_choices, check_tags, list_type};
+use asn1_module_check::{
+    check_constructed, check_extensible_choices, check_extensible_choices_in, check_tags, list_type,
+};
 use asn1_modules::{Source, collect_names};
 use asn1_objects::objects_of;
 use asn1_print::{Extern, Printed, Request, print_crate, print_program};
@@ -265,19 +267,23 @@ fn print_schema<'a>(
     Ok(printed)
 }
 
-// The components of types in objects that share a tag although X.680 forbids it.
+// The components of types in objects that share a tag, or are a second extensible CHOICE of a SET, although X.680 forbids it.
 fn row_clashes<'a>(
     alloc: Global,
     schema: &Schema<'a>,
     tables: &[Table<'a>],
 ) -> Result<Vec<Problem>, AllocError> {
     let mut list = Vec::new(alloc);
+    let mut choices = Vec::new(alloc);
     for table in tables {
         for row in &table.rows {
             list_type(alloc, &mut list, schema, &row.cell)?;
+            choices.append(&mut check_extensible_choices_in(alloc, schema, &row.cell)?)?;
         }
     }
-    check_constructed(alloc, list.as_slice())
+    let mut clashes = check_constructed(alloc, list.as_slice())?;
+    clashes.append(&mut choices)?;
+    Ok(clashes)
 }
 
 // Prints the files of a schema, of which these types exist already.

@@ -18,6 +18,17 @@ pub fn check_extensible_choices(
     Ok(problems)
 }
 
+/// The same for a SET in a type that the schema does not define, as that of an object.
+pub fn check_extensible_choices_in(
+    alloc: Global,
+    schema: &Schema<'_>,
+    definition: &Type<'_>,
+) -> Result<Vec<Problem>, AllocError> {
+    let mut problems = Vec::new(alloc);
+    check_type(alloc, &mut problems, schema, definition)?;
+    Ok(problems)
+}
+
 // Adds the errors of a type and of those in it.
 #[cycle(extensible_choices)]
 fn check_type(

@@ -11,6 +11,7 @@
 //! | [`check_constructed`] | a problem for each type of such a list that has a clash: its first two components that share a tag |
 //! | [`check_tags`] | the same of all types of a schema |
 //! | [`check_extensible_choices`] | a problem for each extensible CHOICE of a SET but the first, which no contract covers |
+//! | [`check_extensible_choices_in`] | the same for a type that the schema does not define |
 //!
 //! A problem has the place of the second component, and a text with the tag.
 //!
@@ -38,6 +39,6 @@ mod problems;
 mod tables;
 
 pub use constructed::{ComponentName, Constructed, ConstructedKind};
-pub use extensible_choices::check_extensible_choices;
+pub use extensible_choices::{check_extensible_choices, check_extensible_choices_in};
 pub use list::{list_constructed, list_type};
 pub use problems::{check_constructed, check_tags};
