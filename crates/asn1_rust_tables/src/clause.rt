@@ -49,7 +49,7 @@ fn append_refusal(draft: &mut Draft, table: &OpenTable) -> Result<(), AllocError
         others.push_str(format!(in draft.alloc(); "{key} ≢ {own} → ")?.as_str())?;
     }
     let others = others.as_str();
-    let line = format!(in draft.alloc(); "({others}MemoryRanOut error)) }")?;
+    let line = format!(in draft.alloc(); "({others}MemoryRanOut error)) }}")?;
     draft.line(3, line.as_str())
 }
 
