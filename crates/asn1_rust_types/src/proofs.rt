@@ -278,6 +278,7 @@ fn arms_of_components(
     let mut arms = Vec::new(alloc);
     for (index, component) in components.iter().enumerate() {
         let (call, clause) = call_of(component);
+        let is_plain = !matches!(component.tagging, Tagging::Explicit(_));
         arms.push(Arm {
             place: format!(in alloc; "{index}")?,
             call,
@@ -285,7 +286,7 @@ fn arms_of_components(
             is_addition: component.is_addition,
             is_named: false,
             is_answered: component.definition.is_explicit
-                || weights.is_heavy(&component.definition),
+                || is_plain && weights.is_heavy(&component.definition),
         })?;
     }
     Ok(arms)
