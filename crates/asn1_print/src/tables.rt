@@ -6,6 +6,7 @@ use crate::notation::{quoted_part, text_of};
 use crate::plan::Plan;
 use crate::printing::knot_names;
 use crate::recursion::circles_in_type;
+use crate::request::PrintedFile;
 use crate::types::{Owner, part_texts};
 use crate::written::in_one_line;
 use asn1_names::Place;
@@ -13,7 +14,7 @@ use asn1_resolved::{Range, Type, TypeKind, Value};
 use asn1_resolved_tables::{Row, Table};
 use asn1_rust_code::TypeName;
 use asn1_rust_names::{TakenNames, snake_case};
-use asn1_rust_tables::{KeyKind, OpenRow, OpenTable, RowKey, table_file};
+use asn1_rust_tables::{KeyKind, OpenRow, OpenTable, RowKey, table_answers, table_file};
 use std::alloc::AllocError;
 
 // Names of other arguments and calls of an enum, of what its clauses bind, and words of their language.
@@ -91,10 +92,21 @@ fn add_table(plan: &mut Plan<'_, '_>, table: &Table<'_>) -> Result<(), AllocErro
     };
     let text = table_file(plan.alloc, &open)?;
     plan.add_source(module.as_str(), text)?;
+    add_answers(plan, &open)?;
     let mut exported = Vec::new(plan.alloc);
     let OpenTable { name, .. } = open;
     exported.push(name)?;
     plan.add_module(module.as_str(), false, exported)
+}
+
+// Adds the proof beside the enum of a table.
+fn add_answers(plan: &mut Plan<'_, '_>, table: &OpenTable) -> Result<(), AllocError> {
+    let module = table.module.as_str();
+    let name = table.name.as_str();
+    let path = format!(in plan.alloc; "proofs/{module}/{name}/read/Answers.antt")?;
+    let text = table_answers(plan.alloc, table)?;
+    plan.files.push(PrintedFile { path, text })?;
+    Ok(())
 }
 
 // The lines at the head of the file.

@@ -5,7 +5,7 @@ use std::alloc::AllocError;
 
 /// Brings in what the clauses name.
 pub(crate) fn use_words(draft: &mut Draft, table: &OpenTable) -> Result<(), AllocError> {
-    draft.use_signs(&["Err", "IfErr", "IfOk", "Ok", "◌≡◌", "◌≢◌"])?;
+    draft.use_signs(&["Err", "IfErr", "IfOk", "Ok", "◌≡◌", "◌≢◌", "◌⊎◌"])?;
     draft.use_names(&["AsnType", "Decode"])?;
     draft.use_ghost(
         "ghost use Rattle.asn1_tables.specs.OpenValues.{MayAnswerOf, MemoryRanOut, WritesKept, WritesOpen};",
@@ -34,43 +34,24 @@ pub(crate) fn append_read_clause(draft: &mut Draft, table: &OpenTable) -> Result
 fn append_refusal(draft: &mut Draft, table: &OpenTable) -> Result<(), AllocError> {
     draft.line(
         2,
-        "// Under the key of a row an error is one of reading its type, and under any other key memory ran out.",
+        "// An error is one of reading the type of the row under this key, or memory ran out.",
     )?;
     draft.line(2, "ensures refused { IfErr result (λ error.")?;
-    for row in &table.rows {
-        append_row_refusal(draft, table, row)?;
-    }
-    let mut others = String::new(draft.alloc());
     for row in &table.rows {
         let key = key_value(draft, table)?;
         let key = key.as_str();
         let own = key_term(draft, table, &row.key)?;
-        let own = own.as_str();
-        others.push_str(format!(in draft.alloc(); "{key} ≢ {own} → ")?.as_str())?;
+        let definition = row.definition.text.as_str();
+        let line = format!(in draft.alloc();
+            "(({key} ≡ {own}) × MayAnswerOf R.format ⟦<{definition} as AsnType>⟧.meaning"
+        )?;
+        draft.line(3, line.as_str())?;
+        let line = format!(in draft.alloc();
+            "⟦<{definition} as PartialEq>⟧.eq ⟦<{definition} as Decode>⟧.refusals depth octets.now (Err error)) ⊎"
+        )?;
+        draft.line(3, line.as_str())?;
     }
-    let others = others.as_str();
-    let line = format!(in draft.alloc(); "({others}MemoryRanOut error)) }}")?;
-    draft.line(3, line.as_str())
-}
-
-// Appends the fact of the errors under the key of a row.
-fn append_row_refusal(
-    draft: &mut Draft,
-    table: &OpenTable,
-    row: &OpenRow,
-) -> Result<(), AllocError> {
-    let key = key_value(draft, table)?;
-    let key = key.as_str();
-    let own = key_term(draft, table, &row.key)?;
-    let definition = row.definition.text.as_str();
-    let line = format!(in draft.alloc();
-        "({key} ≡ {own} → MayAnswerOf R.format ⟦<{definition} as AsnType>⟧.meaning"
-    )?;
-    draft.line(3, line.as_str())?;
-    let line = format!(in draft.alloc();
-        "⟦<{definition} as PartialEq>⟧.eq ⟦<{definition} as Decode>⟧.refusals depth octets.now (Err error)) ×"
-    )?;
-    draft.line(3, line.as_str())
+    draft.line(3, "MemoryRanOut error) }")
 }
 
 /// Appends the clause of the call that writes.

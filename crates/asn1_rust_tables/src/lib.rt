@@ -3,6 +3,7 @@
 //! | Item | What it is |
 //! |---|---|
 //! | [`table_file`] | the file of a table |
+//! | [`table_answers`] | the proof beside it, of the call that reads |
 //! | [`OpenTable`], [`OpenRow`] | a table with its rows |
 //! | [`KeyKind`], [`RowKey`] | keys: numbers, or the arcs of object identifiers |
 //!
@@ -13,6 +14,7 @@
 //! fail only if memory runs out.
 #![tactic(auto)]
 
+mod answers;
 mod clause;
 mod definitions;
 mod keys;
@@ -20,5 +22,6 @@ mod reader;
 mod table;
 mod writer;
 
+pub use answers::table_answers;
 pub use definitions::{KeyKind, OpenRow, OpenTable, RowKey};
 pub use table::table_file;
