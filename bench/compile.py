@@ -491,7 +491,7 @@ def try_arguments():
     expect("a circle through a group", (written, told.split(": ", 2)[-1].split(" is ")[0], status), ("", "a group of additions", 1))
     written, told, status = run(["x"], TABLES)
     expect("tables of object sets", (sorted(files_of(written)), [line.split(" warning: ")[-1] for line in told.splitlines()], status),
-           (["src/a.rt", "src/lib.rt", "src/same.rt"],
+           (["proofs/same/Same/read/Answers.antt", "src/a.rt", "src/lib.rt", "src/same.rt"],
             ["object set 'Less' has no table: it has EXCEPT", "objects 'a' and 'b' have the same &id"], 0))
     expect("extensible CHOICEs of a SET in an object", run(["x"], CHOICES),
            ("", "-:4:29: a SET has at most one extensible CHOICE without a tag; give this one a tag\n", 1))

@@ -1,5 +1,5 @@
 //! A value of `PART.&Content`, by the objects of `AnswerParts` of the module `Signals`.
-ghost use Rattle.std.specs.Prelude.{Err, IfErr, IfOk, Ok, ◌≡◌, ◌≢◌};
+ghost use Rattle.std.specs.Prelude.{Err, IfErr, IfOk, Ok, ◌≡◌, ◌≢◌, ◌⊎◌};
 ghost use Rattle.asn1_tables.specs.OpenValues.{MayAnswerOf, MemoryRanOut, WritesKept, WritesOpen};
 ghost use Rattle.signals.specs.declared.answer_parts.AnswerParts.TheVariants as variants;
 
@@ -46,15 +46,15 @@ impl AnswerParts {
               × (number ≢ 300)
               × (number ≢ 301)
         ]) }
-        // Under the key of a row an error is one of reading its type, and under any other key memory ran out.
+        // An error is one of reading the type of the row under this key, or memory ran out.
         ensures refused { IfErr result (λ error.
-            (number ≡ 4 → MayAnswerOf R.format ⟦<Cause as AsnType>⟧.meaning
-            ⟦<Cause as PartialEq>⟧.eq ⟦<Cause as Decode>⟧.refusals depth octets.now (Err error)) ×
-            (number ≡ 300 → MayAnswerOf R.format ⟦<u8 as AsnType>⟧.meaning
-            ⟦<u8 as PartialEq>⟧.eq ⟦<u8 as Decode>⟧.refusals depth octets.now (Err error)) ×
-            (number ≡ 301 → MayAnswerOf R.format ⟦<bool as AsnType>⟧.meaning
-            ⟦<bool as PartialEq>⟧.eq ⟦<bool as Decode>⟧.refusals depth octets.now (Err error)) ×
-            (number ≢ 4 → number ≢ 300 → number ≢ 301 → MemoryRanOut error)) }
+            ((number ≡ 4) × MayAnswerOf R.format ⟦<Cause as AsnType>⟧.meaning
+            ⟦<Cause as PartialEq>⟧.eq ⟦<Cause as Decode>⟧.refusals depth octets.now (Err error)) ⊎
+            ((number ≡ 300) × MayAnswerOf R.format ⟦<u8 as AsnType>⟧.meaning
+            ⟦<u8 as PartialEq>⟧.eq ⟦<u8 as Decode>⟧.refusals depth octets.now (Err error)) ⊎
+            ((number ≡ 301) × MayAnswerOf R.format ⟦<bool as AsnType>⟧.meaning
+            ⟦<bool as PartialEq>⟧.eq ⟦<bool as Decode>⟧.refusals depth octets.now (Err error)) ⊎
+            MemoryRanOut error) }
     {
         match number {
             4 => match read_open(rules, alloc, octets, depth) {

@@ -1,5 +1,5 @@
 //! A value of `PART.&Content`, by the objects of `RequestParts` of the module `Signals`.
-ghost use Rattle.std.specs.Prelude.{Err, IfErr, IfOk, Ok, ◌≡◌, ◌≢◌};
+ghost use Rattle.std.specs.Prelude.{Err, IfErr, IfOk, Ok, ◌≡◌, ◌≢◌, ◌⊎◌};
 ghost use Rattle.asn1_tables.specs.OpenValues.{MayAnswerOf, MemoryRanOut, WritesKept, WritesOpen};
 ghost use Rattle.signals.specs.declared.request_parts.RequestParts.TheVariants as variants;
 
@@ -48,15 +48,15 @@ impl RequestParts {
               × (number ≢ 9)
               × (number ≢ 12)
         ]) }
-        // Under the key of a row an error is one of reading its type, and under any other key memory ran out.
+        // An error is one of reading the type of the row under this key, or memory ran out.
         ensures refused { IfErr result (λ error.
-            (number ≡ 4 → MayAnswerOf R.format ⟦<Cause as AsnType>⟧.meaning
-            ⟦<Cause as PartialEq>⟧.eq ⟦<Cause as Decode>⟧.refusals depth octets.now (Err error)) ×
-            (number ≡ 9 → MayAnswerOf R.format ⟦<Route as AsnType>⟧.meaning
-            ⟦<Route as PartialEq>⟧.eq ⟦<Route as Decode>⟧.refusals depth octets.now (Err error)) ×
-            (number ≡ 12 → MayAnswerOf R.format ⟦<RequestPartsObject3 as AsnType>⟧.meaning
-            ⟦<RequestPartsObject3 as PartialEq>⟧.eq ⟦<RequestPartsObject3 as Decode>⟧.refusals depth octets.now (Err error)) ×
-            (number ≢ 4 → number ≢ 9 → number ≢ 12 → MemoryRanOut error)) }
+            ((number ≡ 4) × MayAnswerOf R.format ⟦<Cause as AsnType>⟧.meaning
+            ⟦<Cause as PartialEq>⟧.eq ⟦<Cause as Decode>⟧.refusals depth octets.now (Err error)) ⊎
+            ((number ≡ 9) × MayAnswerOf R.format ⟦<Route as AsnType>⟧.meaning
+            ⟦<Route as PartialEq>⟧.eq ⟦<Route as Decode>⟧.refusals depth octets.now (Err error)) ⊎
+            ((number ≡ 12) × MayAnswerOf R.format ⟦<RequestPartsObject3 as AsnType>⟧.meaning
+            ⟦<RequestPartsObject3 as PartialEq>⟧.eq ⟦<RequestPartsObject3 as Decode>⟧.refusals depth octets.now (Err error)) ⊎
+            MemoryRanOut error) }
     {
         match number {
             4 => match read_open(rules, alloc, octets, depth) {
