@@ -35,7 +35,7 @@
 //! - [`close_knot`] answers what was read, in a box, or the error of memory, and keeps that contract.
 //!
 //! `specs/KnotMeanings.antt` defines the meaning of a knot by that of its generic type, for a CHOICE (`knot_meaning`) and for a
-//! SEQUENCE (`sequence_knot_meaning`), from four laws that are read off the lists of the types (`KnotLaws`), and proves that it is
+//! SEQUENCE (`sequence_knot_meaning`), from three laws that are read off the lists of the types (`KnotLaws`), and proves that it is
 //! the meaning of what a value is made of (`knot_is_made`, `sequence_is_made`). Memory is taken for the elements of lists and for
 //! the box of the knot.
 #![tactic(auto)]

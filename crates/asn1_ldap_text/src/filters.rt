@@ -26,7 +26,7 @@ pub(crate) fn push_filter(text: &mut String, filter: &Filter) -> Result<(), Allo
     ensures { OnOk result (string_bytes text.new ≡
         string_bytes text.old ++ filter_text filter.now) }
 {
-    match &*filter.0 {
+    match filter.get() {
         FilterOf::And(filters) => push_set(text, "(&", elements(filters)),
         FilterOf::Or(filters) => push_set(text, "(|", elements(filters)),
         FilterOf::Not(inner) => {
