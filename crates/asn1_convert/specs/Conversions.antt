@@ -10,7 +10,7 @@ use Rattle.asn1_rules.specs.CanonicalReading.{MayAnswer}
 use Rattle.asn1_rules.specs.Rules.{Format, IsNotWritten, IsWritten}
 use Rattle.asn1_rules.specs.declared.recoding.RecodeError.{RecodeError}
 use Rattle.asn1_rules.specs.declared.recoding.RecodeError.TheVariants.{Read, Write}
-use Rattle.asn1_value_text.specs.Texts.{text_format}
+use Rattle.asn1_value_text.specs.Texts.{IsOneLine, text_format}
 use Rattle.json.specs.Json.{document}
 use Rattle.json.specs.Strict.{HasUniqueKeys}
 use Rattle.asn1_convert.specs.Forms.{IsFront, format_of}
@@ -21,11 +21,12 @@ use Rattle.asn1_convert.specs.declared.stream.Cause.{Cause}
 use Rattle.asn1_convert.specs.declared.stream.Cause.TheVariants.{NoFront, NotRecoded, Memory}
 use Rattle.asn1_convert.specs.declared.stream.Stop.{Stop}
 
--- The line of a text of JSON, which is one document.
+-- The line of a text of JSON, which is one document in one line.
 pub record IsLineOfDocument (line : List ℕ) : Type 0 where
   pub text : List ℕ
   pub ended : line ≡ text ++ 10 ∷ []
   pub one_document : IsSomeAnd (document text) HasUniqueKeys
+  pub one_line : IsOneLine text
 
 module _ {V : Type 0} (m : Meaning V) (eq : V → V → Bool) (refusals : Refusals) (depth : ℕ) where
   -- Reading these octets may give this answer. If they carry a valid value of a well-tagged type it is an equal one, and if they carry

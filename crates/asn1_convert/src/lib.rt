@@ -19,19 +19,20 @@
 //!   `specs/Forms.antt`). The output is the conversion of each value before the one that was not converted, once and in order, and
 //!   a stop names how many these are, the position of its first octet and its cause (`IsStop` of `specs/Conversions.antt`).
 //! - From codec to codec a value is converted as `recode` does, whose contract holds of each of the nine pairs ([`recode_between`]):
-//!   if the octets carry a valid value of a well-tagged type, the output carries one that is equal. JSON is a line with one document.
+//!   if the octets carry a valid value of a well-tagged type, the output carries one that is equal. JSON is one document in one line.
 //!   The output is always that of a value which reading the octets may answer (`IsOfValue`); of octets with records that the type
 //!   refuses there is none.
 //! - A value that [`check_der`] answers is written as the very octets (`canonical`), which break no rule that reading asks for
-//!   (`keeps`). An error is a true reason (`departs`). Octets that keep these rules and are the only DER of a valid value are read, unless
+//!   (`keeps`). An error is a rule that they break, at its position, or one that
+//!   reading or writing them again may answer (`departs`). Octets that keep these rules and are the only DER of a valid value are read, unless
 //!   memory or depth refuses (`read`).
 //! - The answer to a task ([`Task::perform`]) is such a conversion, with a failure exactly if it was stopped; or it tells whether the
 //!   octets are the DER of a value, with a failure exactly if they are refused (`IsAnswer` of `specs/Answers.antt`). The line of a stop
 //!   begins with the number of the value in the whole input and its first octet there (`IsLineOf` of `specs/Lines.antt`).
 //! - Hexadecimal digits are read as the octets that they stand for, with white space anywhere; another text is refused with the first
 //!   position at which it is none (`AreDigitsOf`, `IsFirstFault` of `specs/Digits.antt`).
-//! - Over any reader and writer that tell their bytes, a program has the values of an input converted and written as soon as they are
-//!   whole, once and in order, up to the end or to the value that its line names. It ends with 0 only if all of the input was
+//! - Over any reader and writer that tell their bytes, a program has the values of an input converted and written, once and in order,
+//!   up to the end or to the value that its line names. It ends with 0 only if all of the input was
 //!   converted, or checked, and with 1 only if a line names a value or the input is refused (`EndsConversion`, `EndsWork` and
 //!   `status_of` of `specs/Runs.antt`). No contract says which type has a name: these words hold whatever the type is, and
 //!   [`Task::perform`] says of its type what is written.

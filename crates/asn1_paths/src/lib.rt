@@ -7,10 +7,12 @@
 //! | [`push_component_names`], [`alternative_name`] | the names that tables have | |
 //!
 //! A codec's error has no place in a value (docs/DECISIONS.md), and a type's error names one component at most. So who wants the place
-//! reads the octets again with a [`PathDecoder`], of any codec, and asks it where it came to, or where an element lies that it was to look for.
+//! reads the octets again with a [`PathDecoder`], of any codec, and asks it where it came to, or where an element lies that it was to
+//! look for.
 //!
-//! The contracts promise that the decoder opens scopes, closes them and fails as the one inside does (`path_reader`), so reading with it
-//! ends, nests as deep as that, and is total. No contract covers the place; the program test_texts shows it. If memory runs out, the place may be another.
+//! The contracts promise that the depth left and failure are those of the decoder inside (`path_reader`), so reading with it ends and
+//! nests no deeper. No contract covers the value or the error that it answers, nor the place, which the program test_texts shows. If
+//! memory runs out, the place may be another.
 #![tactic(auto)]
 
 mod decoder;

@@ -42,6 +42,6 @@ text_format MayRefuse = record {
   accepts = λ octets. false;
 }
 
--- a text of one line: no octet of it is a control character, of which the line feed is one
+-- a text of one line: no octet of it is below 32, as a line feed and a carriage return are
 abbrev pub IsOneLine : List ℕ → Type 0
 IsOneLine text = All (λ octet. 32 ≤ octet) text

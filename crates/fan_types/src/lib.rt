@@ -12,9 +12,9 @@
 //! The contracts promise:
 //!
 //! - FAN_OK of [`check`] comes only of octets that are the DER of a value of the type with at most 64 nested scopes (`der`), and break
-//!   no rule of X.690 that reading asks for, also inside open types (`keeps`). Octets that are the only DER of a valid value and keep
-//!   these rules have FAN_OK if its scopes and elements are nested at most 64 deep, and FAN_DEEP if they are nested deeper, unless memory
-//!   runs out (`found`). Octets with records that the type refuses never have FAN_OK (`admitted`); no contract says that numbers inside
+//!   no rule of X.690 that reading asks for, also inside open types (`keeps`). Octets that are the only DER of a valid value of a
+//!   well-tagged type and keep these rules have FAN_OK, with scopes nested at most 64 deep; or FAN_DEEP, only if they or elements are nested
+//!   deeper; or FAN_MEMORY (`found`). Octets with records that the type refuses never have FAN_OK (`admitted`); no contract says that numbers inside
 //!   the value are inside their limits.
 //! - FAN_FAULT, FAN_ROOM and FAN_DEEP of [`check`] come of octets that `check_der` may refuse so (`refused`, `deep`); FAN_ROOM if the
 //!   reason does not fit (`no_room`). The position is one of the octets or their end (`within`). With another status neither the position

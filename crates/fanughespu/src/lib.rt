@@ -16,7 +16,8 @@
 //! kept after a call. The answer is a status (`specs/Statuses` of `fan_calls`). Each call states which it answers (`statuses`), and what
 //! holds of each of them. The clauses tell which octets have it, too, but for these:
 //!
-//! - Octets that break a rule of DER may have FAN_OK or FAN_FAULT of [`fan_certificate_report`].
+//! - Octets that break a rule of DER may have FAN_OK or FAN_FAULT of [`fan_certificate_report`], and so may the DER of a certificate that
+//!   is not valid, or whose parameters are not what they have to be.
 //! - FAN_DEEP of [`fan_certificate_broken_rule`] comes of no others than octets that lie too deep, but these may have FAN_OK.
 //! - FAN_ROOM comes of a result that does not fit. Since no contract covers the words of messages, the octets alone do not tell how
 //!   long a text of [`fan_certificate_report`] or [`fan_ldap_lines`] is. FAN_MEMORY may always come of a call that takes memory.
