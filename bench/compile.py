@@ -1,7 +1,7 @@
 #!/usr/bin/env python3
 """Compiles the modules of examples/modules with asn1_compile, and compares the crates that are made of them with what it prints.
 
-    bench/compile.py [--try] [--prove NAME] [--round-trip NAME] [--layout NUMBER] [--refuse] [--time]
+    bench/compile.py [--try] [--prove NAME] [--round-trip NAME] [--layout NUMBER] [--refuse] [--damaged NUMBER] [--time]
 
 The program is the one that is built (`rt run` in crates/asn1_compile builds it), or with `--try` it is run before its proof, by
 `rt try`. Each module has to compile. Where a crate of the table is in crates/, its src/, specs/ and proofs/ have to be the files that are
@@ -20,16 +20,22 @@ the files as they are.
 With `--refuse` each growth of memory of one run is refused in turn (bench/refuse.rs): the program has to end with the status 2 and
 without a file, or with all of them.
 
+With `--damaged` so many modules are compiled, each one of examples/modules with one to three faults of some kinds: a word that is left
+out, doubled, exchanged with another or cut, an octet that is another, an end that is missing. The program has to end within ten seconds,
+with the status 0, or with 1 and an error; each line that it tells begins with the place in the text.
+
 With `--time` large modules of some shapes are compiled, each in two sizes, of which one is ten times the other: the time has to be in
 line with the size. Beside it is that of asn1c and of Erlang's compiler, if they are there.
 
 The status is 0 if all is as it has to be.
 """
+import collections
 import contextlib
 import itertools
 import os
 import pathlib
 import random
+import re
 import shutil
 import subprocess
 import sys
@@ -373,6 +379,48 @@ def refuse_growths():
     print(f"{number - 1} growths refused")
 
 
+def damaged(text, chance):
+    """A text with a fault."""
+    words = re.findall(rb"\s+|--[^\n]*|[\w.-]+|.", text)
+    at, other = (chance.randrange(len(words)) for _ in range(2))
+    kind = chance.randrange(6)
+    if kind == 0:
+        del words[at]
+    elif kind == 1:
+        words.insert(at, words[at])
+    elif kind == 2:
+        words[at], words[other] = words[other], words[at]
+    elif kind == 3:
+        words[at] = words[at][:len(words[at]) // 2]
+    elif kind == 4:
+        words[at] = bytes([chance.randrange(256)]) + words[at][1:]
+    else:
+        del words[at:]
+    return b"".join(words)
+
+
+def compile_damaged(count):
+    """Compiles modules with faults."""
+    chance, ended = random.Random(1), collections.Counter()
+    for number in range(count):
+        name = chance.choice(sorted(TABLE))
+        text = (MODULES / f"{name}.asn1").read_bytes()
+        for _ in range(chance.randint(1, 3)):
+            text = damaged(text, chance) if text else text
+        try:
+            ran = subprocess.run([PROGRAM / "out" / "asn1_compile", "x"], input=text, capture_output=True, timeout=10)
+        except subprocess.TimeoutExpired:
+            expect(f"module {number}, of {name}", "no end", "an end")
+            continue
+        told = ran.stderr.decode(errors="replace").splitlines()
+        places = [bool(re.match(r"-:\d+:\d+: ", line)) for line in told]
+        errors = [line for line in told if not re.match(r"-:\d+:\d+: warning: ", line)]
+        ended[ran.returncode] += 1
+        expect(f"module {number}, of {name}", (ran.returncode in (0, 1), all(places), bool(errors), bool(ran.stdout)),
+               (True, True, ran.returncode == 1, ran.returncode == 0))
+    print(f"{ended[0]} compiled, {ended[1]} refused")
+
+
 def object_of(number, count):
     """An object; in front of the first its class, a type, and the set of all objects, which the type names."""
     own = f"o{number} ITEM ::= {{ &id {number}, &Type NULL }}"
@@ -540,6 +588,8 @@ def prove_or_run():
 def main():
     if "--refuse" in sys.argv:
         refuse_growths()
+    elif "--damaged" in sys.argv:
+        compile_damaged(int(named_by("--damaged")))
     elif "--time" in sys.argv:
         time_large_modules()
     elif "--layout" in sys.argv:
