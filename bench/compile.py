@@ -21,8 +21,8 @@ With `--refuse` each growth of memory of one run is refused in turn (bench/refus
 without a file, or with all of them.
 
 With `--damaged` so many modules are compiled, each one of examples/modules with one to three faults of some kinds: a word that is left
-out, doubled, exchanged with another or cut, an octet that is another, an end that is missing. The program has to end within ten seconds,
-with the status 0, or with 1 and an error; each line that it tells begins with the place in the text.
+out, doubled, exchanged with another or cut, an octet that is another, an end that is missing. The program has to end within a minute, with
+the status 0, or with 1 and an error; each line that it tells begins with the place in the text.
 
 With `--time` large modules of some shapes are compiled, each in two sizes, of which one is ten times the other: the time has to be in
 line with the size. Beside it is that of asn1c and of Erlang's compiler, if they are there.
@@ -408,7 +408,7 @@ def compile_damaged(count):
         for _ in range(chance.randint(1, 3)):
             text = damaged(text, chance) if text else text
         try:
-            ran = subprocess.run([PROGRAM / "out" / "asn1_compile", "x"], input=text, capture_output=True, timeout=10)
+            ran = subprocess.run([PROGRAM / "out" / "asn1_compile", "x"], input=text, capture_output=True, timeout=60)
         except subprocess.TimeoutExpired:
             expect(f"module {number}, of {name}", "no end", "an end")
             continue
