@@ -1,4 +1,4 @@
-//! The value whose BER octets are, in another form.
+//! The value of which octets are the BER, in another form.
 ghost use Rattle.std.specs.Prelude.{◌≡◌, ◌≢◌, ◌⊎◌};
 ghost use Rattle.fan_calls.specs.Results.{LacksRoom, Puts};
 ghost use Rattle.fan_calls.specs.Statuses.{FAN_DEEP, FAN_FAULT, FAN_MEMORY, FAN_OK, FAN_ROOM};
