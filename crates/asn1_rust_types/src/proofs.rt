@@ -9,6 +9,9 @@ use std::alloc::{AllocError, Global};
 /// The greatest number of alternatives whose writer and trees the check proves by itself.
 const FEW: usize = 10;
 
+/// The greatest number of alternatives whose trees the check proves by itself if each has a tag of its own.
+const SOME: usize = 20;
+
 /// A file with a proof.
 #[derive(Drop)]
 pub struct ProofFile {
@@ -115,8 +118,9 @@ fn needs_table_proof(file: &TypeFile, choice: &ChoiceType) -> bool {
     if choice.alternatives.iter().any(begins_with_choice) {
         return true;
     }
-    choice.alternatives.len() > FEW
-        && (has_parameter(file) || choice.alternatives.iter().any(is_untagged))
+    let count = choice.alternatives.len();
+    let is_plain = !has_parameter(file) && !choice.alternatives.iter().any(is_untagged);
+    count > SOME || count > FEW && !is_plain
 }
 
 /// The proof of the table of a knot that is made of this type; `None` if the check finds it by itself.
