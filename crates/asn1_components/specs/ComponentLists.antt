@@ -80,7 +80,7 @@ all_well_formed (c ∷ cs) accepts v valid = well_formed_append accepts (c.recor
 -- and so are those of a group of them
 well_formed_between : (table : Table Row) (accepts : List ℕ → Bool) (rs : List Record) (b : Bool) →
     AreWellFormed accepts rs →
-    AreWellFormed accepts (if b then presence_mark group_absent ∷ [] else presence_mark (group_start table) ∷ rs ++ presence_mark group_end ∷ [])
+    AreWellFormed accepts (if b then presence_mark (group_absent table) ∷ [] else presence_mark (group_start table) ∷ rs ++ presence_mark group_end ∷ [])
 well_formed_between table accepts rs true are = (tt, tt)
 well_formed_between table accepts rs false are =
     (tt, well_formed_append accepts rs (presence_mark group_end ∷ []) are (tt, tt))
@@ -128,7 +128,7 @@ begins_with_one (c ∷ cs) can v some = first_or_later c cs v some (c.fits can.0
 
 between_marks : (table : Table Row) (tree : Tree) (rs : List Record) (b : Bool) →
     presence_marks_alone rs ≡ b → (presence_marks_alone rs ≡ false → BeginsWithin (tree_tags tree) rs) →
-    Fits Optional tree (if b then presence_mark group_absent ∷ [] else presence_mark (group_start table) ∷ rs ++ presence_mark group_end ∷ [])
+    Fits Optional tree (if b then presence_mark (group_absent table) ∷ [] else presence_mark (group_start table) ∷ rs ++ presence_mark group_end ∷ [])
 between_marks table tree rs true e f = inr (refl, refl)
 between_marks table tree rs false e f =
     let h = begins_before (tree_tags tree) rs (presence_mark group_end ∷ []) (f e) in

@@ -10,8 +10,9 @@ use asn1_samples::{
 };
 use asn1_types::{Any, Array, Explicit, Implicit, InstanceOf, SetOf, tag};
 use asn1_values::{
-    BitString, BmpString, ConstrainedInteger, GeneralString, GraphicString, Ia5String, Integer,
-    NumericString, ObjectIdentifier, OctetString, PrintableString, TeletexString, VisibleString,
+    BitString, BitVec, BmpString, ConstrainedInteger, GeneralString, GraphicString, Ia5String,
+    Integer, NamedBitString, NumericString, ObjectIdentifier, OctetString, PrintableString,
+    TeletexString, VisibleString,
 };
 use std::borrow::Cow;
 use std::marker::PhantomData;
@@ -60,6 +61,8 @@ impl TypeNames for Items {
             "1..10" => Some(case.try_type::<OneToTen>()),
             "ObjectIdentifier" => Some(case.try_type::<ObjectIdentifier>()),
             "BitString" => Some(case.try_type::<BitString>()),
+            "BitVec" => Some(case.try_type::<BitVec>()),
+            "NamedBitString" => Some(case.try_type::<NamedBitString>()),
             "OctetString" => Some(case.try_type::<OctetString>()),
             "String" => Some(case.try_type::<String>()),
             "VisibleString" => Some(case.try_type::<VisibleString>()),

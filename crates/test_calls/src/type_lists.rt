@@ -6,7 +6,10 @@ use asn1_samples::{
     Badge, Color, Corner, Envelope, Labelled, Node, Person, Plate, Profile, Settings, Shape, Ticket,
 };
 use asn1_types::{Any, InstanceOf, SetOf};
-use asn1_values::{BitString, BmpString, Integer, ObjectIdentifier, OctetString, TeletexString};
+use asn1_values::{
+    BitString, BitVec, BmpString, Integer, NamedBitString, ObjectIdentifier, OctetString,
+    TeletexString,
+};
 
 /// The types of lines that read DER and write it.
 #[derive(Clone, Copy, Drop)]
@@ -60,6 +63,8 @@ impl TypeNames for TypesOfEachAction {
             "u8" => Some(case.try_type::<u8>()),
             "Integer" => Some(case.try_type::<Integer>()),
             "BitString" => Some(case.try_type::<BitString>()),
+            "BitVec" => Some(case.try_type::<BitVec>()),
+            "NamedBitString" => Some(case.try_type::<NamedBitString>()),
             "TeletexString" => Some(case.try_type::<TeletexString>()),
             "Any" => Some(case.try_type::<Any>()),
             "Vec<bool>" => Some(case.try_type::<Vec<bool>>()),
