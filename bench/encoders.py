@@ -26,7 +26,7 @@ MODULES = {SAMPLES: ROOT / "bench" / "samples.asn1", LDAP: ROOT / "examples" / "
 
 # The types of the lines that have another name in the modules (an open type has none), and those that have the same.
 NAMES = {
-    "bool": "Flag", "()": "Nothing", "ObjectIdentifier": "Arcs", "BitString": "Bits", "OctetString": "Octets", "String": "Utf8",
+    "bool": "Flag", "()": "Nothing", "ObjectIdentifier": "Arcs", "BitString": "Bits", "BitVec": "Bits", "OctetString": "Octets", "String": "Utf8",
     "VisibleString": "Visible", "Plate": "Visible", "PrintableString": "Printable", "NumericString": "Numeric",
     "TeletexString": "Teletex", "GraphicString": "Graphic", "BmpString": "Bmp", "Vec<bool>": "Flags", "Vec<Vec<bool>>": "Lists",
     "Vec<u8>": "Numbers", "[u8;2]": "Numbers", "SetOf<u8>": "SetOfNumbers", "SetOf<i32>": "SetOfNumbers",
@@ -37,7 +37,7 @@ NAMES = {
 NUMBERS = {"Integer", "1..10", "Box<u8>", "Cow<u8>", "u8", "u16", "u32", "u64", "i8", "i16", "i32", "i64", "i128", "isize"}
 SAME = {
     "Type2", "Type3", "Type4", "Type5", "Person", "Color", "Profile", "Visit", "Corner", "Shape", "Badge", "Ticket", "Gauge",
-    "Notice", "Labelled", "Settings", "Node", "Price", "PersonnelRecord", "Filter", "Mask",
+    "Menu", "Notice", "Labelled", "Settings", "Node", "Price", "PersonnelRecord", "Filter", "Mask",
 }
 NAMES |= {name: "Number" for name in NUMBERS} | {name: name for name in SAME}
 
@@ -68,6 +68,8 @@ BY_ASN1CT = [
     ("[0]SetOf<u8>", 1, "[2,1]", "2 and 1 in this order; X.690, 8.12.3 and 8.14.3"),
     ("Badge", 3, "{'Badge',7,\"Jones\",{dot,'NULL'}}", "the shape behind the label; X.690, 8.11.2"),
     ("Badge", 3, "{'Badge',7,\"Jones\",{inner,{right,<<1,2>>}}}", "a corner behind the label; X.690, 8.11.2"),
+    ("Menu", 1, "{'Menu',1,2,true}", "the group of additions behind the soup; X.690, 8.11.2"),
+    ("Menu", 1, "{'Menu',1,2,asn1_NOVALUE}", "a group without a sweet; X.690, 8.11.3"),
     ("Ticket", 1, "{'Ticket',7,<<\"Ann\">>,false}", "not paid, the DEFAULT, which is left out; X.690, 8.11.3"),
     ("PersonnelRecord", 4, RECORD % (SPOUSE, CHILDREN), "the example of X.690, A.3: the number behind the title"),
     ("PersonnelRecord", 4, RECORD % (SPOUSE, ""), "without children, the DEFAULT, which are left out; X.690, 8.11.3"),

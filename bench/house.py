@@ -27,7 +27,7 @@ LAYERS = [
     [("bytes", ["asn1_tagform", "asn1_bench", "asn1_buffers", "asn1_items"]),
      ("DER", ["asn1_der*", "asn1_elements"]),
      ("BER", ["asn1_ber*"])],
-    [("codecs", ["asn1_schema", "asn1_rules", "asn1_tables", "asn1_open", "asn1_circles", "asn1_nesting", "asn1_slots", "asn1_enc",
+    [("codecs", ["asn1_schema", "asn1_rules", "asn1_tables", "asn1_open", "asn1_circles", "asn1_nesting", "asn1_slots|asn1_spelling", "asn1_enc",
                  "asn1_dec", "asn1_laws"])],
     [("types", ["asn1_types", "asn1_components", "asn1_fields", "asn1_model"])],
     [("values", ["asn1_values", "asn1_integers", "asn1_strings", "asn1_tags", "asn1_bounds", "asn1_ranges"])],
@@ -41,7 +41,7 @@ SIDE = [
 # A road of docs/ARCHITECTURE.md: its heading, its colour, and the boxes of each of its steps.
 ROADS = [
     ("A value to bytes and back", "#c0392b",
-     [["asn1_model", "asn1_components"], ["asn1_enc"], ["asn1_buffers"], ["asn1_dec", "asn1_items"], ["asn1_slots"], ["asn1_rules"]]),
+     [["asn1_model", "asn1_components"], ["asn1_enc"], ["asn1_buffers"], ["asn1_dec", "asn1_items"], ["asn1_slots|asn1_spelling"], ["asn1_rules"]]),
     ("A certificate to its report", "#2e8b57",
      [["asn1_certificate_input", "asn1_x509*", "asn1_certificate_rules"], ["asn1_certificate_reader"], ["asn1_certificate_text"]]),
     ("A module to a crate", "#1f6fb2",

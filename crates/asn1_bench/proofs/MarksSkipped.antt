@@ -18,7 +18,7 @@ mark_skipped : (m : model.PresenceMark) (rest : List ℕ) → marks_skipped (mar
 mark_skipped (present side t) rest = refl
 mark_skipped (absent side t) rest = refl
 mark_skipped (group_start table) rest = refl
-mark_skipped group_absent rest = refl
+mark_skipped (group_absent table) rest = refl
 mark_skipped group_end rest = refl
 
 no_mark_kind : (kind : ItemKind) → is_mark_byte (item_byte kind) ≡ false

@@ -56,5 +56,5 @@ module _ {P : Type 0} (marks : MarkBytes) where
   rejects_by_parts = record {
     part = λ before rs after t. too_long_after marks before (rs ++ after) (too_long_before marks rs after t);
     inner = λ h rs t. inl (inl t);
-    marks = λ rs alone t. absurd (marks_not_long marks rs alone t);
+    marks = λ table rs alone t. absurd (marks_not_long marks rs alone t);
   }

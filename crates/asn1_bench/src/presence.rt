@@ -50,7 +50,8 @@ pub trait Presence {
     /// # Errors
     /// As `component`.
     fn group<C: FieldTable>(slices: &mut Slices<'_>) -> Result<bool, ItemError>
-        ensures found { FindsPresence mark_bytes (group_start (rows C.components)) group_absent
+        ensures found { FindsPresence mark_bytes (group_start (rows C.components))
+            (group_absent (rows C.components))
             (tree_tags (choice (trees_of (all_components C.components))))
             slices.old slices.new result }
         ensures keeps_outside { KeepsOutside slices.old slices.new };

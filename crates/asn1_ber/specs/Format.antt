@@ -32,7 +32,7 @@ pub der_rejects : RejectsByParts (in_one_order der_under_ber)
 der_rejects = record {
   part = λ before rs after rejected. der_rejects_by_parts.part before rs after rejected;
   inner = λ h rs rejected. der_rejects_by_parts.inner h rs rejected;
-  marks = λ rs alone rejected. der_rejects_by_parts.marks rs alone rejected;
+  marks = λ table rs alone rejected. der_rejects_by_parts.marks table rs alone rejected;
 }
 
 -- What is written is DER. The octets are read as BER.
@@ -76,7 +76,7 @@ pub rejects_by_parts : RejectsByParts (in_one_order written_ber)
 rejects_by_parts = record {
   part = part_rejected;
   inner = inner_rejected;
-  marks = λ rs alone rejected. marks_rejected rs (presence_mark group_absent ∷ []) alone (der_rejects_by_parts.marks rs alone) rejected;
+  marks = λ table rs alone rejected. marks_rejected rs (presence_mark (group_absent table) ∷ []) alone (der_rejects_by_parts.marks table rs alone) rejected;
 }
 
 -- The format of BER: octets carry the records whose BER they are, up to the order inside sets. Records are rejected that have no

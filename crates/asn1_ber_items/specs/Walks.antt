@@ -21,12 +21,12 @@ pub record AreLast (normal left written : List ℕ) : Type 0 where
   pub spell : Spells left others []
   pub are : normal ≡ written ++ others
 
--- Where nothing is open, the first element is to come, if nothing was written. Else it was written, and the rest is left.
+-- With nothing open the first element is to come, if nothing was written; else it was written, and the rest is left.
 abbrev pub IsFront : List ℕ → List ℕ → List ℕ → List ℕ → Type 0
 IsFront normal rest left [] = SpellsOne left normal rest
 IsFront normal rest left (o ∷ written) = (normal ≡ o ∷ written) × (rest ≡ left)
 
--- What a walk answers: the normal form of all the bytes; or that of the first element, and the rest.
+-- The answer of a walk: the normal form of all the bytes; or that of the first element, and the rest.
 pub data Outcome : Type 0 where
   of_all : (normal : List ℕ) → Outcome
   of_first : (normal rest : List ℕ) → Outcome
@@ -131,7 +131,7 @@ pub record IsCopy (own back mine after : List ℕ) : Type 0 where
   pub own_is : mine ≡ own
   pub back_is : after ≡ back
 
--- What follows elements where no other element can begin: nothing, or end-of-contents octets.
+-- The octets behind elements that no other follows: none, or end-of-contents octets.
 pub data IsEnd : List ℕ → Type 0 where
   nothing_left : IsEnd []
   end_octets : (back : List ℕ) → IsEnd (0 ∷ 0 ∷ back)

@@ -20,7 +20,7 @@ use Rattle.asn1_model.specs.RecordTables.{Row, Table}
 use Rattle.asn1_rules.specs.Rules.{IsNotWritten}
 use Rattle.asn1_types.specs.AnyStrings.{content_of_str}
 use Rattle.asn1_types.specs.declared.any_string.AnyStr.{AnyStr}
-use Rattle.asn1_types.specs.declared.any_string.AnyStr.TheVariants.{Bits, Octets, Bmp, Teletex}
+use Rattle.asn1_types.specs.declared.any_string.AnyStr.TheVariants.{Bits, PackedBits, Octets, Bmp, Teletex}
 
 not_both : (b : Bool) → b ≡ false → b ≡ true → ⊥
 not_both b f t = false≢true (sym f ∙ t)
@@ -28,6 +28,7 @@ not_both b f t = false≢true (sym f ∙ t)
 -- a string has no labels
 string_as_it_is : (s : AnyStr) → unlabelled (content_of_str s) ≡ content_of_str s
 string_as_it_is (Bits list) = refl
+string_as_it_is (PackedBits list) = refl
 string_as_it_is (Octets k list) = refl
 string_as_it_is (Bmp list) = refl
 string_as_it_is (Teletex list) = refl

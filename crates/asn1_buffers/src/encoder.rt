@@ -8,8 +8,8 @@ use asn1_components::{Choice, EnumeratedTable, FieldTable};
 use asn1_enc::{EncodeError, Encoder};
 use asn1_items::{Content, MarkKind, ScopeKind};
 use asn1_tags::{Identifier, Tag};
-use asn1_types::{Any, CodecString};
-use asn1_values::IntegerType;
+use asn1_types::{Any, AnyStr, CodecString};
+use asn1_values::{BitVec, IntegerType};
 use std::alloc::Global;
 
 /// An encoder that writes records in a buffer `B`, whose form they get.
@@ -302,6 +302,17 @@ impl<B: RecordBuffer> Encoder for BufferEncoder<B> {
     }
 
     #[inline(always)]
+    fn encode_packed_bits<K: CodecString<bool>>(
+        &mut self,
+        tag: Tag,
+        _constraints: &Constraints<'_>,
+        value: &BitVec,
+        _name: Identifier,
+    ) -> Result<(), EncodeError> {
+        self.append_scalar(tag, Content::String(AnyStr::PackedBits(value)))
+    }
+
+    #[inline(always)]
     fn encode_any(&mut self, _tag: Tag, value: &Any, _name: Identifier) -> Result<(), EncodeError> {
         self.append_open_type(value.as_bytes())
     }
@@ -327,7 +338,7 @@ impl<B: RecordBuffer> Encoder for BufferEncoder<B> {
     }
 
     #[inline(always)]
-    fn mark_group_absent(&mut self) -> Result<(), EncodeError> {
+    fn mark_group_absent<C: FieldTable>(&mut self) -> Result<(), EncodeError> {
         self.append_mark(MarkKind::GroupAbsent)
     }
 

@@ -9,7 +9,7 @@ use Rattle.asn1_certificate_reader.specs.Inside.{AreReadAs}
 use Rattle.asn1_certificate_reader.specs.Objects.{IsObjectOf}
 use Rattle.asn1_certificate_reader.specs.Options.{AreBothOrNone}
 use Rattle.asn1_certificate_reader.specs.Scalars.{IsOctetNumberOf}
-use Rattle.asn1_certificate_reader.specs.Strings.{bit_string, octet_string}
+use Rattle.asn1_certificate_reader.specs.Strings.{octet_string}
 use Rattle.asn1_certificate_reader.specs.declared.extensions.ValueKind.{ValueKind}
 use Rattle.asn1_certificate_reader.specs.declared.extensions.ValueKind.TheVariants as kind
 use Rattle.asn1_certificate_text.specs.declared.extension.AuthorityKey.{AuthorityKey}
@@ -17,7 +17,7 @@ use Rattle.asn1_certificate_text.specs.declared.extension.ExtensionValue.{Extens
 use Rattle.asn1_certificate_text.specs.declared.extension.ExtensionValue.TheVariants as own
 use Rattle.asn1_certificate_text.specs.declared.general_name.ShownGeneralName.{ShownGeneralName}
 use Rattle.asn1_model.specs.ConstraintSets.{unconstrained}
-use Rattle.asn1_model.specs.Kinds.{list_type, object_identifier}
+use Rattle.asn1_model.specs.Kinds.{list_type, named_bit_string, object_identifier}
 use Rattle.asn1_model.specs.Meaning.{Meaning}
 use Rattle.asn1_rules.specs.Rules.{Format}
 use Rattle.asn1_x509_extensions.specs.contracts.authority_key_identifier.AuthorityKeyIdentifierAsnType.TheImpl.{ghosts as authority_keys}
@@ -126,7 +126,7 @@ module _ (F : Format (Vec ℕ Global)) where
   -- (4.2.1.12).
   abbrev pub IsValueOfKind : ValueKind → List ℕ → ExtensionValue → Type 0
   IsValueOfKind kind.KeyIdentifier = IsShownAs octet_string (pointwise nat_eq) IsKeyIdentifier
-  IsValueOfKind kind.Usages = IsShownAs bit_string (pointwise beq) AreUsages
+  IsValueOfKind kind.Usages = IsShownAs named_bit_string (pointwise beq) AreUsages
   IsValueOfKind kind.Names = IsShownAs (sequence_of general_names.meaning) (equal_lists general_name_equality.eq) (λ names. AreNames names.items)
   IsValueOfKind kind.Authority = IsShownAs basic_constraints.meaning basic_constraints_equality.eq IsAuthority
   IsValueOfKind kind.AuthorityKey = IsShownAs authority_keys.meaning authority_key_equality.eq IsAuthorityKey

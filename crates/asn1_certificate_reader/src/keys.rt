@@ -10,10 +10,9 @@ use crate::scalars::copy_of;
 use asn1_certificate_text::{
     AlgorithmDifference, KeySize, ShownKey, Signature, bit_length, curve_of,
 };
-use asn1_items::Content;
 use asn1_rules::Rules;
-use asn1_types::{Any, AnyStr};
-use asn1_values::ObjectIdentifier;
+use asn1_types::Any;
+use asn1_values::{BitVec, ObjectIdentifier, StringUnit};
 use asn1_x509::{
     AlgorithmIdentifier, RsaPublicKey, SubjectPublicKeyInfo, rsa_public_key_is_well_tagged,
 };
@@ -49,7 +48,7 @@ fn size_of<R: Rules<Output = Vec<u8>>>(
 {
     let arcs = key.algorithm.algorithm.as_slice();
     if arcs == RSA {
-        return size_of_rsa(rules, alloc, key.subject_public_key.as_slice());
+        return size_of_rsa(rules, alloc, &key.subject_public_key);
     }
     if arcs == ELLIPTIC {
         return size_by_parameters(rules, alloc, key);
@@ -71,7 +70,7 @@ fn size_by_algorithm(arcs: &[u32], count: usize) -> KeySize
 fn size_of_rsa<R: Rules<Output = Vec<u8>>>(
     rules: &R,
     alloc: Global,
-    bits: &[bool],
+    bits: &BitVec,
 ) -> Result<KeySize, AllocError>
     ensures { IfOk result (IsSizeOfRsa R.format bits.now) }
 {
@@ -85,13 +84,13 @@ fn size_of_rsa<R: Rules<Output = Vec<u8>>>(
 fn read_key<R: Rules<Output = Vec<u8>>>(
     rules: &R,
     alloc: Global,
-    bits: &[bool],
+    bits: &BitVec,
 ) -> Result<Option<RsaPublicKey>, AllocError>
     ensures { IfOk result (AreBitsReadAs R.format bits.now) }
 {
     rsa_public_key_is_well_tagged();
-    match octets_of_bits(alloc, bits)? {
-        Some(octets) => read_inside(rules, alloc, octets.as_slice()),
+    match whole_octets(bits) {
+        Some(octets) => read_inside(rules, alloc, octets),
         None => Ok(None),
     }
 }
@@ -109,22 +108,18 @@ fn modulus_of(alloc: Global, key: &RsaPublicKey, count: usize) -> Result<KeySize
 }
 
 /// The octets of bits, if these are whole octets.
-#[tactic(auto, using(crate::proofs::WholeOctets::no_bits))]
-fn octets_of_bits(alloc: Global, bits: &[bool]) -> Result<Option<Vec<u8>>, AllocError>
-    ensures octets { IfOk result (λ whole.
-        IfSome whole (λ octets. All (λ octet. octet < 256) octets.items)) }
-    ensures same { IfOk result (λ whole. MatchOption whole (length bits.now % 8 ≢ 0)
-        (λ octets. bits_of_octets octets.items ≡ bits.now)) }
+#[tactic(auto, using(crate::proofs::WholeOctets::are_whole))]
+fn whole_octets(bits: &BitVec) -> Option<&[u8]>
+    ensures octets { IfSome result (λ octets. All (λ octet. octet < 256) octets.now) }
+    ensures same { MatchOption result (length bits.now % 8 ≢ 0)
+        (λ octets. bits_of_octets octets.now ≡ bits.now) }
 {
     if bits.len() % 8 != 0 {
-        return Ok(None);
+        return None;
     }
-    let mut content = Vec::new(alloc);
-    Content::String(AnyStr::Bits(bits)).append_to(&mut content, alloc)?;
-    match content.as_slice() {
-        [_, octets @ ..] => Ok(Some(Vec::from_slice(alloc, octets)?)),
-        [] => Ok(None),
-    }
+    let octets = bits.octets();
+    u8::units_are_in_range(octets);
+    Some(octets)
 }
 
 /// The size of a key on a curve, which its parameters name.

@@ -13,7 +13,7 @@ use asn1_certificate_text::{
 };
 use asn1_dec::Decode;
 use asn1_rules::Rules;
-use asn1_values::{BitString, Integer, ObjectIdentifier, OctetString};
+use asn1_values::{Integer, NamedBitString, ObjectIdentifier, OctetString};
 use asn1_x509_extensions::{
     AuthorityKeyIdentifier, BasicConstraints, GeneralName, GeneralNames, KeyIdentifier,
     authority_key_identifier_is_well_tagged, basic_constraints_is_well_tagged,
@@ -22,7 +22,7 @@ use asn1_x509_extensions::{
 use std::alloc::{AllocError, Global};
 
 /// A type of values of extensions, with their reports. An extension's type may be a common one by another name: an
-/// OCTET STRING is a key identifier here, a BIT STRING a key usage, and a list of objects an extended key usage.
+/// OCTET STRING is a key identifier here, a BIT STRING with named bits a key usage, and a list of objects an extended key usage.
 pub(crate) trait ShownValue: Decode {
     ghost use Rattle.std.specs.Prelude.{ℕ, Vec};
     ghost use Rattle.std.specs.declared.alloc.Global.{Global};
@@ -80,7 +80,7 @@ impl ShownValue for OctetString {
 }
 
 /// The usages of a key, as bits.
-impl ShownValue for BitString {
+impl ShownValue for NamedBitString {
     ghost IsShown = { λ _. AreUsages };
 
     fn shown<R: Rules<Output = Vec<u8>>>(
@@ -88,7 +88,7 @@ impl ShownValue for BitString {
         _rules: &R,
         alloc: Global,
     ) -> Result<ExtensionValue, AllocError> {
-        Ok(ExtensionValue::Usages(Vec::from_slice(alloc, self.as_slice())?))
+        Ok(ExtensionValue::Usages(self.as_bits().to_vec(alloc)?))
     }
 
     fn is_well_tagged() {

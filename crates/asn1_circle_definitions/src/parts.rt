@@ -57,7 +57,7 @@ fn push_parts<'a>(
 
 /// Whether a component is a group of additions.
 pub(crate) fn is_group(usage: &Usage) -> bool {
-    matches!(usage, Usage::Group(_))
+    matches!(usage, Usage::Group(_) | Usage::GroupOfSet(_))
 }
 
 // Adds a type, unless it is there.

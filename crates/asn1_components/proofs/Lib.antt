@@ -10,3 +10,6 @@ pub mod EnumerationFacts
 pub mod ItemSearches
 pub mod ListSearches
 pub mod NumbersInTables
+pub mod PartsApart
+pub mod WrittenAlike
+pub mod DistinctSets

@@ -40,6 +40,16 @@ abbrev pub trees_of : {V : Type 0} → List (ComponentType V) → Trees
 trees_of [] = none
 trees_of (c ∷ cs) = more c.tree (trees_of cs)
 
+-- some trees, and then others
+abbrev pub joined : Trees → Trees → Trees
+joined none others = others
+joined (more tree trees) others = more tree (joined trees others)
+
+-- the trees of the parts of all
+abbrev pub parts_of : {V : Type 0} → List (ComponentType V) → Trees
+parts_of [] = none
+parts_of (c ∷ cs) = joined c.parts (parts_of cs)
+
 -- the type of each is well tagged
 abbrev pub EachIsWellTagged : {V : Type 0} → List (ComponentType V) → Type 0
 EachIsWellTagged [] = ⊤
@@ -80,7 +90,7 @@ all_well_formed (c ∷ cs) accepts v valid = well_formed_append accepts (c.recor
 -- and so are those of a group of them
 well_formed_between : (table : Table Row) (accepts : List ℕ → Bool) (rs : List Record) (b : Bool) →
     AreWellFormed accepts rs →
-    AreWellFormed accepts (if b then presence_mark group_absent ∷ [] else presence_mark (group_start table) ∷ rs ++ presence_mark group_end ∷ [])
+    AreWellFormed accepts (if b then presence_mark (group_absent table) ∷ [] else presence_mark (group_start table) ∷ rs ++ presence_mark group_end ∷ [])
 well_formed_between table accepts rs true are = (tt, tt)
 well_formed_between table accepts rs false are =
     (tt, well_formed_append accepts rs (presence_mark group_end ∷ []) are (tt, tt))
@@ -128,7 +138,7 @@ begins_with_one (c ∷ cs) can v some = first_or_later c cs v some (c.fits can.0
 
 between_marks : (table : Table Row) (tree : Tree) (rs : List Record) (b : Bool) →
     presence_marks_alone rs ≡ b → (presence_marks_alone rs ≡ false → BeginsWithin (tree_tags tree) rs) →
-    Fits Optional tree (if b then presence_mark group_absent ∷ [] else presence_mark (group_start table) ∷ rs ++ presence_mark group_end ∷ [])
+    Fits Optional tree (if b then presence_mark (group_absent table) ∷ [] else presence_mark (group_start table) ∷ rs ++ presence_mark group_end ∷ [])
 between_marks table tree rs true e f = inr (refl, refl)
 between_marks table tree rs false e f =
     let h = begins_before (tree_tags tree) rs (presence_mark group_end ∷ []) (f e) in
@@ -152,6 +162,7 @@ group_of name get table cs = record {
   presence = Optional;
   tag = CHOICE;
   tree = choice (trees_of cs);
+  parts = parts_of cs;
   records = λ v. group_records table (option_map (all_records cs) (get v));
   IsWellTagged = CanBeInSequence cs;
   IsOfType = λ v. IfSome (get v) (EachIsOfType cs);

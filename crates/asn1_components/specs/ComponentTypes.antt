@@ -3,7 +3,7 @@ use Rattle.std.specs.Prelude.{◌≡◌, ◌⊎◌, ℕ, Bool, true, false, IsTr
 use Rattle.std.proofs.Common.{inl, inr}
 use Rattle.std.specs.Option.{option_map}
 use Rattle.asn1_tags.specs.declared.tags.Tag.{Tag}
-use Rattle.asn1_tags.specs.Trees.{Tree}
+use Rattle.asn1_tags.specs.Trees.{Tree, Trees, more, none}
 use Rattle.asn1_model.specs.Composites.{option_records, default_records}
 use Rattle.asn1_model.specs.Records.{Record, Side, in_additions, in_root, presence_marks_alone}
 use Rattle.asn1_model.specs.WellFormed.{AreWellFormed, well_formed_option}
@@ -28,6 +28,8 @@ pub record ComponentType (V : Type 0) : Type 1 where
   -- the tag under which it is written, and the tags with which it can begin
   pub tag : Tag
   pub tree : Tree
+  -- the trees of what is a record of its own in a SET: the tree, or those of a group's components
+  pub parts : Trees
   -- its records
   pub records : V → List Record
   -- its type is well tagged under this tag
@@ -48,6 +50,7 @@ required name get type = record {
   presence = Required;
   tag = type.tag;
   tree = type.tree;
+  parts = more type.tree none;
   records = λ v. type.records (get v);
   IsWellTagged = type.IsWellTagged;
   IsOfType = λ v. type.IsOfType (get v);
@@ -73,6 +76,7 @@ optional_in side name get type = record {
   presence = Optional;
   tag = type.tag;
   tree = type.tree;
+  parts = more type.tree none;
   records = λ v. option_records side type.tag (option_map type.records (get v));
   IsWellTagged = type.IsWellTagged;
   IsOfType = λ v. IfSome (get v) type.IsOfType;
@@ -114,6 +118,7 @@ default_in side name get is_default type = record {
   presence = Default;
   tag = type.tag;
   tree = type.tree;
+  parts = more type.tree none;
   records = λ v. default_records side (is_default v) type.tag (type.records (get v));
   IsWellTagged = type.IsWellTagged;
   IsOfType = λ v. is_default v ≡ false → type.IsOfType (get v);

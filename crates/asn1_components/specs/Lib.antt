@@ -12,3 +12,5 @@ pub mod LabelLaws
 pub mod Labels
 pub mod EnumerationTypes
 pub mod ItemTables
+pub mod WrittenAlike
+pub mod DistinctSets

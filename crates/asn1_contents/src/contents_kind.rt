@@ -64,6 +64,8 @@ impl<K: ContentsKind> CodecString<u8> for ContentsOf<K> {
 
     ghost units_in = { λ string. string };
 
+    ghost units_read = { λ list. list };
+
     fn kind() -> StringKind {
         StringKind::Octets(OctetKind::OctetString)
     }
@@ -79,5 +81,11 @@ impl<K: ContentsKind> CodecString<u8> for ContentsOf<K> {
         }
     }
 
-    ghost is_string = { λ _. refl };
+    ghost is_string = { λ _ _. refl };
+
+    ghost has_kind = { λ _. refl };
+
+    ghost reads_own = { λ _ _. refl };
+
+    ghost reads_content = { λ _. refl };
 }

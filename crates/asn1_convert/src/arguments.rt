@@ -9,7 +9,7 @@ const ABOUT: &str =
     "Converts values of a type from one form to another, from standard input to standard output.";
 
 const CHECK_HELP: &str =
-    "Tell whether the input is the DER of a value of TYPE, and if not where, and which section of X.690 is broken there. Where the type has them so, these pass: the forms of a time, a component with its DEFAULT value as an option, zeros behind named bits, and escape sequences";
+    "Tell whether the input is the DER of a value of TYPE, and if not where, and which section of X.690 is broken there. Where the type has them so, these pass: the forms of a time, a component with its DEFAULT value as an option, and escape sequences";
 
 /// The arguments that a program of this name takes.
 fn command<'a>(alloc: Global, program: &'a str, types: &'a str) -> Result<Command<'a>, AllocError> {

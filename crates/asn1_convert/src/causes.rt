@@ -11,25 +11,25 @@ pub(crate) fn cause_text(
     error: DecodeError,
     limits: Option<Limits>,
 ) -> Result<String, AllocError> {
-    match cause_of(error) {
-        Cause::OutOfRange => range_text(alloc, limits),
-        Cause::NoAlternative => String::from_str(alloc, "no alternative has its tag"),
-        Cause::Missing(name) => format!(in alloc; "component {name} is missing"),
-        Cause::Twice(name) => format!(in alloc; "component {name} is there twice"),
-        Cause::NoComponent => String::from_str(alloc, "no component of the SET has its tag"),
-        Cause::NoValue => type_text(alloc, limits),
-        Cause::Other(error) => format!(in alloc; "{error}"),
+    match refusal_of(error) {
+        Refusal::OutOfRange => range_text(alloc, limits),
+        Refusal::NoAlternative => String::from_str(alloc, "no alternative has its tag"),
+        Refusal::Missing(name) => format!(in alloc; "component {name} is missing"),
+        Refusal::Twice(name) => format!(in alloc; "component {name} is there twice"),
+        Refusal::NoComponent => String::from_str(alloc, "no component of the SET has its tag"),
+        Refusal::NoValue => type_text(alloc, limits),
+        Refusal::Other(error) => format!(in alloc; "{error}"),
     }
 }
 
 /// Whether the error tells no more than that the octets are no value of the type.
 pub(crate) fn is_plain(error: DecodeError) -> bool {
-    matches!(cause_of(error), Cause::NoValue)
+    matches!(refusal_of(error), Refusal::NoValue)
 }
 
-/// The cause for which a value was not read, as a person is shown it.
+/// Why a value was not read, as a person is shown it.
 #[derive(Clone, Copy)]
-enum Cause {
+enum Refusal {
     OutOfRange,
     NoAlternative,
     Missing(&'static str),
@@ -39,28 +39,28 @@ enum Cause {
     Other(DecodeError),
 }
 
-/// The cause of an error, or of that inside the component that it names.
-fn cause_of(error: DecodeError) -> Cause {
+/// The reason of an error, or of that inside the component that it names.
+fn refusal_of(error: DecodeError) -> Refusal {
     match error {
-        DecodeError::OutOfRange => Cause::OutOfRange,
-        DecodeError::NoValidChoice(_) => Cause::NoAlternative,
-        DecodeError::MissingField(name) => Cause::Missing(name),
-        DecodeError::DuplicateField(name) => Cause::Twice(name),
-        DecodeError::UnknownField { .. } => Cause::NoComponent,
-        DecodeError::Custom(_) => Cause::NoValue,
-        DecodeError::FieldError { cause, .. } => cause_of_number(cause),
-        _ => Cause::Other(error),
+        DecodeError::OutOfRange => Refusal::OutOfRange,
+        DecodeError::NoValidChoice(_) => Refusal::NoAlternative,
+        DecodeError::MissingField(name) => Refusal::Missing(name),
+        DecodeError::DuplicateField(name) => Refusal::Twice(name),
+        DecodeError::UnknownField { .. } => Refusal::NoComponent,
+        DecodeError::Custom(_) => Refusal::NoValue,
+        DecodeError::FieldError { cause, .. } => refusal_of_number(cause),
+        _ => Refusal::Other(error),
     }
 }
 
-/// The cause of the error of this number.
-fn cause_of_number(number: u8) -> Cause {
+/// The reason of the error of this number.
+fn refusal_of_number(number: u8) -> Refusal {
     if number == DecodeError::OutOfRange.number() {
-        Cause::OutOfRange
+        Refusal::OutOfRange
     } else if number == DecodeError::NoValidChoice("").number() {
-        Cause::NoAlternative
+        Refusal::NoAlternative
     } else {
-        Cause::NoValue
+        Refusal::NoValue
     }
 }
 

@@ -126,7 +126,7 @@ pub fn answer_input<L: TypeList, R: Read, W: Write>(
     let Ok(_size) = reader.read_to_end(&mut input) else {
         return Outcome::NotRead;
     };
-    let octets = match octets_of(alloc, input, is_hexadecimal) {
+    let octets = match octets_of_input(alloc, input, is_hexadecimal) {
         Ok(octets) => octets,
         Err(DigitsError::Memory) => return Outcome::NoMemory,
         Err(DigitsError::At(position)) => return Outcome::NoDigits(position),
@@ -163,7 +163,11 @@ pub fn answer_input<L: TypeList, R: Read, W: Write>(
 }
 
 /// The octets of an input: its own, or those whose hexadecimal digits it has.
-fn octets_of(alloc: Global, input: Vec<u8>, is_hexadecimal: bool) -> Result<Vec<u8>, DigitsError>
+fn octets_of_input(
+    alloc: Global,
+    input: Vec<u8>,
+    is_hexadecimal: bool,
+) -> Result<Vec<u8>, DigitsError>
     ensures { MatchResult result (λ octets. AreOctetsOf is_hexadecimal octets.items input.items)
         (λ e. (is_hexadecimal ≡ true) × IsDigitsError input.items e) }
 {

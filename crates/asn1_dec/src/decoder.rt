@@ -147,7 +147,8 @@ pub trait Decoder: Sized {
     /// outermost list holds here too.
     fn open_group<C: FieldTable>(&mut self) -> Result<bool, DecodeError>
         ensures read { TellsPresence reader self.old self.new (group_start (rows C.components))
-            group_absent (tree_tags (choice (trees_of (all_components C.components)))) result }
+            (group_absent (rows C.components))
+            (tree_tags (choice (trees_of (all_components C.components)))) result }
         ensures opens_nothing { OpensNothing reader self.old self.new result };
 
     /// Closes a group of which all components were read.

@@ -9,6 +9,7 @@
 //! | [`DecodeFields`] | a type whose components are read in their order: a SEQUENCE or a group of additions | `ReadingTypes` |
 //! | [`DecodeChoice`] | a CHOICE whose alternatives are read | `ReadingTypes` |
 //! | [`DecodeSet`], [`keep_once`] | a SET whose components are read in whatever order they come | `SetParts` |
+//! | [`finish_sequence`] | the end of a SEQUENCE whose components were read | `OpenSequences` |
 //! | [`component_with_tag`] | the component of a SET that begins with a tag | |
 //! | [`DecodeError`], [`Needed`] | why a value was not read | `DecodeErrors` |
 //! | [`laws`] | the records that types refuse | `Refusals` |
@@ -59,3 +60,4 @@ pub use decode::{Decode, DecodeChoice, DecodeFields};
 pub use decode_set::{DecodeSet, keep_once};
 pub use decoder::Decoder;
 pub use fields::component_with_tag;
+pub use sequences::finish_sequence;

@@ -211,8 +211,8 @@ group_has_no_trace table rs bytes have = by (presence_marks_alone rs) refl
     group : List Record
     group = presence_mark (group_start table) ∷ rs ++ presence_mark group_end ∷ []
 
-    by : (b : Bool) → presence_marks_alone rs ≡ b → HaveDer (held (if b then presence_mark group_absent ∷ [] else group)) bytes
-    by true alone = one_record (presence_mark group_absent) bytes (marks_are_nothing rs bytes alone have)
+    by : (b : Bool) → presence_marks_alone rs ≡ b → HaveDer (held (if b then presence_mark (group_absent table) ∷ [] else group)) bytes
+    by true alone = one_record (presence_mark (group_absent table)) bytes (marks_are_nothing rs bytes alone have)
     by false some = record {
       first = [];
       others = bytes;

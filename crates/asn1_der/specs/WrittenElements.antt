@@ -96,5 +96,5 @@ pub rejects_by_parts : RejectsByParts (in_one_order written_der)
 rejects_by_parts = record {
   part = λ before rs after none. none_after before (rs ++ after) (none_before rs after none);
   inner = λ h rs none. inl (inl none);
-  marks = λ rs alone none. absurd (marks_have rs alone none);
+  marks = λ table rs alone none. absurd (marks_have rs alone none);
 }

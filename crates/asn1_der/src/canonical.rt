@@ -2,9 +2,11 @@
 ghost use Rattle.asn1_der.specs.Format.{Carries, der_format};
 ghost use Rattle.asn1_der.specs.OneOutput.{HasDistinctSetsIn, HaveDistinctSetsInEach, HaveNoSet, HaveOneOutput};
 ghost use Rattle.asn1_der_items.specs.DistinctTags.{HaveDistinctSets};
+ghost use Rattle.asn1_model.specs.DistinctSets.{SetsAreDistinct};
 ghost use Rattle.asn1_model.specs.Meaning.{IsWellTagged, own_records};
 ghost use Rattle.asn1_model.specs.Orders.{SameRecords};
 ghost use Rattle.asn1_model.specs.Records.{Record, held};
+ghost use Rattle.asn1_model.specs.WrittenAlike.{AreWrittenAlike};
 ghost use Rattle.asn1_rules.specs.CanonicalReading.{AreOctets, EqualHaveSameRecords, HasOneSpelling, HaveOneSpelling};
 ghost use Rattle.asn1_rules.specs.Fronts.{BelongsTo, IsSteady};
 ghost use Rattle.std.specs.Int.Digits.{AllBelowBase};
@@ -56,6 +58,18 @@ pub fn what_is_written_is_the_only_spelling<T: AsnType + PartialEq>()
         der_format.carries output (own_records T.meaning v) →
         HasOneSpelling der_format T.meaning T.eq v output.items }
 {}
+
+/// The same of a type whose equal values are written alike, and in which the components of each SET have distinct tags, as the laws of
+/// `asn1_slots` say of each type that is read by index: if it is well tagged, octets that carry the records of a value are its only
+/// spelling.
+pub fn well_tagged_types_have_one_spelling<T: AsnType + PartialEq>()
+    ensures { AreWrittenAlike T.meaning T.eq → SetsAreDistinct T.meaning →
+        IsWellTagged T.meaning → (output : Vec ℕ Global) (v : T) → AreOctets output.items →
+        der_format.carries output (own_records T.meaning v) →
+        HasOneSpelling der_format T.meaning T.eq v output.items }
+{
+    what_is_written_is_the_only_spelling::<T>();
+}
 
 /// A law of streams: a canonical reader over the reader of DER is steady (`steady`). It belongs to the rules of DER, for a well-tagged
 /// type whose equal values have the same records, if the components of each SET in each valid value have distinct tags (`belongs`).

@@ -150,9 +150,9 @@ impl<'a, F: ElementForm> ElementDecoder<'a, F> {
 
     /// A content under a tag.
     fn scalar<V: FromContents>(&mut self, tag: Tag) -> Result<V, DecodeError>
-        ensures read { (content : V.Value → model.Content) →
-            ((x : V.Value) → IsReadAs (content x) (V.content x)) → (c : ConstraintSet) →
-            ReadsContent (element_reader F.form) tag c content V.IsOfType V.Is
+        ensures read { (content : V.Spelling → model.Content) →
+            ((x : V.Spelling) → IsReadAs (content x) (V.spelled x)) → (c : ConstraintSet) →
+            ReadsContent (element_reader F.form) tag c content V.MayCome V.IsReadOf
             self.old self.new result }
         ensures only { OnOk result (BeginWithContent (F.IsFormOf V.own_kind) tag
             (left_inside self.old.state.slices)) }
@@ -235,10 +235,10 @@ fn value_in<F: ElementForm, V: FromContents>(
     alloc: Global,
     element: ParsedElement<'_>,
 ) -> Result<V, ItemError>
-    ensures read { (t : Under) (c : ConstraintSet) (n : Name) (x : model.Content) (y : V.Value)
-        (e : Element) (own : List ℕ) → IsReadAs x (V.content y) → V.IsOfType y → IsAlone e own →
+    ensures read { (t : Under) (c : ConstraintSet) (n : Name) (x : model.Content) (y : V.Spelling)
+        (e : Element) (own : List ℕ) → IsReadAs x (V.spelled y) → V.MayCome y → IsAlone e own →
         IsParsed element.entry e own → F.form.Has (scalar t c n x) own →
-        MatchResult result (λ w. V.Is w y) (λ e. e ≡ Memory) }
+        MatchResult result (λ w. V.IsReadOf w y) (λ e. e ≡ Memory) }
     ensures only { OnOk result (F.IsFormOf V.own_kind element.entry.constructed) }
 {
     let contents = F::contents(alloc, V::kind(), element)?;
@@ -257,7 +257,8 @@ fn is_under(own: Tag, asked: Option<Tag>) -> bool
 
 impl<'a, F: ElementForm> Decoder for ElementDecoder<'a, F> {
     ghost use Rattle.asn1_laws.proofs.ReadingUpToOrder.{lawful};
-    ghost use Rattle.asn1_laws.specs.Reading.{ReadsHeadOfSet, TakesDepth, records_in};
+    ghost use Rattle.asn1_laws.specs.Reading.{OpensNothing, ReadsHeadOfSet, TakesDepth, records_in};
+    ghost use Rattle.asn1_laws.specs.ReadingTypes.{ReadsContent};
     ghost use Rattle.asn1_components.specs.Components.{rows};
     ghost use Rattle.asn1_elements.specs.Decoder.{element_reader, in_one_order};
     ghost use Rattle.asn1_der_items.specs.declared.content_order.ContentOrder.TheVariants.{ByEncoding, ByTag};
@@ -325,11 +326,19 @@ impl<'a, F: ElementForm> Decoder for ElementDecoder<'a, F> {
         }
     }
 
+    // Other spellings of a string of the kind are read too (`spelled`).
     fn decode_string<U, K: CodecString<U>>(
         &mut self,
         tag: Tag,
         _constraints: &Constraints<'_>,
-    ) -> Result<K::Owned, DecodeError> {
+    ) -> Result<K::Owned, DecodeError>
+        ensures read { ReadsContent (element_reader F.form) tag (constraint_set _constraints.now)
+            K.content K.AreOfKind (λ w v. K.units_in w ≡ v) self.old self.new result }
+        ensures spelled { ReadsContent (element_reader F.form) tag (constraint_set _constraints.now)
+            K.content (λ list. K.AreOfKind (K.units_read list))
+            (λ w list. K.units_in w ≡ K.units_read list) self.old self.new result }
+        ensures opens_nothing { OpensNothing (element_reader F.form) self.old self.new result }
+    {
         let StringOf { string } = self.scalar::<StringOf<U, K>>(tag)?;
         Ok(string)
     }

@@ -5,6 +5,7 @@
 //! | [`ElementForm`] | what a codec defines: the bytes of records, the contents octets of a content, and the orders inside sets | `ElementForms` |
 //! | [`ElementDecoder`] | the decoder of a form | `Decoder`, `UnreadBytes` |
 //! | [`ParsedElement`], [`Contents`] | an element that was parsed, and its contents octets as DER has them | `ElementForms` |
+//! | [`laws`] | which spellings of named bits are read | |
 //!
 //! A CHOICE has no element of its own, and presence marks and groups of additions have no octets. A component is present if the
 //! next element in its scope has one of its tags.
@@ -16,12 +17,14 @@
 //!   read (`all_read`).
 //! - It opens a set only if what is inside has an order of the form (`in_order`).
 //! - [`ElementDecoder::unread`] answers how many octets have not been read, if the number is below 2^64.
+//! - Named bits are read without the 0 bits at their end, however many come ([`laws::named_bits_are_read_without_zeros`]).
 #![tactic(auto)]
 
 mod contents;
 mod decoder;
 mod element_form;
 mod from_contents;
+pub mod laws;
 mod parsed_element;
 mod unread_bytes;
 

@@ -33,7 +33,7 @@ use asn1_values::kind::{
     Bits, Bmp, General, Graphic, Ia5, Numeric, Octets, Printable, Teletex, Visible,
 };
 use asn1_values::{
-    BmpString, GeneralString, GraphicString, Ia5String, IntegerType, NumericString,
+    BitVec, BmpString, GeneralString, GraphicString, Ia5String, IntegerType, NumericString,
     PrintableString, TeletexString, VisibleString,
 };
 use std::alloc::{AllocError, Global};
@@ -121,6 +121,18 @@ pub trait Encoder: Sized {
         ensures { WritesContent writer tag (constraint_set constraints.now) (name_of name)
             (K.content value.now) ⊤ self.old self.new result };
 
+    /// A BIT STRING whose bits lie in octets. The kind `K` says whether they have names (`NamedBits`), as a codec has to know that
+    /// adds 0 bits for a size.
+    fn encode_packed_bits<K: CodecString<bool>>(
+        &mut self,
+        tag: Tag,
+        constraints: &Constraints<'_>,
+        value: &BitVec,
+        name: Identifier,
+    ) -> Result<(), EncodeError>
+        ensures { WritesContent writer tag (constraint_set constraints.now) (name_of name)
+            (bits value.now) ⊤ self.old self.new result };
+
     /// A value of an open type, by its bytes, under whatever tag.
     fn encode_any(&mut self, tag: Tag, value: &Any, name: Identifier) -> Result<(), EncodeError>
         ensures { Writes writer self.old (open_type_records (name_of name) value.now)
@@ -142,9 +154,10 @@ pub trait Encoder: Sized {
     fn mark_addition_absent(&mut self, tag: Tag) -> Result<(), EncodeError>
         ensures { Writes writer self.old (mark_records (absent in_additions tag)) ⊤ self.new result };
 
-    /// The mark of a group of additions that is absent.
-    fn mark_group_absent(&mut self) -> Result<(), EncodeError>
-        ensures { Writes writer self.old (mark_records group_absent) ⊤ self.new result };
+    /// The mark of a group of additions that is absent, whose components are those of the table of `C`.
+    fn mark_group_absent<C: FieldTable>(&mut self) -> Result<(), EncodeError>
+        ensures { Writes writer self.old (mark_records (group_absent (rows C.components)))
+            ⊤ self.new result };
 
     /// Opens a SEQUENCE, whose components are those of the table of `C`.
     fn open_sequence<C: FieldTable>(
@@ -786,7 +799,7 @@ pub trait Encoder: Sized {
             result }
     {
         match value {
-            None => self.mark_group_absent(),
+            None => self.mark_group_absent::<C>(),
             Some(group) => {
                 self.open_group::<C>()?;
                 group.encode_fields(self)?;

@@ -11,3 +11,4 @@ mod Twos
 mod Writing
 mod SizedItems
 pub mod DecodeStates
+mod PackedBits

@@ -53,8 +53,8 @@ PatchedAs old new start link =
 pub not_so : (b : Bool) → b ≡ false → {A : Type 0} → (A → b ≡ true) → ¬ A
 not_so b f so a = let x : false ≡ true = sym f ∙ so a in cc
 
-group_alone : (table : Table Row) (rs : List model.Record) (b : Bool) → presence_marks_alone rs ≡ b → group_records table (Some rs) ≡ (if b then model.presence_mark model.group_absent ∷ [] else model.presence_mark (model.group_start table) ∷ rs ++ model.presence_mark model.group_end ∷ [])
-group_alone table rs b is = ap (λ a. if a then model.presence_mark model.group_absent ∷ [] else model.presence_mark (model.group_start table) ∷ rs ++ model.presence_mark model.group_end ∷ []) is
+group_alone : (table : Table Row) (rs : List model.Record) (b : Bool) → presence_marks_alone rs ≡ b → group_records table (Some rs) ≡ (if b then model.presence_mark (model.group_absent table) ∷ [] else model.presence_mark (model.group_start table) ∷ rs ++ model.presence_mark model.group_end ∷ [])
+group_alone table rs b is = ap (λ a. if a then model.presence_mark (model.group_absent table) ∷ [] else model.presence_mark (model.group_start table) ∷ rs ++ model.presence_mark model.group_end ∷ []) is
 
 not_alone : (b : Bool) → true ≡ not b → b ≡ false
 not_alone true e = cc
@@ -268,7 +268,7 @@ module _ (marks : MarkBytes) where
       )
 
   -- a group that is absent was closed
-  pub absent_group_closed : (table : Table Row) (rs : List model.Record) (w : Written) (outer : ℕ) (far : List ℕ) (groups : List Group) (g : Group) (bytes cut new away : List ℕ) (some : Bool) → some ≡ false → cut ≡ take g.start bytes → new ≡ cut ++ away → marks model.group_absent ≡ away →
+  pub absent_group_closed : (table : Table Row) (rs : List model.Record) (w : Written) (outer : ℕ) (far : List ℕ) (groups : List Group) (g : Group) (bytes cut new away : List ℕ) (some : Bool) → some ≡ false → cut ≡ take g.start bytes → new ≡ cut ++ away → marks (model.group_absent table) ≡ away →
       IsWrittenAsItems marks (in_group table rs w) outer far (g ∷ groups) bytes → some ≡ not (presence_marks_alone rs) →
       IsWrittenAsItems marks (followed_by w (group_records table (Some rs))) outer far groups new × TellsOfGroup (followed_by w (group_records table (Some rs))) g.outer_has_records
   absent_group_closed table rs w outer far groups g bytes cut new away some none cut_is is absent wrote flag =
@@ -277,8 +277,8 @@ module _ (marks : MarkBytes) where
       let kept : take g.start bytes ≡ s.before = ap (λ n. take n bytes) s.starts ∙ ap (take (length s.before)) s.are ∙ take-append_seam s.before (marks (model.group_start table) ++ s.inside) in
       let whole : new ≡ s.before ++ away = is ∙ ap (λ l. l ++ away) (cut_is ∙ kept) in
       subst (λ rest. IsWrittenAsItems marks (followed_by w rest) outer far groups new × TellsOfGroup (followed_by w rest) g.outer_has_records) (sym (group_alone table rs true alone)) (
-        appended w outer far groups s.before away new (model.presence_mark model.group_absent) (sym absent) whole s.outside,
-        tells_of_mark w model.group_absent g.outer_has_records wrote.0,
+        appended w outer far groups s.before away new (model.presence_mark (model.group_absent table)) (sym absent) whole s.outside,
+        tells_of_mark w (model.group_absent table) g.outer_has_records wrote.0,
       )
 
   -- what was written at the end

@@ -100,7 +100,7 @@ module _ (marks : MarkBytes) where
   -- A call that closes the innermost group, and is given the bytes of the presence mark of its end, and of that of an absent group.
   -- It fails only where memory runs out.
   abbrev pub EndsGroup : {A : Type 0} → List ℕ → List ℕ → Buffer → Buffer → Result A BufferError → Type 0
-  EndsGroup end absent old new result = (table : Table Row) (rs : List Record) (w : Written) → marks group_end ≡ end → marks group_absent ≡ absent → HasWritten marks (in_group table rs w) old →
+  EndsGroup end absent old new result = (table : Table Row) (rs : List Record) (w : Written) → marks group_end ≡ end → marks (group_absent table) ≡ absent → HasWritten marks (in_group table rs w) old →
       MatchResult result (λ _. HasWritten marks (followed_by w (group_records table (Some rs))) new) (λ e. e ≡ Memory)
 
 -- A call that writes the length of the bytes from an index on over the four bytes before it, and answers the number that they held. It

@@ -11,7 +11,7 @@ use Rattle.asn1_items.specs.declared.kinds.ContentKind.TheVariants as own_kind
 use Rattle.asn1_model.specs.Records as model
 use Rattle.asn1_model.specs.Records.{StringKind, null, boolean, number, discriminant, arcs, bits, units, teletex, bmp}
 use Rattle.asn1_model.specs.RecordTables.{no_table}
-use Rattle.asn1_types.specs.AnyStrings.{IsStringOf, content_of_str}
+use Rattle.asn1_types.specs.AnyStrings.{IsStringOf, content_kind_of, content_of_str}
 use Rattle.asn1_types.specs.declared.any_string.StringKind as kind
 use Rattle.asn1_types.specs.declared.any_string.StringKind.TheVariants as kinds
 
@@ -46,8 +46,10 @@ content_of (own.Arcs list) = arcs list.now
 content_of (own.String string) = content_of_str string
 
 -- a string of a kind has the content kind of strings of it
-pub kind_of_string : (k : kind.StringKind) (x : model.Content) → IsStringOf k x → content_kind x ≡ own_kind.String k
+pub kind_of_string : (k : kind.StringKind) (x : model.Content) → IsStringOf (content_kind_of k) x → content_kind x ≡ own_kind.String (content_kind_of k)
 kind_of_string kinds.Bits (bits list) is = refl
+kind_of_string kinds.PackedBits (bits list) is = refl
+kind_of_string kinds.NamedBits (bits list) is = refl
 kind_of_string (kinds.Octets k) (units own list) is = ap (λ s. own_kind.String (string_kind s)) is ∙ ap own_kind.String (string_kind-octet_kind k)
 kind_of_string kinds.Bmp (units own list) is = ap (λ s. own_kind.String (string_kind s)) is
 kind_of_string kinds.Teletex (units own list) is = ap (λ s. own_kind.String (string_kind s)) is

@@ -64,6 +64,8 @@ content_byte content.Null = 4
 content_byte content.Arcs = 5
 content_byte (content.String (kinds.Octets octets.OctetString)) = 6
 content_byte (content.String kinds.Bits) = 7
+content_byte (content.String kinds.PackedBits) = 7
+content_byte (content.String kinds.NamedBits) = 7
 content_byte (content.String (kinds.Octets octets.Utf8)) = 8
 content_byte (content.String (kinds.Octets octets.Visible)) = 9
 content_byte (content.String (kinds.Octets octets.General)) = 10
@@ -113,7 +115,7 @@ abbrev pub kind_of_mark : PresenceMark → MarkKind
 kind_of_mark (present side t) = mark_kind.Present
 kind_of_mark (absent side t) = mark_kind.Absent
 kind_of_mark (group_start table) = mark_kind.GroupStart
-kind_of_mark group_absent = mark_kind.GroupAbsent
+kind_of_mark (group_absent table) = mark_kind.GroupAbsent
 kind_of_mark group_end = mark_kind.GroupEnd
 
 -- the byte of a kind of presence mark in the packed form

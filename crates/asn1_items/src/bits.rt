@@ -6,6 +6,7 @@ ghost use Rattle.std.specs.Bool.{Decides};
 ghost use Rattle.std.specs.Prelude.{◌≡◌, ◌<◌, ◌≤◌, ◌+◌, ◌-◌, ◌*◌, ◌/◌, ◌∷◌, ◌++◌, [], Bool, IfOk, IfSome, List, MatchResult, None, false, length, replicate, take};
 
 use crate::error::ItemError;
+use asn1_values::BitVec;
 use std::alloc::{AllocError, Global};
 
 /// Appends how many bits of the last octet are unused, and the octets.
@@ -25,6 +26,15 @@ pub(crate) fn append_bits(bytes: &mut Vec<u8>, bits: &[bool]) -> Result<(), Allo
         }
         None => Ok(()),
     }
+}
+
+/// Appends the same of bits that lie in octets.
+#[inline(always)]
+pub(crate) fn append_packed_bits(bytes: &mut Vec<u8>, bits: &BitVec) -> Result<(), AllocError>
+    ensures { IfOk result (λ _. Appended (AreBits bits.now) bytes.old.items bytes.new.items) }
+{
+    bytes.push(bits.unused_bits())?;
+    bytes.extend_from_slice(bits.octets())
 }
 
 /// Writes the octets of bits over the bytes from an index on, but for the bits that are no whole octet.
@@ -104,6 +114,27 @@ pub fn read_bits(alloc: Global, bytes: &[u8]) -> Result<Vec<bool>, ItemError>
     }
     bits.truncate(total - unused);
     Ok(bits)
+}
+
+/// Reads bits into octets, as [`read_bits`] does into a list.
+///
+/// # Errors
+/// Those of [`read_bits`]; [`ItemError::Memory`] also for 2^61 octets or more, which no memory holds.
+pub fn read_packed_bits(alloc: Global, bytes: &[u8]) -> Result<BitVec, ItemError>
+    ensures read { (list : List Bool) → AreBits list bytes.now →
+        MatchResult result (λ v. v ≡ list) (λ e. e ≡ Memory) }
+    ensures only { IfOk result (λ v. AreBits v bytes.now) }
+{
+    let [unused, octets @ ..] = bytes else {
+        return Err(ItemError::Malformed);
+    };
+    if octets.len() >= 1 << 61 {
+        return Err(ItemError::Memory);
+    }
+    match BitVec::of_clear_octets(Vec::from_slice(alloc, octets)?, *unused) {
+        Some(bits) => Ok(bits),
+        None => Err(ItemError::Malformed),
+    }
 }
 
 /// Whether no bit is set.

@@ -5,7 +5,7 @@ ghost use Rattle.asn1_items.specs.Numbers.{Appended};
 ghost use Rattle.asn1_types.specs.AnyStrings.{content_of_str, octet_kind};
 ghost use Rattle.std.specs.Prelude.{◌≡◌, IfOk};
 
-use crate::bits::append_bits;
+use crate::bits::{append_bits, append_packed_bits};
 use crate::kinds::ContentKind;
 use crate::numbers::{append_fours, append_integer, append_narrow, append_twos};
 use asn1_types::{AnyStr, OctetKind, StringKind};
@@ -71,7 +71,7 @@ fn kind_of_string(string: AnyStr<'_>) -> ContentKind
     ensures { result ≡ content_kind (content_of_str string.entry) }
 {
     match string {
-        AnyStr::Bits(_) => ContentKind::String(StringKind::Bits),
+        AnyStr::Bits(_) | AnyStr::PackedBits(_) => ContentKind::String(StringKind::Bits),
         AnyStr::Octets(kind, _) => kind_of_octets(kind),
         AnyStr::Teletex(_) => ContentKind::String(StringKind::Teletex),
         AnyStr::Bmp(_) => ContentKind::String(StringKind::Bmp),
@@ -94,6 +94,7 @@ fn append_string(bytes: &mut Vec<u8>, string: AnyStr<'_>) -> Result<(), AllocErr
 {
     match string {
         AnyStr::Bits(bits) => append_bits(bytes, bits),
+        AnyStr::PackedBits(bits) => append_packed_bits(bytes, bits),
         AnyStr::Octets(_, octets) => bytes.extend_from_slice(octets),
         AnyStr::Teletex(units) => append_fours(bytes, units),
         AnyStr::Bmp(units) => append_twos(bytes, units),

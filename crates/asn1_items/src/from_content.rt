@@ -7,10 +7,10 @@ ghost use Rattle.asn1_items.specs.declared.kinds.ContentKind.TheVariants as kind
 ghost use Rattle.asn1_model.specs.Records as model;
 ghost use Rattle.asn1_model.specs.Records.{arcs, discriminant, null, number, boolean};
 ghost use Rattle.asn1_model.specs.RecordTables.{no_table};
-ghost use Rattle.asn1_types.specs.AnyStrings.{IsStringOf, content_of_string};
+ghost use Rattle.asn1_types.specs.AnyStrings.{IsMadeAs, IsStringOf, content_of_string};
 ghost use Rattle.std.specs.Prelude.{◌≡◌, ⊤, Bool, IfOk, List, MatchResult, ℕ, ℤ, refl};
 
-use crate::bits::read_bits;
+use crate::bits::{read_bits, read_packed_bits};
 use crate::error::ItemError;
 use crate::kinds::ContentKind;
 use crate::numbers::{read_fours, read_integer, read_twos};
@@ -180,6 +180,7 @@ pub struct StringOf<U, K: CodecString<U>> {
 
 impl<U, K: CodecString<U>> FromContent for StringOf<U, K> {
     ghost use Rattle.asn1_items.specs.Contents.{kind_of_string};
+    ghost use Rattle.asn1_types.specs.AnyStrings.{content_kind_of};
 
     ghost Value = { List U };
 
@@ -189,10 +190,10 @@ impl<U, K: CodecString<U>> FromContent for StringOf<U, K> {
 
     ghost Is = { λ w v. K.units_in w.string ≡ v };
 
-    ghost own_kind = { kind.String K.own_kind };
+    ghost own_kind = { kind.String (content_kind_of K.own_kind) };
 
     fn kind() -> ContentKind {
-        ContentKind::String(K::kind())
+        ContentKind::String(K::kind().of_content())
     }
 
     fn from_content(alloc: Global, bytes: &[u8]) -> Result<Self, ItemError> {
@@ -202,16 +203,20 @@ impl<U, K: CodecString<U>> FromContent for StringOf<U, K> {
         }
     }
 
-    ghost has_kind = { λ list. kind_of_string K.own_kind (K.content list) (K.is_string list) };
+    ghost has_kind = { λ list. kind_of_string K.own_kind (K.content list) (K.has_kind list) };
 }
 
 /// Reads the bytes of a string of this kind. Its units need not be those that strings of the kind can have.
 fn read_string(alloc: Global, kind: StringKind, bytes: &[u8]) -> Result<AnyString, ItemError>
     ensures read { (x : model.Content) → IsStringOf kind x → IsContent x bytes.now →
-        MatchResult result (λ string. content_of_string string ≡ x) (λ e. e ≡ Memory) }
+        MatchResult result (λ string. IsMadeAs kind string × (content_of_string string ≡ x))
+        (λ e. e ≡ Memory) }
 {
     match kind {
         StringKind::Bits => Ok(AnyString::Bits(read_bits(alloc, bytes)?)),
+        StringKind::PackedBits | StringKind::NamedBits => {
+            Ok(AnyString::PackedBits(read_packed_bits(alloc, bytes)?))
+        }
         StringKind::Octets(kind) => Ok(AnyString::Octets(kind, Vec::from_slice(alloc, bytes)?)),
         StringKind::Teletex => Ok(AnyString::Teletex(read_fours(alloc, bytes)?)),
         StringKind::Bmp => Ok(AnyString::Bmp(read_twos(alloc, bytes)?)),

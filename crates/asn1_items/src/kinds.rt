@@ -107,7 +107,9 @@ impl ContentKind {
             ContentKind::Null => 4,
             ContentKind::Arcs => 5,
             ContentKind::String(StringKind::Octets(OctetKind::OctetString)) => 6,
-            ContentKind::String(StringKind::Bits) => 7,
+            ContentKind::String(
+                StringKind::Bits | StringKind::PackedBits | StringKind::NamedBits,
+            ) => 7,
             ContentKind::String(StringKind::Octets(OctetKind::Utf8)) => 8,
             ContentKind::String(StringKind::Octets(OctetKind::Visible)) => 9,
             ContentKind::String(StringKind::Octets(OctetKind::General)) => 10,

@@ -54,7 +54,7 @@ mod scalars;
 mod slices;
 mod tags;
 
-pub use bits::read_bits;
+pub use bits::{read_bits, read_packed_bits};
 pub use buffer::Buffer;
 pub use content::Content;
 pub use decode_state::{BAD_ITEM, DecodeState, Opened};

@@ -13,6 +13,7 @@ pub mod ReadingBoxes
 pub mod ReadingOnce
 pub mod ReadingOptionals
 pub mod ReadingParts
+pub mod ReadingSequences
 pub mod ReadingSetScopes
 pub mod ReadingSets
 pub mod ReadingSetsOf

@@ -15,7 +15,7 @@ use Rattle.asn1_laws.specs.Reading.{Reader, MayFail, TellsPresence, Outside}
 use Rattle.asn1_laws.proofs.ReadingSteps.{highest-append, flat_failure}
 
 abbrev around : Table Row → List Record → Bool → List Record
-around table rs alone = if alone then presence_mark group_absent ∷ [] else presence_mark (group_start table) ∷ rs ++ presence_mark group_end ∷ []
+around table rs alone = if alone then presence_mark (group_absent table) ∷ [] else presence_mark (group_start table) ∷ rs ++ presence_mark group_end ∷ []
 
 around_is : (table : Table Row) (rs rest : List Record) → presence_marks_alone rs ≡ false → around table rs (presence_marks_alone rs) ++ rest ≡ presence_mark (group_start table) ∷ (rs ++ (presence_mark group_end ∷ rest))
 around_is table rs rest h = ap (λ b. around table rs b ++ rest) h ∙ ap (λ l. presence_mark (group_start table) ∷ l) (append_assoc rs (presence_mark group_end ∷ []) rest)
@@ -56,20 +56,20 @@ module _ {V : Type 0} (cs : List (ComponentType V)) where
         R.remains d (presence_mark (group_start table) ∷ (all_records cs x ++ (presence_mark group_end ∷ rest)), outer)
     after_start x some at = subst (λ l. R.remains d (l, outer)) (around_is table (all_records cs x) rest some) at
 
-    pub not_told : {error : DecodeError} (b h : ℕ) → TellsPresence R d e (group_start table) group_absent own_tags (Err error) → (v : Option V) →
+    pub not_told : {error : DecodeError} (b h : ℕ) → TellsPresence R d e (group_start table) (group_absent table) own_tags (Err error) → (v : Option V) →
         IfSome v (λ w. EachIsValid cs R.accepts w × (presence_marks_alone (all_records cs w) ≡ false)) →
         R.remains d (group_records table (option_map (all_records cs) v) ++ rest, outer) → MayFail b h error
     not_told {error} b h tells None valid at = flat_failure b h error (tells.away rest outer apart at)
     not_told {error} b h tells (Some x) valid at = flat_failure b h error (tells.there (all_records cs x ++ (presence_mark group_end ∷ rest)) outer (begins table can x rest valid.1) (after_start x valid.1 at))
 
-    pub not_there : {b : Bool} → TellsPresence R d e (group_start table) group_absent own_tags (Ok b) → b ≡ false → (v : Option V) →
+    pub not_there : {b : Bool} → TellsPresence R d e (group_start table) (group_absent table) own_tags (Ok b) → b ≡ false → (v : Option V) →
         IfSome v (λ w. EachIsValid cs R.accepts w × (presence_marks_alone (all_records cs w) ≡ false)) →
         R.remains d (group_records table (option_map (all_records cs) v) ++ rest, outer) → (v ≡ None) × R.remains e (rest, outer)
     not_there tells miss None valid at = (refl, (tells.away rest outer apart at).at)
     not_there tells miss (Some x) valid at =
         let wrong = (tells.there (all_records cs x ++ (presence_mark group_end ∷ rest)) outer (begins table can x rest valid.1) (after_start x valid.1 at)).answer in cc
 
-    pub is_there : {b : Bool} → TellsPresence R d e (group_start table) group_absent own_tags (Ok b) → b ≡ true → (v : Option V) → IfSome v (EachIsOfType cs) →
+    pub is_there : {b : Bool} → TellsPresence R d e (group_start table) (group_absent table) own_tags (Ok b) → b ≡ true → (v : Option V) → IfSome v (EachIsOfType cs) →
         IfSome v (λ w. EachIsValid cs R.accepts w × (presence_marks_alone (all_records cs w) ≡ false)) →
         R.remains d (group_records table (option_map (all_records cs) v) ++ rest, outer) → Entered table R e v rest outer
     is_there tells hit None of_type valid at = let wrong = (tells.away rest outer apart at).answer in cc

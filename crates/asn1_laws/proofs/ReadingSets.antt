@@ -27,7 +27,7 @@ first-unmarked (scope h inner ∷ rs) = refl
 first-unmarked (open_type n bytes ∷ rs) = refl
 first-unmarked (presence_mark m ∷ rs) = first-unmarked rs
 
-unmarked-marks : (rs : List Record) → presence_marks_alone rs ≡ true → unmarked rs ≡ []
+pub unmarked-marks : (rs : List Record) → presence_marks_alone rs ≡ true → unmarked rs ≡ []
 unmarked-marks [] alone = refl
 unmarked-marks (scalar t c n x ∷ rs) alone = cc
 unmarked-marks (scope h inner ∷ rs) alone = cc
@@ -51,7 +51,7 @@ in_tree c v r (inr absent) no_mark is = let none : unmarked (c.records v) ≡ []
 
 can_begin : {V : Type 0} (cs : List (ComponentType V)) (v : V) (k : ℕ) (r : Record) (t : Tag) → EachIsWellTagged cs → is_presence_mark r ≡ false → written_of cs v k ≡ r ∷ [] → TellsComponent cs (record_tags r) t → CanBeginWith cs k t
 can_begin [] v k r t can no_mark is tells = cc
-can_begin (c ∷ cs) v zero r t can no_mark is tells = tells.0 (in_tree c v r (c.fits can.0 v) no_mark is)
+can_begin (c ∷ cs) v zero r t can no_mark is tells = tells.0.0 (in_tree c v r (c.fits can.0 v) no_mark is)
 can_begin (c ∷ cs) v (suc k) r t can no_mark is tells = can_begin cs v k r t can.1 no_mark is tells.1
 
 -- no two components can begin with the same tag
@@ -60,7 +60,7 @@ other_tree tree [] k t apart has begins = begins
 other_tree tree (c ∷ cs) zero t apart has begins = apart.0 t has begins
 other_tree tree (c ∷ cs) (suc k) t apart has begins = other_tree tree cs k t apart.1 has begins
 
-same_component : {V : Type 0} (cs : List (ComponentType V)) (j k : ℕ) (t : Tag) → AllApart cs → CanBeginWith cs j t → CanBeginWith cs k t → j ≡ k
+pub same_component : {V : Type 0} (cs : List (ComponentType V)) (j k : ℕ) (t : Tag) → AllApart cs → CanBeginWith cs j t → CanBeginWith cs k t → j ≡ k
 same_component [] j k t apart one other = absurd one
 same_component (c ∷ cs) zero zero t apart one other = refl
 same_component (c ∷ cs) zero (suc k) t apart one other = absurd (other_tree c.tree cs k t apart.0 one other)

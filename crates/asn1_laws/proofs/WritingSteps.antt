@@ -36,7 +36,7 @@ marks-height (r ∷ rs) alone =
     omega (arith, mark-height r both.0, marks-height rs both.1)
 
 -- a group is nested as deep as its components
-group-height : (table : Table Row) (b : Bool) (rs : List Record) → (b ≡ true → highest rs ≡ 0) → highest (if b then presence_mark group_absent ∷ [] else presence_mark (group_start table) ∷ rs ++ presence_mark group_end ∷ []) ≡ highest rs
+group-height : (table : Table Row) (b : Bool) (rs : List Record) → (b ≡ true → highest rs ≡ 0) → highest (if b then presence_mark (group_absent table) ∷ [] else presence_mark (group_start table) ∷ rs ++ presence_mark group_end ∷ []) ≡ highest rs
 group-height table true rs flat = sym (flat refl)
 group-height table false rs flat = omega (arith, highest-append rs (presence_mark group_end ∷ []))
 
@@ -45,8 +45,8 @@ highest-group table rs = group-height table (presence_marks_alone rs) rs (marks-
 
 -- a group is rejected where its components are
 group_rejected : (table : Table Row) (rejects : List Record → Type 0) (b : Bool) (rs : List Record) → ((before rs after : List Record) → rejects rs → rejects (before ++ (rs ++ after))) →
-    (b ≡ true → rejects rs → rejects (presence_mark group_absent ∷ [])) → rejects rs →
-    rejects (if b then presence_mark group_absent ∷ [] else presence_mark (group_start table) ∷ rs ++ presence_mark group_end ∷ [])
+    (b ≡ true → rejects rs → rejects (presence_mark (group_absent table) ∷ [])) → rejects rs →
+    rejects (if b then presence_mark (group_absent table) ∷ [] else presence_mark (group_start table) ∷ rs ++ presence_mark group_end ∷ [])
 group_rejected table rejects true rs part marks is = marks refl is
 group_rejected table rejects false rs part marks is = part (presence_mark (group_start table) ∷ []) rs (presence_mark group_end ∷ []) is
 
@@ -165,7 +165,7 @@ module _ {E : Type 0} (W : Writer E) where
   group_fails {table = table} {rs} law p q = record {
     error = later_error (p.no_failure ∙ sym p.no_failure_before) q.error;
     too_deep = λ is. let high = q.too_deep is in omega (arith, highest-group table rs, high, p.same_depth);
-    rejected = λ is w wrote. group_rejected table W.rejects (presence_marks_alone rs) rs law.part (law.marks rs) (q.rejected is _ (p.opened w wrote));
+    rejected = λ is w wrote. group_rejected table W.rejects (presence_marks_alone rs) rs law.part (law.marks table rs) (q.rejected is _ (p.opened w wrote));
   }
 
   pub writes_group : {a b c : E} {table : Table Row} {rs : List Record} {T : Type 0} (d : E) {A : Type 0} (result : Result A EncodeError) →

@@ -79,7 +79,7 @@ module _ {E : Type 0} (W : Writer E) where
           (SameAll-append q.exactly rs after after q.same (SameRecords-refl after));
     };
     inner = λ h rs q. record { exactly = holding h q.exactly ∷ []; rejects = law.inner h q.exactly q.rejects; same = same_holding h q.exactly rs q.same };
-    marks = λ rs alone q. rejects_exactly (presence_mark group_absent ∷ []) (law.marks q.exactly (same-marks_alone q.exactly rs q.same ∙ alone) q.rejects);
+    marks = λ table rs alone q. rejects_exactly (presence_mark (group_absent table) ∷ []) (law.marks table q.exactly (same-marks_alone q.exactly rs q.same ∙ alone) q.rejects);
     wrote_in_any_order = λ e w x same q. record { exactly = q.exactly; wrote = q.wrote; same = SameWritten-trans q.same same };
     rejects_in_any_order = λ rs ss same q. record { exactly = q.exactly; rejects = q.rejects; same = SameAll-trans q.same same };
   }

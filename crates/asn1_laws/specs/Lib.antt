@@ -3,6 +3,7 @@ pub mod Defaults
 pub mod EncodeErrors
 pub mod GivenTypes
 pub mod IndexedComponents
+pub mod OpenSequences
 pub mod Reading
 pub mod ReadingTypes
 pub mod ReadingUpToOrder

@@ -1,5 +1,6 @@
 -- The records that remain to be read, and the effect of each call of a decoder.
 use Rattle.std.specs.Prelude.{◌≡◌, ◌≢◌, ◌⊎◌, ℕ, suc, ◌≤◌, ◌<◌, ⊤, Bool, true, false, List, [], ◌∷◌, ◌++◌, IsPermutation, Option, None, Some, IsSome, IfErr, Result, Err, MatchResult, OnOk, OnErr, if◌then◌else◌}
+use Rattle.asn1_tags.specs.Trees.{Trees, more, none}
 use Rattle.asn1_tags.specs.declared.tags.Tag.{Tag}
 use Rattle.asn1_components.specs.ComponentTypes.{ComponentType}
 use Rattle.asn1_model.specs.ConstraintSets.{ConstraintSet}
@@ -61,11 +62,16 @@ pub record Reader (D : Type 0) : Type 1 where
   pub depth_left : D → ℕ
   pub accepts : List ℕ → Bool
 
--- Each component in which these tags lie can begin with the tag.
+-- Each of these trees in which the tags lie has the tag.
+abbrev pub TellsTree : Trees → Tags → Tag → Type 0
+TellsTree none own t = ⊤
+TellsTree (more tree trees) own t = (LiesIn own (tree_tags tree) → Has (tree_tags tree) t) ×
+    TellsTree trees own t
+
+-- Each component in which these tags lie can begin with the tag, and so can each part of it.
 abbrev pub TellsComponent : {V : Type 0} → List (ComponentType V) → Tags → Tag → Type 0
 TellsComponent [] own t = ⊤
-TellsComponent (c ∷ cs) own t = (LiesIn own (tree_tags c.tree) → Has (tree_tags c.tree) t) ×
-    TellsComponent cs own t
+TellsComponent (c ∷ cs) own t = TellsTree (more c.tree c.parts) own t × TellsComponent cs own t
 
 -- A tag of the component whose record is next in a list; there is none where presence marks alone
 -- are left. It need not be that of the record, which a codec without tags does not know of a

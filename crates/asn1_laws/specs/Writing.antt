@@ -49,7 +49,8 @@ module _ {E : Type 0} (W : Writer E) where
   pub record IsLawful : Type 0 where
     pub part : (before rs after : List Record) → W.rejects rs → W.rejects (before ++ (rs ++ after))
     pub inner : (h : Head) (rs : List Record) → W.rejects rs → W.rejects (holding h rs ∷ [])
-    pub marks : (rs : List Record) → presence_marks_alone rs ≡ true → W.rejects rs → W.rejects (presence_mark group_absent ∷ [])
+    pub marks : (table : Table Row) (rs : List Record) → presence_marks_alone rs ≡ true → W.rejects rs →
+        W.rejects (presence_mark (group_absent table) ∷ [])
     pub wrote_in_any_order : (e : E) (w x : Written) → SameWritten w x → W.wrote e w → W.wrote e x
     pub rejects_in_any_order : (rs ss : List Record) → SameRecords rs ss → W.rejects rs → W.rejects ss
 

@@ -2,6 +2,7 @@
 -- that it wrote.
 use Rattle.std.specs.Prelude.{◌≡◌, true, List, [], ◌∷◌, ◌++◌}
 use Rattle.asn1_model.specs.Orders.{SameRecords}
+use Rattle.asn1_model.specs.RecordTables.{Row, Table}
 use Rattle.asn1_model.specs.Records.{Record, Head, group_absent, holding, presence_mark, presence_marks_alone}
 use Rattle.asn1_laws.specs.Writing.{Writer, Written, SameWritten}
 
@@ -11,7 +12,8 @@ module _ {E : Type 0} (W : Writer E) where
   pub record RejectsByParts : Type 0 where
     pub part : (before rs after : List Record) → W.rejects rs → W.rejects (before ++ (rs ++ after))
     pub inner : (h : Head) (rs : List Record) → W.rejects rs → W.rejects (holding h rs ∷ [])
-    pub marks : (rs : List Record) → presence_marks_alone rs ≡ true → W.rejects rs → W.rejects (presence_mark group_absent ∷ [])
+    pub marks : (table : Table Row) (rs : List Record) → presence_marks_alone rs ≡ true → W.rejects rs →
+        W.rejects (presence_mark (group_absent table) ∷ [])
 
   -- Something has been written that is the same up to the order inside sets (X.680, 27 and 28).
   pub record WroteUpToOrder (e : E) (w : Written) : Type 0 where

@@ -20,6 +20,7 @@
 //! | `SetParts.antt` | the components of a SET, as they are read: one by one, in whatever order |
 //! | `GivenTypes.antt`, `Defaults.antt` | a type under what a call is given, and a default that a closure makes |
 //! | `WritingTypes.antt`, `ReadingTypes.antt` | calls that write values of a type, and calls that read them |
+//! | `OpenSequences.antt` | a SEQUENCE, and a SEQUENCE OF, between the call that opens it and the one that closes it |
 //! | `IndexedComponents.antt`, `Sides.antt` | the component at an index, and the side of an extension marker on which it is |
 //! | `EncodeErrors.antt`, `DecodeErrors.antt` | the case and the contents of an error |
 //!

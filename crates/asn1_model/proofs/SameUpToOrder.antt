@@ -173,8 +173,8 @@ pub same_group_records : (table : Table Row) (rs ss : List Record) → SameAll (
 same_group_records table rs ss all = by_marks (presence_marks_alone rs) (presence_marks_alone ss) (same-marks_alone rs ss all)
   where
     by_marks : (a b : Bool) → a ≡ b →
-        SameAll (held (if a then presence_mark group_absent ∷ [] else presence_mark (group_start table) ∷ rs ++ presence_mark group_end ∷ [])) (held (if b then presence_mark group_absent ∷ [] else presence_mark (group_start table) ∷ ss ++ presence_mark group_end ∷ []))
-    by_marks true true e = SameAll-refl (held (presence_mark group_absent ∷ []))
+        SameAll (held (if a then presence_mark (group_absent table) ∷ [] else presence_mark (group_start table) ∷ rs ++ presence_mark group_end ∷ [])) (held (if b then presence_mark (group_absent table) ∷ [] else presence_mark (group_start table) ∷ ss ++ presence_mark group_end ∷ []))
+    by_marks true true e = SameAll-refl (held (presence_mark (group_absent table) ∷ []))
     by_marks true false e = cc
     by_marks false true e = cc
     by_marks false false e =

@@ -69,6 +69,6 @@ default_records side is_default t rs = option_records side t (if is_default then
 -- An extension addition group is between two presence marks. It is absent if there is none, and where its components are
 -- marks alone, as PER has it (X.691, 19.9).
 abbrev pub group_records : Table Row → Option (List Record) → List Record
-group_records table None = presence_mark group_absent ∷ []
+group_records table None = presence_mark (group_absent table) ∷ []
 group_records table (Some components) =
-    if presence_marks_alone components then presence_mark group_absent ∷ [] else presence_mark (group_start table) ∷ components ++ presence_mark group_end ∷ []
+    if presence_marks_alone components then presence_mark (group_absent table) ∷ [] else presence_mark (group_start table) ∷ components ++ presence_mark group_end ∷ []

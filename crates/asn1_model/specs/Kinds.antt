@@ -6,10 +6,11 @@ use Rattle.std.specs.Option.{option_map}
 use Rattle.asn1_tags.specs.declared.tags.Tag.{Tag}
 use Rattle.asn1_tags.specs.Tags.{tag_eq, distinct}
 use Rattle.asn1_tags.specs.Trees.{Tree, Trees, leaf, choice, leaves}
+use Rattle.asn1_values.specs.Bits.{EndsInOne}
 use Rattle.asn1_ranges.specs.Members.{IsMember}
 use Rattle.asn1_ranges.specs.declared.bounded.Bounded.{Bounded}
 use Rattle.asn1_model.specs.ConstraintSets.{ConstraintSet, unconstrained, values_of, size_of}
-use Rattle.asn1_model.specs.Records.{Name, Record, name_or, Content, Head, arcs, in_root, number, null, units, utf8, scalar, discriminant, holding, sequence_of}
+use Rattle.asn1_model.specs.Records.{Name, Record, name_or, Content, Head, arcs, bits, in_root, number, null, units, utf8, scalar, discriminant, holding, sequence_of}
 use Rattle.asn1_model.specs.RecordTables.{Label, Row, Table}
 use Rattle.asn1_model.specs.Tags.{universal, CHOICE, Has, HasOwnTag, IsATag, first_tag, tree_tags}
 use Rattle.asn1_model.specs.Composites.{option_records, choice_records}
@@ -57,6 +58,14 @@ abbrev pub string_type : {U : Type 0} → Tag → List ℕ → (U → Type 0) �
 string_type tag name IsUnit content =
     under_own_name (record (scalar_type tag unconstrained (Some name) content) { IsOfType = λ units. All IsUnit units })
 
+-- A BIT STRING (X.680, 22) of any bits.
+abbrev pub bit_string : Meaning (List Bool)
+bit_string = string_type (universal 3) (codes "BIT_STRING") (λ _. ⊤) bits
+
+-- A BIT STRING with named bits (22.7), of which the last is 1, if there is one, since 0 bits at the end mean nothing.
+abbrev pub named_bit_string : Meaning (List Bool)
+named_bit_string = record bit_string { IsOfType = EndsInOne }
+
 -- A UTF8String (X.680, 41), by its bytes, which are those of a text.
 abbrev pub utf8_string : {V : Type 0} → (V → List ℕ) → Meaning V
 utf8_string bytes = under_own_name (record (scalar_type (universal 12) unconstrained (Some (codes "UTF8String")) (λ v. units utf8 (bytes v))) {
@@ -67,17 +76,10 @@ utf8_string bytes = under_own_name (record (scalar_type (universal 12) unconstra
 abbrev pub object_identifier : Meaning (List ℕ)
 object_identifier = without_constraints (string_type (universal 6) (codes "OBJECT_IDENTIFIER") (λ arc. arc < 2 ^ 32) arcs)
 
--- An INTEGER (X.680, 19) whose values are the members of a bound.
+-- An INTEGER (X.680, 19 and 51.4) whose values are the members of a bound.
 abbrev pub integer_type : {V : Type 0} → (V → ℤ) → Bounded ℤ → Meaning V
 integer_type number_of bound = record (scalar_type (universal 2) (values_of bound) (Some (codes "INTEGER")) (λ v. number (number_of v))) {
   IsOfType = λ v. IsMember (λ n. n) bound (number_of v);
-}
-
--- An INTEGER with limits (X.680, 19 and 51.4): a number of any size, which is valid if and only if it is a member.
-abbrev pub limited_integer_type : Bounded ℤ → Meaning ℤ
-limited_integer_type bound = record (scalar_type (universal 2) (values_of bound) (Some (codes "INTEGER")) number) {
-  IsValid = λ _ n. IsMember (λ z. z) bound n;
-  well_formed = λ accepts v t c n _. (tt, tt);
 }
 
 -- An INTEGER (X.680, 19) of any size.

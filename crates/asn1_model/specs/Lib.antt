@@ -10,5 +10,7 @@ pub mod TypeTables
 pub mod OneRecord
 pub mod WellFormed
 pub mod TaggedTypes
+pub mod WrittenAlike
+pub mod DistinctSets
 pub mod Premises
 pub mod BeginningTags

@@ -28,11 +28,11 @@ pub record Meaning (V : Type 0) : Type 1 where
   -- 25.6, 27.3 and 29.3); and the types inside it are well tagged
   pub HasDistinctTags : Tag → Type 0
   -- the value meets its type's invariant, as every value of a program does: its numbers are within
-  -- the range of their types, its strings have the units of their kinds (a UTF8String the bytes of a text), its arrays
+  -- the limits of their types, its strings have the units of their kinds (a UTF8String the bytes of a text), its arrays
   -- are as long as they say
   pub IsOfType : V → Type 0
   -- the value is valid, which a writer has to ensure: each open type in it holds one value of the codec, by the codec's
-  -- test of byte strings; each group that is there writes a component; and each INTEGER with limits is within them
+  -- test of byte strings; and each group that is there writes a component
   pub IsValid : (List ℕ → Bool) → V → Type 0
   -- The law of types: where each value is a single record and the type's tags are distinct, that record is no presence mark,
   -- and begins with one of the type's tags.

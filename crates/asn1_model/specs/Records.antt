@@ -56,13 +56,13 @@ pub data Side : Type 0 where
   in_root : Side
   in_additions : Side
 
--- A presence mark: whether a component is there, and where the components of a group begin, which has a table of its own,
--- and end.
+-- A presence mark: whether a component is there, whether a group is, which has a table of its own, and where the
+-- components of one begin and end.
 pub data PresenceMark : Type 0 where
   present : Side → Tag → PresenceMark
   absent : Side → Tag → PresenceMark
   group_start : Table Row → PresenceMark
-  group_absent : PresenceMark
+  group_absent : Table Row → PresenceMark
   group_end : PresenceMark
 
 -- A record is a content, or holds other records and marks, or is a value as its bytes (an open type). Presence marks

@@ -2,6 +2,7 @@
 
 mod alphabet_string;
 mod array;
+mod bit_vec;
 mod boolean;
 mod boxed;
 mod built_in_integers;

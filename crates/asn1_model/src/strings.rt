@@ -10,7 +10,8 @@ ghost use Rattle.asn1_model.specs.Tags.{universal};
 use crate::type_table::TypeTable;
 use asn1_tags::{Identifier, Tag};
 use asn1_values::kind::{
-    Bits, Bmp, General, Graphic, Ia5, Numeric, Octets, Printable, Teletex, Visible,
+    Bits, Bmp, General, Graphic, Ia5, NamedBits, Numeric, Octets, PackedBits, Printable, Teletex,
+    Visible,
 };
 
 /// A kind of string in a schema, by its marker.
@@ -33,6 +34,32 @@ pub trait StringType<U> {
 }
 
 impl StringType<bool> for Bits {
+    ghost own_tag = { universal 3 };
+
+    ghost own_name = { codes "BIT_STRING" };
+
+    ghost content = { bits };
+
+    #[inline(always)]
+    fn table() -> TypeTable {
+        TypeTable::new(Tag::BIT_STRING, Identifier::BIT_STRING)
+    }
+}
+
+impl StringType<bool> for PackedBits {
+    ghost own_tag = { universal 3 };
+
+    ghost own_name = { codes "BIT_STRING" };
+
+    ghost content = { bits };
+
+    #[inline(always)]
+    fn table() -> TypeTable {
+        TypeTable::new(Tag::BIT_STRING, Identifier::BIT_STRING)
+    }
+}
+
+impl StringType<bool> for NamedBits {
     ghost own_tag = { universal 3 };
 
     ghost own_name = { codes "BIT_STRING" };

@@ -10,7 +10,7 @@ use Rattle.asn1_module_check.specs.declared.constructed.ConstructedKind.TheVaria
 use Rattle.asn1_resolved.specs.declared.schema.Schema.{Schema}
 use Rattle.asn1_resolved.specs.declared.types.TypeKind.{TypeKind}
 
--- Two components of a type of this kind share a tag although they must not: in a SEQUENCE, and in version brackets, two of a
+-- Two components of a type of this kind, or of version brackets in one, share a tag although they must not: in a SEQUENCE two of a
 -- run with the component right after it (X.680, 25.6); in a SET and a CHOICE any two (X.680, 27.3 and 29.3).
 abbrev pub IsClash : ConstructedKind → List Component → ℕ → ℕ → Type 0
 IsClash Sequence components = IsSequenceClash components

@@ -66,24 +66,24 @@ abbrev pub rows_of_alternatives : Schema → List Alternative → List Row
 rows_of_alternatives schema alternatives =
     map (λ alternative. row Required (first_tags schema alternative.definition.kind)) alternatives
 
--- those in version brackets, as a SEQUENCE
-abbrev pub table_of_group : Schema → List Component → List Table
-table_of_group schema [] = []
-table_of_group schema (first ∷ others) = table of_sequence (rows_of schema (first ∷ others)) ∷ []
+-- those in version brackets, as a SEQUENCE or a SET, which has them
+abbrev pub table_of_group : ConstructedKind → Schema → List Component → List Table
+table_of_group kind schema [] = []
+table_of_group kind schema (first ∷ others) = table kind (rows_of schema (first ∷ others)) ∷ []
 
 -- the group that an addition is
-abbrev pub group_in : Schema → Addition → List Table
-group_in schema (Component' name name_place place kind constraints usage) = []
-group_in schema (Group' shape components) = table_of_group schema (items-the_row-Component _ components)
+abbrev pub group_in : ConstructedKind → Schema → Addition → List Table
+group_in of_kind schema (Component' name name_place place kind constraints usage) = []
+group_in of_kind schema (Group' shape components) = table_of_group of_kind schema (items-the_row-Component _ components)
 
 -- all groups
-abbrev pub groups_in : Schema → Components → List Table
-groups_in schema components = flat_map (group_in schema) (out-Components components).additions.items
+abbrev pub groups_in : ConstructedKind → Schema → Components → List Table
+groups_in of_kind schema components = flat_map (group_in of_kind schema) (out-Components components).additions.items
 
 -- the components of a type, and those in its version brackets
 abbrev pub tables_of : Schema → TypeKind → List Table
-tables_of schema (Sequence components) = table of_sequence (all_rows schema components) ∷ groups_in schema components
-tables_of schema (Set components) = table of_set (all_rows schema components) ∷ groups_in schema components
+tables_of schema (Sequence components) = table of_sequence (all_rows schema components) ∷ groups_in of_sequence schema components
+tables_of schema (Set components) = table of_set (all_rows schema components) ∷ groups_in of_set schema components
 tables_of schema (Choice alternatives) = table of_choice (rows_of_alternatives schema (all_alternatives alternatives)) ∷ []
 tables_of schema kind = []
 

@@ -5,7 +5,7 @@ use asn1_names::Place;
 /// The kinds of types of components.
 #[derive(Clone, Copy, Debug, PartialEq, Eq)]
 pub enum ConstructedKind {
-    /// A SEQUENCE, or the components in version brackets.
+    /// A SEQUENCE, or version brackets in one.
     Sequence,
     /// A SET.
     Set,

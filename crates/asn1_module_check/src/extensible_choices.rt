@@ -114,8 +114,15 @@ fn check_set(
         has_one = check_component(alloc, problems, schema, component, has_one)?;
     }
     for addition in &components.additions {
-        if let Addition::Component(component) = addition {
-            has_one = check_component(alloc, problems, schema, component, has_one)?;
+        match addition {
+            Addition::Component(component) => {
+                has_one = check_component(alloc, problems, schema, component, has_one)?;
+            }
+            Addition::Group(group) => {
+                for component in group {
+                    has_one = check_component(alloc, problems, schema, component, has_one)?;
+                }
+            }
         }
     }
     Ok(())

@@ -74,12 +74,12 @@ pub(crate) fn add_tables<'a>(
         TypeKind::Sequence(components) => {
             let kind = ConstructedKind::Sequence;
             list.push(component_table(alloc, schema, components, kind, place)?)?;
-            add_groups(alloc, list, schema, components.additions.as_slice())
+            add_groups(alloc, list, schema, kind, components.additions.as_slice())
         }
         TypeKind::Set(components) => {
             let kind = ConstructedKind::Set;
             list.push(component_table(alloc, schema, components, kind, place)?)?;
-            add_groups(alloc, list, schema, components.additions.as_slice())
+            add_groups(alloc, list, schema, kind, components.additions.as_slice())
         }
         TypeKind::Choice(alternatives) => {
             list.push(alternative_table(alloc, schema, alternatives, place)?)?;
@@ -122,18 +122,19 @@ fn alternative_table<'a>(
     Ok(rows.into_table(ConstructedKind::Choice, place))
 }
 
-// Adds the components in each of the version brackets.
+// Adds the components in each of the version brackets of a type of this kind.
 fn add_groups<'a>(
     alloc: Global,
     list: &mut Vec<Constructed<'a>>,
     schema: &Schema<'a>,
+    kind: ConstructedKind,
     additions: &[Addition<'a>],
 ) -> Result<(), AllocError>
     ensures { OnOk result (map table_view list.new.items ≡ map table_view list.old.items ++
-        flat_map (group_in schema.now) additions.now) }
+        flat_map (group_in kind schema.now) additions.now) }
 {
     for addition in additions {
-        add_group_in(alloc, list, schema, addition)?;
+        add_group_in(alloc, list, schema, kind, addition)?;
     }
     Ok(())
 }
@@ -144,14 +145,15 @@ fn add_group_in<'a>(
     alloc: Global,
     list: &mut Vec<Constructed<'a>>,
     schema: &Schema<'a>,
+    kind: ConstructedKind,
     addition: &Addition<'a>,
 ) -> Result<(), AllocError>
     ensures { OnOk result (map table_view list.new.items ≡
-        map table_view list.old.items ++ group_in schema.now addition.now) }
+        map table_view list.old.items ++ group_in kind schema.now addition.now) }
 {
     match addition {
         Addition::Component(_) => Ok(()),
-        Addition::Group(components) => add_group(alloc, list, schema, components.as_slice()),
+        Addition::Group(components) => add_group(alloc, list, schema, kind, components.as_slice()),
     }
 }
 
@@ -160,17 +162,18 @@ fn add_group<'a>(
     alloc: Global,
     list: &mut Vec<Constructed<'a>>,
     schema: &Schema<'a>,
+    kind: ConstructedKind,
     components: &[Component<'a>],
 ) -> Result<(), AllocError>
     ensures { OnOk result (map table_view list.new.items ≡
-        map table_view list.old.items ++ table_of_group schema.now components.now) }
+        map table_view list.old.items ++ table_of_group kind schema.now components.now) }
 {
     let [first, ..] = components else {
         return Ok(());
     };
     let mut rows = Rows::new(alloc);
     add_components(alloc, &mut rows, schema, components)?;
-    list.push(rows.into_table(ConstructedKind::Sequence, first.place))?;
+    list.push(rows.into_table(kind, first.place))?;
     Ok(())
 }
 

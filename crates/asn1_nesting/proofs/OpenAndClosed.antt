@@ -4,7 +4,7 @@ use Rattle.std.specs.Prelude.{IfErr, IfOk, IsTrue, OnErr, OnOk, ◌<◌}
 use Rattle.asn1_components.specs.Alternatives.{Alternatives, OneOf, all_of, trees_of}
 use Rattle.asn1_components.specs.ChoiceTypes.{AgreesWithChoice}
 use Rattle.asn1_laws.proofs.ReadingChoices.{alternative_not_read, leaves_kept}
-use Rattle.asn1_laws.specs.Reading.{AfterReading, KeepsDepth, Reader, ReadsBack, ReadsValue}
+use Rattle.asn1_laws.specs.Reading.{AfterReading, Reader, ReadsBack, ReadsValue}
 use Rattle.asn1_laws.specs.ReadingTypes.{ReadsAlternative, ReadsHeadOfChoice}
 use Rattle.asn1_laws.specs.declared.decode_error.DecodeError.{DecodeError}
 use Rattle.asn1_laws.specs.declared.decode_error.DecodeError.TheVariants.{Failed}
@@ -39,31 +39,6 @@ reads_at_index R eq hs case_of alts pick are made index tag old new result begin
     (subst (λ ts. IsTrue (distinct (leaves_of ts))) are.trees distinct_tags) (are.can can)
     (subst (λ tree. Has (tree_tags tree) tag) (are.tree v) has) (subst (λ ts. BeginsAt ts index tag) are.trees begins)
     ((are.means v).of_type.1 of_type) (((are.means v).valid R.accepts).1 valid) reads)
-
-module _ {D V : Type 0} (R : Reader D) where
-  -- an error of a call that began with a decoder that had not failed, and has made it failed
-  pub fails_now : {e : DecodeError} (old new : D) → R.failed old ≡ false → R.failed new ≡ true → KeepsDepth R {V = V} old new (Err e)
-  fails_now {e} old new had_not has = record {
-    same_depth = tt;
-    no_failure = tt;
-    has_failed = has;
-    failed_before = λ before. let wrong : false ≡ true = sym had_not ∙ before in cc;
-  }
-
-  -- a scope that was opened and closed
-  pub closed_again : {v : V} (old opened end new : D) → R.failed old ≡ false → R.depth_left old ≡ suc (R.depth_left opened) →
-      R.depth_left end ≡ R.depth_left opened → R.depth_left new ≡ suc (R.depth_left end) → R.failed new ≡ false → KeepsDepth R old new (Ok v)
-  closed_again old opened end new had_not less same back has_not = record {
-    same_depth = omega (arith, less, same, back);
-    no_failure = has_not;
-    has_failed = tt;
-    failed_before = λ before. let wrong : false ≡ true = sym had_not ∙ before in cc;
-  }
-
--- a call that succeeded began with a decoder that had not failed
-pub had_not_failed : {V : Type 0} {v : V} (b : Bool) → (b ≡ true → Ok v ≡ Err Failed) → b ≡ false
-had_not_failed false failed_before = refl
-had_not_failed true failed_before = let wrong = failed_before refl in cc
 
 -- what holds of an error
 pub of_error : {A E : Type 0} {P Q : E → Type 0} (r : Result A E) → ((e : E) → P e → Q e) → IfErr r P → IfErr r Q

@@ -1,21 +1,19 @@
 -- A SEQUENCE, and a SEQUENCE OF, that was opened, and closed after what is in it was read.
-use Rattle.std.proofs.Common.{◌≡◌, ◌<◌, ◌≤◌, ℕ, suc, Bool, List, [], ◌∷◌, Result, Ok, Err, arith}
+use Rattle.std.proofs.Common.{◌≡◌, ◌<◌, ◌≤◌, ℕ, suc, Bool, List, Result, Ok, Err, arith}
 use Rattle.std.specs.Prelude.{IfErr, IfOk, OnOk, ⊤}
 use Rattle.std.specs.List.{flat_map}
-use Rattle.asn1_components.proofs.DistinctFollowers.{nothing_follows}
-use Rattle.asn1_components.specs.Components.{AgreesWithComponents, Components, all_components, component_records, is_sequence, rows}
+use Rattle.asn1_components.specs.Components.{AgreesWithComponents, Components, component_records, is_sequence, rows}
 use Rattle.asn1_laws.proofs.ReadingConstructed.{as_constructed}
 use Rattle.asn1_laws.proofs.ReadingElements.{as_many}
-use Rattle.asn1_laws.proofs.ReadingSteps.{fails_inside, flat_failure, not_opened, to_end, within_scope}
+use Rattle.asn1_laws.proofs.ReadingSteps.{fails_inside, flat_failure, not_opened, within_scope}
+use Rattle.asn1_laws.specs.OpenSequences.{IsOpenSequenceOf}
 use Rattle.asn1_laws.specs.Reading.{Reader, ReadsEnd, ReadsHead, ReadsValue, TakesDepth, records_in}
-use Rattle.asn1_laws.specs.ReadingTypes.{ReadsElements, ReadsElementsLeft, ReadsFields}
+use Rattle.asn1_laws.specs.ReadingTypes.{ReadsElements, ReadsElementsLeft}
 use Rattle.asn1_laws.specs.declared.decode_error.DecodeError.{DecodeError}
 use Rattle.asn1_model.specs.ConstraintSets.{ConstraintSet}
 use Rattle.asn1_model.specs.Meaning.{Meaning, own_records}
 use Rattle.asn1_model.specs.Records.{sequence, sequence_of}
 use Rattle.asn1_tags.specs.declared.tags.Tag.{Tag}
-use Rattle.asn1_nesting.proofs.OpenAndClosed.{had_not_failed}
-use Rattle.asn1_nesting.specs.OpenSequences.{IsOpenSequence, IsOpenSequenceOf}
 
 -- less depth is left after a scope was opened
 pub less_depth : {D A : Type 0} (R : Reader D) (old new : D) (r : Result A DecodeError) → OnOk r (R.depth_left old ≡ suc (R.depth_left new)) →
@@ -23,55 +21,14 @@ pub less_depth : {D A : Type 0} (R : Reader D) (old new : D) (r : Result A Decod
 less_depth R old new (Ok a) less = omega (arith, less)
 less_depth R old new (Err e) less = tt
 
-module _ {D V : Type 0} (R : Reader D) {m : Meaning V} {components : Components V} (eq : V → V → Bool) (law : AgreesWithComponents components m)
-    (kind : components.kind ≡ is_sequence) (t : Tag) where
-  -- a SEQUENCE was opened
-  pub opened_sequence : (old new : D) (r : Result ⊤ DecodeError) → ReadsHead R old new (sequence t (rows components)) (λ _ _. ⊤) r → TakesDepth R old new r →
-      OnOk r (IsOpenSequence R components t old new)
-  opened_sequence old new (Ok tt) head takes = record { head = head; one_less = takes.one_less; had_not_failed = had_not_failed _ takes.failed_before }
-  opened_sequence old new (Err e) head takes = tt
-
-  -- it was not
-  pub sequence_not_opened : (c : ConstraintSet) (old new : D) (r : Result ⊤ DecodeError) → ReadsHead R old new (sequence t (rows components)) (λ _ _. ⊤) r →
-      IfErr r (λ e. ReadsValue R m eq t c old new (Err e))
-  sequence_not_opened c old new (Ok tt) head = tt
-  sequence_not_opened c old new (Err e) head =
-      as_constructed is_sequence R m components eq t c old new (Err e) law kind (λ v n rest outer can of_type valid at.
-      not_opened (sequence t (rows components) n) (component_records components v) (R.depth_left old) (head n (component_records components v) rest outer at))
-
-  -- its components were not read
-  pub sequence_not_read : (c : ConstraintSet) (old opened end new : D) {e : DecodeError} → IsOpenSequence R components t old opened →
-      ReadsFields R components eq opened end (Err e) → ReadsValue R m eq t c old new (Err e)
-  sequence_not_read c old opened end new {e} is_open reads =
-      as_constructed is_sequence R m components eq t c old new (Err e) law kind (λ v n rest outer can of_type valid at.
-      let rs = component_records components v in
-      let h = sequence t (rows components) n in
-      let s = is_open.head n rs rest outer at in
-      let r = reads v [] ((h, rest) ∷ outer) can of_type valid (nothing_follows (all_components components)) (to_end R opened rs ((h, rest) ∷ outer) s.at) in
-      fails_inside h rs _ _ is_open.one_less r)
-
-  -- its end was not
-  pub sequence_not_closed : (c : ConstraintSet) (old opened end new : D) {w : V} {e : DecodeError} → IsOpenSequence R components t old opened →
-      ReadsFields R components eq opened end (Ok w) → ReadsEnd R {V = ⊤} end new (Err e) → ReadsValue R m eq t c old new (Err e)
-  sequence_not_closed c old opened end new {w} {e} is_open reads closes =
-      as_constructed is_sequence R m components eq t c old new (Err e) law kind (λ v n rest outer can of_type valid at.
-      let rs = component_records components v in
-      let h = sequence t (rows components) n in
-      let s = is_open.head n rs rest outer at in
-      let r = reads v [] ((h, rest) ∷ outer) can of_type valid (nothing_follows (all_components components)) (to_end R opened rs ((h, rest) ∷ outer) s.at) in
-      flat_failure _ _ _ (closes h rest outer r.at))
-
-  -- all was read
-  pub sequence_read : (c : ConstraintSet) (old opened end new : D) {w : V} → IsOpenSequence R components t old opened →
-      ReadsFields R components eq opened end (Ok w) → ReadsEnd R {V = ⊤} end new (Ok tt) → ReadsValue R m eq t c old new (Ok w)
-  sequence_read c old opened end new {w} is_open reads closes =
-      as_constructed is_sequence R m components eq t c old new (Ok w) law kind (λ v n rest outer can of_type valid at.
-      let rs = component_records components v in
-      let h = sequence t (rows components) n in
-      let s = is_open.head n rs rest outer at in
-      let r = reads v [] ((h, rest) ∷ outer) can of_type valid (nothing_follows (all_components components)) (to_end R opened rs ((h, rest) ∷ outer) s.at) in
-      let k = closes h rest outer r.at in
-      record { answer = r.answer; at = k.at; within_depth_left = within_scope h rs _ _ is_open.one_less r.within_depth_left })
+-- a SEQUENCE was not opened
+pub sequence_not_opened : {D V : Type 0} (R : Reader D) {m : Meaning V} {components : Components V} (eq : V → V → Bool) → AgreesWithComponents components m →
+    components.kind ≡ is_sequence → (t : Tag) (c : ConstraintSet) (old new : D) (r : Result ⊤ DecodeError) → ReadsHead R old new (sequence t (rows components)) (λ _ _. ⊤) r →
+    IfErr r (λ e. ReadsValue R m eq t c old new (Err e))
+sequence_not_opened R eq law kind t c old new (Ok tt) head = tt
+sequence_not_opened R {m} {components} eq law kind t c old new (Err e) head =
+    as_constructed is_sequence R m components eq t c old new (Err e) law kind (λ v n rest outer can of_type valid at.
+    not_opened (sequence t (rows components) n) (component_records components v) (R.depth_left old) (head n (component_records components v) rest outer at))
 
 -- a SEQUENCE OF was opened
 pub opened_sequence_of : {D : Type 0} (R : Reader D) (t : Tag) (c : ConstraintSet) (old new : D) (r : Result ℕ DecodeError) →

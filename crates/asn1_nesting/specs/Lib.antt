@@ -1,3 +1,2 @@
 pub mod InsideItself
 pub mod OpenChoices
-pub mod OpenSequences

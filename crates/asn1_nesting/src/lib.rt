@@ -21,8 +21,8 @@
 //!   (`not_read`).
 //! - If the alternative at that index was then read (`ReadsCaseAt` of `asn1_slots`), a value under the tag has been read after
 //!   [`close_choice`], or could not be (`read`), as `Decode` of `asn1_dec` promises (`after_reading`).
-//! - The same of the components of a SEQUENCE (`IsOpenSequence` of `specs/OpenSequences.antt`; `ReadsFields` of `asn1_laws`), and,
-//!   but for `after_reading`, of the elements of a SEQUENCE OF (`IsOpenSequenceOf`; `ReadsElementsLeft`).
+//! - The same of the components of a SEQUENCE (`IsOpenSequence` and `ReadsFields` of `asn1_laws`), and, but for
+//!   `after_reading`, of the elements of a SEQUENCE OF (`IsOpenSequenceOf`; `ReadsElementsLeft`).
 //! - The alternatives of the type are those of its cases (`AreCasesOf` of `specs/InsideItself.antt`), and inside itself the type has
 //!   the same records as elsewhere (`IsInside`).
 //!

@@ -1,8 +1,8 @@
 //! The calls that open and close a SEQUENCE OF.
+ghost use Rattle.asn1_laws.specs.OpenSequences.{IsOpenSequenceOf};
 ghost use Rattle.asn1_laws.specs.ReadingTypes.{ReadsElements, ReadsElementsLeft};
 ghost use Rattle.asn1_model.specs.ConstraintSets.{ConstraintSet, constraint_set};
 ghost use Rattle.asn1_model.specs.Records.{sequence_of};
-ghost use Rattle.asn1_nesting.specs.OpenSequences.{IsOpenSequenceOf};
 ghost use Rattle.asn1_tags.specs.declared.tags.Tag.{Tag};
 ghost use Rattle.std.specs.Cmp.Lexicographic.{pointwise};
 ghost use Rattle.std.specs.Global.{Vec};

@@ -1,13 +1,13 @@
 //! The calls that open and close a SEQUENCE.
 ghost use Rattle.asn1_components.specs.Components.{is_sequence};
+ghost use Rattle.asn1_laws.specs.OpenSequences.{IsOpenSequence};
 ghost use Rattle.asn1_laws.specs.Reading.{AfterReading, ReadsValue};
 ghost use Rattle.asn1_laws.specs.ReadingTypes.{ReadsFields};
 ghost use Rattle.asn1_model.specs.ConstraintSets.{ConstraintSet};
-ghost use Rattle.asn1_nesting.specs.OpenSequences.{IsOpenSequence};
 ghost use Rattle.std.specs.Prelude.{◌≡◌, ◌<◌, Err, IfErr, OnOk};
 
 use asn1_components::ConstructedType;
-use asn1_dec::Decoder;
+use asn1_dec::{Decoder, finish_sequence};
 use asn1_laws::DecodeError;
 use asn1_tags::Tag;
 
@@ -43,10 +43,5 @@ pub fn close_sequence<S: ConstructedType + Eq + Drop, D: Decoder>(
         S.components tag old opened → OnOk components (D.reader.depth_left decoder.old ≡
         D.reader.depth_left opened) → AfterReading D.reader S.meaning tag c old decoder.new result }
 {
-    let value = match components {
-        Ok(value) => value,
-        Err(error) => return Err(decoder.refuse(error)),
-    };
-    decoder.close()?;
-    Ok(value)
+    finish_sequence(decoder, tag, components)
 }

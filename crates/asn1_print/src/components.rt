@@ -60,6 +60,7 @@ pub(crate) fn constructed_with(
         },
         table,
         trees: Vec::new(plan.alloc),
+        is_of_set: false,
     })
 }
 
@@ -101,6 +102,7 @@ pub(crate) fn group_with(
     alloc: Global,
     components: Vec<asn1_rust_components::Component>,
     trees: Vec<Tree>,
+    is_of_set: bool,
 ) -> Constructed {
     Constructed {
         tag: None,
@@ -108,6 +110,7 @@ pub(crate) fn group_with(
         extension_index: None,
         table: Vec::new(alloc),
         trees,
+        is_of_set,
     }
 }
 
@@ -176,17 +179,23 @@ pub(crate) fn group_component(
     name: &str,
     summary: String,
     fields: &mut TakenNames,
+    is_of_set: bool,
 ) -> Result<asn1_rust_components::Component, AllocError> {
     let constant = constant_name(plan, module)?;
     let definition = group_type(plan, module, name, constant.as_str())?;
     let field = fields.take("additions")?;
+    let usage = if is_of_set {
+        asn1_rust_components::Usage::GroupOfSet(constant)
+    } else {
+        asn1_rust_components::Usage::Group(constant)
+    };
     Ok(asn1_rust_components::Component {
         name: plan.text(field.as_str())?,
         field,
         notation: summary,
         definition,
         tagging: Tagging::Untagged,
-        usage: asn1_rust_components::Usage::Group(constant),
+        usage,
         is_addition: true,
         held: None,
     })
@@ -246,7 +255,7 @@ pub(crate) fn tree_of(
         Beginning::Any => {
             plan.error(
                 place,
-                "an open type has no tag by which it is told from others",
+                "an open type has no tag by which it is told from others; give it one",
             )?;
             Ok(Tree::Leaf(universal(0)))
         }

@@ -167,15 +167,7 @@ fn addition_of(
 ) -> Result<asn1_rust_components::Component, AllocError> {
     match addition {
         Addition::Component(component) => component_of(plan, component, owner_name, fields, true),
-        Addition::Group(group) => {
-            if let (true, Some(first)) = (is_set, group.as_slice().first()) {
-                plan.error(
-                    first.place,
-                    "a SET with a group of additions is not supported",
-                )?;
-            }
-            group_of(plan, group.as_slice(), owner_name, fields)
-        }
+        Addition::Group(group) => group_of(plan, group.as_slice(), owner_name, fields, is_set),
     }
 }
 
@@ -231,6 +223,7 @@ fn group_of(
     group: &[Component<'_>],
     owner_name: &str,
     fields: &mut TakenNames,
+    is_set: bool,
 ) -> Result<asn1_rust_components::Component, AllocError> {
     let alloc = plan.alloc;
     let wanted = format!(in alloc; "{owner_name}Additions")?;
@@ -265,9 +258,16 @@ fn group_of(
         summary: summary.as_str(),
         notation: notation.as_str(),
     };
-    let body = TypeBody::Group(group_with(alloc, components, trees));
+    let body = TypeBody::Group(group_with(alloc, components, trees, is_set));
     push_file(plan, body, names, owner)?;
-    group_component(plan, module.as_str(), name.as_str(), summary, fields)
+    group_component(
+        plan,
+        module.as_str(),
+        name.as_str(),
+        summary,
+        fields,
+        is_set,
+    )
 }
 
 // A CHOICE.

@@ -295,7 +295,7 @@ fn cause_of_component(component: &Component) -> Option<&'static str> {
         Usage::Default(_) if names_knot => Some("a DEFAULT of a type of the circle"),
         Usage::Default(_) => None,
         Usage::EmptyList(_) => Some("a DEFAULT of a list"),
-        Usage::Group(_) => Some("a group of additions"),
+        Usage::Group(_) | Usage::GroupOfSet(_) => Some("a group of additions"),
     }
 }
 

@@ -72,7 +72,8 @@ pub(crate) fn plain_name(
     match &definition.kind {
         TypeKind::Boolean => plan.plain_type("bool"),
         TypeKind::Integer(_) => plan.integer_type(range_of(definition.constraints.as_slice())),
-        TypeKind::BitString(_) => plan.library_type("BitString"),
+        TypeKind::BitString(bits) if bits.is_empty() => plan.library_type("BitVec"),
+        TypeKind::BitString(_) => plan.library_type("NamedBitString"),
         TypeKind::OctetString => plan.library_type("OctetString"),
         TypeKind::ObjectIdentifier => plan.library_type("ObjectIdentifier"),
         TypeKind::String(kind) => string_type(plan, *kind, definition.place),

@@ -6,7 +6,7 @@ use crate::definitions::{Component, Constructed, Tree, TypeFile, Usage};
 use crate::reader::append_reader;
 use crate::table::append_table;
 use crate::trees::{append_trees, tree_code};
-use crate::writer::append_field_writer;
+use crate::writer::{append_field_writer, append_fields};
 use asn1_notation::TagClass;
 use asn1_rust_code::{Draft, TagNumber, append_typed};
 use std::alloc::AllocError;
@@ -20,6 +20,8 @@ pub enum Kind {
     Set,
     /// Additions in version brackets.
     Group,
+    /// Additions of a SET in version brackets.
+    GroupOfSet,
 }
 
 /// A type of components.
@@ -36,7 +38,7 @@ pub struct Subject<'a> {
 /// The trait by which a type of components is read.
 pub fn reading_trait(kind: Kind) -> &'static str {
     match kind {
-        Kind::Set => "DecodeSetByIndex",
+        Kind::Set | Kind::GroupOfSet => "DecodeSetByIndex",
         _ => "DecodeByIndex",
     }
 }
@@ -100,8 +102,16 @@ pub fn append_group(
     append_trees(draft, subject.file, items.as_slice())?;
     append_reader(draft, subject)?;
     append_table(draft, subject)?;
+    if subject.kind == Kind::GroupOfSet {
+        return append_fields(draft, subject);
+    }
     append_field_writer(draft, subject)?;
-    draft.use_names(&["AsnType", "DecodeFields", "decode_fields_by_index"])?;
+    draft.use_names(&[
+        "AsnType",
+        "DecodeError",
+        "DecodeFields",
+        "decode_fields_by_index",
+    ])?;
     let name = subject.file.name.as_str();
     draft.text(format!(in draft.alloc();
         "impl DecodeFields for {name} {{
@@ -160,7 +170,7 @@ fn append_field(draft: &mut Draft, component: &Component) -> Result<(), AllocErr
 fn has_option(component: &Component) -> bool {
     match component.usage {
         Usage::Optional => true,
-        Usage::Group(_) => true,
+        Usage::Group(_) | Usage::GroupOfSet(_) => true,
         _ => false,
     }
 }

@@ -65,6 +65,8 @@ pub struct Constructed {
     pub table: Vec<usize>,
     /// The trees of tags of a group's components.
     pub trees: Vec<Tree>,
+    /// Whether it is a group of a SET.
+    pub is_of_set: bool,
 }
 
 /// A component.
@@ -117,8 +119,10 @@ pub enum Usage {
     Default(DefaultValue),
     /// DEFAULT {}, for elements of this type.
     EmptyList(TypeName),
-    /// It is a group of additions, whose trees are this constant.
+    /// It is a group of additions of a SEQUENCE, whose trees are this constant.
     Group(String),
+    /// It is one of a SET.
+    GroupOfSet(String),
 }
 
 /// The value of a DEFAULT.

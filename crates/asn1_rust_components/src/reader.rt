@@ -14,14 +14,14 @@ pub(crate) fn append_reader(draft: &mut Draft, subject: Subject<'_>) -> Result<(
     let name = subject.file.name.as_str();
     let components = subject.body.components.as_slice();
     let reader = reading_trait(subject.kind);
-    draft.use_names(&[reader, "AsnType", "DecodeError", "Decoded", "Decoder"])?;
+    draft.use_names(&[reader, "AsnType", "Decoded", "Decoder"])?;
     draft.use_foreign("std::alloc", "AllocError")?;
     draft.use_foreign("std::alloc", "Global")?;
     draft.text(format!(in draft.alloc(); "impl {reader} for {name} {{\n")?)?;
     append_slots(draft, components)?;
     append_layout(draft, components)?;
     append_full(draft, components)?;
-    if subject.kind == Kind::Set {
+    if comes_in_any_order(subject.kind) {
         append_missing(draft, components)?;
     }
     append_decode_field(draft, subject)?;
@@ -79,6 +79,10 @@ fn filled_field(
             draft.use_names(&["or_empty"])?;
             format!(in alloc; "{field}: or_empty(alloc, slots.{slot})")
         }
+        Usage::GroupOfSet(_) => {
+            draft.use_names(&["group_of_slots"])?;
+            format!(in alloc; "{field}: group_of_slots(alloc, slots.{slot})?")
+        }
         _ => format!(in alloc; "{field}: slots.{slot}"),
     }
 }
@@ -100,7 +104,7 @@ fn default_field(alloc: Global, field: &str, slot: &str, code: &str) -> Result<S
 // Appends the call that names a component of a SET that is missing.
 fn append_missing(draft: &mut Draft, components: &[Component]) -> Result<(), AllocError> {
     let alloc = draft.alloc();
-    if !components.iter().any(is_required) {
+    if !components.iter().any(can_be_missing) {
         draft.line(
             1,
             "fn missing_at(_index: usize, _slots: &Self::Slots) -> Option<&'static str> {",
@@ -109,18 +113,30 @@ fn append_missing(draft: &mut Draft, components: &[Component]) -> Result<(), All
         draft.line(1, "}")?;
         return draft.blank();
     }
-    draft.use_names(&["missing"])?;
     draft.line(
         1,
         "fn missing_at(index: usize, slots: &Self::Slots) -> Option<&'static str> {",
     )?;
     draft.line(2, "match index {")?;
     for (index, component) in components.iter().enumerate() {
-        if is_required(component) {
+        if can_be_missing(component) {
             let slot = slot_path(alloc, index, components.len())?;
             let name = component.name.as_str();
-            let line = format!(in alloc; "{index} => missing(&slots.{slot}, \"{name}\"),")?;
-            draft.line(3, line.as_str())?;
+            let opening = match component.usage {
+                Usage::GroupOfSet(_) => {
+                    draft.use_names(&["missing_in_group"])?;
+                    let text = component.definition.text.as_str();
+                    format!(in alloc; "{index} => missing_in_group::<{text}>(")?
+                }
+                _ => {
+                    draft.use_names(&["missing"])?;
+                    format!(in alloc; "{index} => missing(")?
+                }
+            };
+            let slot = format!(in alloc; "&slots.{slot}")?;
+            let name = quoted(draft, name)?;
+            let arguments = [slot.as_str(), name.as_str()];
+            draft.call(3, opening.as_str(), &arguments, "),")?;
         }
     }
     draft.line(3, "_ => None,")?;
@@ -132,11 +148,17 @@ fn append_missing(draft: &mut Draft, components: &[Component]) -> Result<(), All
 // Appends the call that reads a component into its slot.
 fn append_decode_field(draft: &mut Draft, subject: Subject<'_>) -> Result<(), AllocError> {
     let components = subject.body.components.as_slice();
+    let tag = if comes_in_any_order(subject.kind) {
+        draft.use_names(&["Tag"])?;
+        tag_parameter(components)
+    } else {
+        ""
+    };
     if components.is_empty() {
         return draft.text(format!(in draft.alloc();
             "    fn decode_field<D: Decoder>(
         _index: usize,
-        _slots: &mut Self::Slots,
+{tag}        _slots: &mut Self::Slots,
         _decoder: &mut D,
     ) -> Decoded {{
         Ok(())
@@ -144,10 +166,21 @@ fn append_decode_field(draft: &mut Draft, subject: Subject<'_>) -> Result<(), Al
 "
         )?);
     }
-    draft.line(
-        1,
-        "fn decode_field<D: Decoder>(index: usize, slots: &mut Self::Slots, decoder: &mut D) -> Decoded {",
-    )?;
+    if comes_in_any_order(subject.kind) {
+        draft.text(format!(in draft.alloc();
+            "    fn decode_field<D: Decoder>(
+        index: usize,
+{tag}        slots: &mut Self::Slots,
+        decoder: &mut D,
+    ) -> Decoded {{
+"
+        )?)?;
+    } else {
+        draft.line(
+            1,
+            "fn decode_field<D: Decoder>(index: usize, slots: &mut Self::Slots, decoder: &mut D) -> Decoded {",
+        )?;
+    }
     draft.line(2, "match index {")?;
     for (index, component) in components.iter().enumerate() {
         let slot = slot_path(draft.alloc(), index, components.len())?;
@@ -184,9 +217,14 @@ fn append_reading_arm(
     if call == "group" {
         return draft.call(3, opening.as_str(), &[slot, "decoder"], "),");
     }
+    if call == "component_of_group" {
+        let text = component.definition.text.as_str();
+        let opening = format!(in draft.alloc(); "{index} => {call}::<{text}, D>(")?;
+        return draft.call(3, opening.as_str(), &[slot, "tag", "decoder"], "),");
+    }
     let tagging = draft.tagging_code(component.tagging)?;
     let tagging = tagging.as_str();
-    if kind == Kind::Set {
+    if comes_in_any_order(kind) {
         let name = quoted(draft, component.name.as_str())?;
         let arguments = [slot, "decoder", tagging, name.as_str()];
         return draft.call(3, opening.as_str(), &arguments, "),");
@@ -194,10 +232,35 @@ fn append_reading_arm(
     draft.call(3, opening.as_str(), &[slot, "decoder", tagging], "),")
 }
 
-// Whether a component is always there.
-fn is_required(component: &Component) -> bool {
+// Whether the components come in any order.
+fn comes_in_any_order(kind: Kind) -> bool {
+    match kind {
+        Kind::Set | Kind::GroupOfSet => true,
+        Kind::Sequence | Kind::Group => false,
+    }
+}
+
+// The line of the parameter for the tag, which a group needs.
+fn tag_parameter(components: &[Component]) -> &'static str {
+    if components.iter().any(is_group_of_set) {
+        "        tag: Tag,\n"
+    } else {
+        "        _tag: Tag,\n"
+    }
+}
+
+// Whether a component is a group of a SET.
+fn is_group_of_set(component: &Component) -> bool {
     match component.usage {
-        Usage::Required => true,
+        Usage::GroupOfSet(_) => true,
+        _ => false,
+    }
+}
+
+// Whether a component can be missing: it is always there, or it is a group with components that are.
+fn can_be_missing(component: &Component) -> bool {
+    match component.usage {
+        Usage::Required | Usage::GroupOfSet(_) => true,
         _ => false,
     }
 }
@@ -205,7 +268,7 @@ fn is_required(component: &Component) -> bool {
 // Whether the value of a component may need memory.
 fn needs_memory(component: &Component) -> bool {
     match component.usage {
-        Usage::EmptyList(_) => true,
+        Usage::EmptyList(_) | Usage::GroupOfSet(_) => true,
         _ => false,
     }
 }
@@ -214,7 +277,8 @@ fn needs_memory(component: &Component) -> bool {
 fn reading_call(kind: Kind, component: &Component) -> &'static str {
     match (&component.usage, kind, component.is_addition) {
         (Usage::Group(_), _, _) => "group",
-        (_, Kind::Set, _) => "decode_unique",
+        (Usage::GroupOfSet(_), _, _) => "component_of_group",
+        (_, Kind::Set | Kind::GroupOfSet, _) => "decode_unique",
         (Usage::Required, _, _) => "required",
         (_, _, true) => "addition",
         (_, _, false) => "optional",

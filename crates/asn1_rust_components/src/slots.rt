@@ -22,7 +22,12 @@ pub fn append_slots(draft: &mut Draft, components: &[Component]) -> Result<(), A
     let mut slots = Vec::new(alloc);
     for component in components {
         let text = component.definition.text.as_str();
-        slots.push(format!(in alloc; "Option<{text}>")?)?;
+        slots.push(match component.usage {
+            Usage::GroupOfSet(_) => {
+                format!(in alloc; "Option<<{text} as DecodeSetByIndex>::Slots>")?
+            }
+            _ => format!(in alloc; "Option<{text}>")?,
+        })?;
     }
     if slots.len() <= PARTS {
         let closing = if slots.len() == 1 { ",);" } else { ");" };
@@ -96,6 +101,11 @@ fn layout_entry(
     let field = component.field.as_str();
     let slot = slot_path(alloc, index, count)?;
     let text = component.definition.text.as_str();
+    if let Usage::GroupOfSet(_) = component.usage {
+        return format!(in alloc;
+            "{word} (codes \"{name}\") (λ v. v.{field}) ⟦<{text} as DecodeSetByIndex>⟧.layout (λ s. s.{slot}) ⟦<{text} as PartialEq>⟧.eq"
+        );
+    }
     let default = default_term(draft, component)?;
     let subject = subject_term(draft, component)?;
     format!(in alloc;
@@ -140,6 +150,7 @@ fn subject_term(draft: &mut Draft, component: &Component) -> Result<String, Allo
 fn slot_word(component: &Component) -> &'static str {
     match (&component.usage, component.is_addition) {
         (Usage::Group(_), _) => "group_slot",
+        (Usage::GroupOfSet(_), _) => "group_in_set",
         (Usage::Required, _) => "required_slot",
         (Usage::Optional, false) => "optional_slot",
         (Usage::Optional, true) => "addition_slot",

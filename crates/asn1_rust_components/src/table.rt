@@ -91,7 +91,7 @@ fn append_arm(
     let name = quoted(draft, component.name.as_str())?;
     let arguments = [number.as_str(), name.as_str()];
     match &component.usage {
-        Usage::Group(constant) => {
+        Usage::Group(constant) | Usage::GroupOfSet(constant) => {
             let arguments = [number.as_str(), constant.as_str(), name.as_str()];
             append_call(draft, opening.as_str(), &arguments)
         }
@@ -141,7 +141,9 @@ fn arm_opening(draft: &Draft, component: &Component, index: usize) -> Result<Str
     let text = component.definition.text.as_str();
     let usage = usage_word(&component.usage);
     match (&component.usage, component.tagging) {
-        (Usage::Group(_), _) => format!(in alloc; "{index} => Some(Field::new_group("),
+        (Usage::Group(_) | Usage::GroupOfSet(_), _) => {
+            format!(in alloc; "{index} => Some(Field::new_group(")
+        }
         (_, Tagging::Untagged) => {
             format!(in alloc; "{index} => Some(Field::new_{usage}_type::<{text}>(")
         }
@@ -169,7 +171,7 @@ fn usage_word(usage: &Usage) -> &'static str {
     match usage {
         Usage::Required => "required",
         Usage::Optional => "optional",
-        Usage::Group(_) => "optional",
+        Usage::Group(_) | Usage::GroupOfSet(_) => "optional",
         _ => "default",
     }
 }

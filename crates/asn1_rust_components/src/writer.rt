@@ -7,6 +7,12 @@ use std::alloc::{AllocError, Global};
 
 /// Appends `EncodeFields`.
 pub fn append_field_writer(draft: &mut Draft, subject: Subject<'_>) -> Result<(), AllocError> {
+    append_fields(draft, subject)?;
+    draft.blank()
+}
+
+/// The same at the end of a file.
+pub(crate) fn append_fields(draft: &mut Draft, subject: Subject<'_>) -> Result<(), AllocError> {
     let name = subject.file.name.as_str();
     let components = subject.body.components.as_slice();
     draft.use_names(&["Encode", "EncodeError", "EncodeFields", "Encoder"])?;
@@ -19,8 +25,7 @@ pub fn append_field_writer(draft: &mut Draft, subject: Subject<'_>) -> Result<()
         )?;
         draft.line(2, "Ok(())")?;
         draft.line(1, "}")?;
-        draft.line(0, "}")?;
-        return draft.blank();
+        return draft.line(0, "}");
     }
     draft.line(
         1,
@@ -33,14 +38,13 @@ pub fn append_field_writer(draft: &mut Draft, subject: Subject<'_>) -> Result<()
     draft.line(3, "_ => Ok(()),")?;
     draft.line(2, "}")?;
     draft.line(1, "}")?;
-    draft.line(0, "}")?;
-    draft.blank()
+    draft.line(0, "}")
 }
 
 // Appends the line that writes a component.
 fn append_arm(draft: &mut Draft, component: &Component, index: usize) -> Result<(), AllocError> {
     match (&component.usage, component.is_addition) {
-        (Usage::Group(_), _) => append_group_arm(draft, component, index),
+        (Usage::Group(_) | Usage::GroupOfSet(_), _) => append_group_arm(draft, component, index),
         (Usage::Default(value), _) => {
             let code = value.code.as_str();
             let default = format!(in draft.alloc(); "|_| Ok({code})")?;

@@ -30,7 +30,11 @@ fn append_body(draft: &mut Draft, file: &TypeFile) -> Result<(), AllocError> {
             append_set(draft, Subject { kind, file, body })
         }
         TypeBody::Group(body) => {
-            let kind = Kind::Group;
+            let kind = if body.is_of_set {
+                Kind::GroupOfSet
+            } else {
+                Kind::Group
+            };
             append_group(draft, Subject { kind, file, body }, body.trees.as_slice())
         }
         TypeBody::Choice(body) => append_choice(draft, ChoiceSubject { file, body }),

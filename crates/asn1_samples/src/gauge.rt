@@ -56,7 +56,12 @@ impl DecodeSetByIndex for Gauge {
         }
     }
 
-    fn decode_field<D: Decoder>(index: usize, slots: &mut Self::Slots, decoder: &mut D) -> Decoded {
+    fn decode_field<D: Decoder>(
+        index: usize,
+        _tag: Tag,
+        slots: &mut Self::Slots,
+        decoder: &mut D,
+    ) -> Decoded {
         let any = &Constraints::NONE;
         match index {
             0 => decode_unique_with_constraints(&mut slots.0, decoder, None, any, "level"),

@@ -54,7 +54,12 @@ impl DecodeSetByIndex for Ticket {
         }
     }
 
-    fn decode_field<D: Decoder>(index: usize, slots: &mut Self::Slots, decoder: &mut D) -> Decoded {
+    fn decode_field<D: Decoder>(
+        index: usize,
+        _tag: Tag,
+        slots: &mut Self::Slots,
+        decoder: &mut D,
+    ) -> Decoded {
         match index {
             0 => decode_unique(&mut slots.0, decoder, Tagging::Tagged(SEAT), "seat"),
             1 => decode_unique(&mut slots.1, decoder, Tagging::Tagged(NAME), "name"),

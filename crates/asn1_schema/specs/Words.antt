@@ -7,6 +7,7 @@ pub use Rattle.asn1_types.specs.Words.{required, optional, with_default, additio
 pub use Rattle.asn1_types.specs.Words.{rows, group, sequence, extensible_sequence, set, extensible_set}
 -- the same, each with the slot into which it is read
 pub use Rattle.asn1_slots.specs.Slots.{required_slot, optional_slot, default_slot, empty_list_slot, addition_slot, addition_with_default_slot, addition_with_empty_list_slot, group_slot}
+pub use Rattle.asn1_slots.specs.GroupsInSets.{group_in_set}
 pub use Rattle.asn1_slots.specs.Slots.{sequence_of_slots, extensible_sequence_after, set_of_slots, extensible_set_after}
 -- the type of a component under constraints of its own
 pub use Rattle.asn1_slots.specs.Taggings.{under_constraints}

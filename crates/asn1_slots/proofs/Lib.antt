@@ -4,4 +4,8 @@ pub mod NamedErrors
 pub mod ReadByIndex
 pub mod ReadChoices
 pub mod ReadInSets
+pub mod WrittenAlike
+pub mod DistinctSets
 mod TreesWithTags
+pub mod SetItems
+pub mod FilledGroups

@@ -1,142 +1,115 @@
 -- How the components of a SET are read into slots, in whatever order they come.
-use Rattle.std.proofs.Common.{◌≡◌, ◌≢◌, ℕ, zero, suc, ◌+◌, ◌≤◌, true, false, cond, List, [], ◌∷◌, ◌++◌, inl, inr, Option, Some, None, Result, Ok, length, refl, ap, sym, ◌∙◌, subst, arith}
+use Rattle.std.proofs.Common.{◌≡◌, ◌≢◌, ℕ, zero, suc, ◌+◌, ◌≤◌, true, cond, List, [], ◌∷◌, ◌++◌, inl, inr, Option, Some, None, Result, Ok, Err, Bool, length, refl, ap, sym, ◌∙◌, subst, arith}
 use Rattle.std.specs.Prelude.{◌==◌, ⊤, IsPermutation}
-use Rattle.std.proofs.lemmas.Bool.{and_parts}
 use Rattle.std.proofs.lemmas.Bool.Decides.{nat_tests}
+use Rattle.std.proofs.lemmas.List.Elements.{All-nil}
+use Rattle.std.proofs.lemmas.List.Sorted.{All-permutation, IsPermutation-sym}
 use Rattle.std.proofs.lemmas.List.Sums.{sum_by-append, sum_by-cons}
-use Rattle.asn1_components.specs.ComponentLists.{EachIsWellTagged, EachIsOfType, EachIsValid, all_records}
+use Rattle.asn1_components.specs.ComponentLists.{EachIsOfType, EachIsValid, EachIsWellTagged, EachTreeIsDistinct, all_records, joined, parts_of, trees_of}
 use Rattle.asn1_components.specs.ComponentTypes.{ComponentType}
-use Rattle.asn1_components.specs.Following.{AllApart}
-use Rattle.asn1_laws.proofs.ReadingSets.{ComponentComes, PartsRead, Through, comes, comes_at, filled, further, start, through}
-use Rattle.asn1_laws.proofs.SetRecords.{at_most_one, records}
-use Rattle.asn1_laws.specs.Reading.{Advances, HasAdvanced, IsNextTag, MayFail, Outside, Reader, ReadsBack, marks_passed, records_in}
-use Rattle.asn1_laws.specs.SetParts.{CanBeginWith, EachIsOneRecord, parts_at, unmarked, written_of}
+use Rattle.asn1_components.specs.Following.{AllApart, ApartFromEach}
+use Rattle.asn1_laws.proofs.ReadingSets.{ComponentComes, PartsRead, Through, comes, filled, further, not_told, same_component, through}
+use Rattle.asn1_laws.proofs.ReadingSteps.{in_other_words}
+use Rattle.asn1_laws.proofs.Rearrangements.{made_of}
+use Rattle.asn1_laws.proofs.SetRecords.{IsAll, Item, all_are, as_many_as_written, at_most_one, items_at-permutation, items_from, records, their_records}
+use Rattle.asn1_laws.specs.Reading.{Advances, HasAdvanced, IsNextTag, MayFail, Outside, Reader, ReadsBack, Remaining, TellsComponent, TellsTree, marks_passed, records_in}
+use Rattle.asn1_laws.specs.SetParts.{CanBeginWith, parts_at, unmarked, written_of}
 use Rattle.asn1_laws.specs.declared.decode_error.DecodeError.{DecodeError}
 use Rattle.asn1_laws.specs.declared.decode_error.DecodeError.TheVariants.{Depth, Memory}
 use Rattle.asn1_model.specs.Records.{Record, highest}
+use Rattle.asn1_model.specs.Tags.{Has, ShareNone, Tags, first_tags, tree_tags}
+use Rattle.asn1_tags.specs.Tags.{distinct}
+use Rattle.asn1_tags.specs.Trees.{Tree, Trees, leaves, more, none}
 use Rattle.asn1_tags.specs.declared.tags.Tag.{Tag}
-use Rattle.asn1_slots.specs.Slots.{AllAreKept, AreEmpty, AreSlotsOf, HoldBefore, IsKept, OthersAreKept, ReadsOnceAt, Slot, has_no_group}
+use Rattle.asn1_slots.proofs.SetItems.{unmarked-all, unmarked-counts, unmarked-records, unmarked_items, woven, woven-all, woven-counts, woven-records}
+use Rattle.asn1_slots.specs.SlotsInStep.{IsPlace, each_is_one, each_is_own, each_well_tagged, hold_at_end, none_came, part_is_read, place_of, times_in_step, trees_in_parts, written_in_parts}
+use Rattle.asn1_slots.specs.PartsInSets.{AreOwnParts, one_more}
+use Rattle.asn1_slots.specs.Slots.{AreEmpty, AreInStep, AreSlotsOf, HoldBefore, OthersAreKept, ReadsOnceAt, Slot, can_be_in_set, components_of, parts_of_slots}
 
--- how often the component of this index has come
-abbrev times : ℕ → List ℕ → ℕ
-times k came = parts_at (λ i. i) k came
+-- how often the part of this index has come
+abbrev times : List ℕ → ℕ → ℕ
+times came k = parts_at (λ i. i) k came
 
-times-push : (k : ℕ) (came : List ℕ) (i : ℕ) → times k (came ++ i ∷ []) ≡ times k came + cond (i == k) 1 0
-times-push k came i = omega (arith, sum_by-append (λ j. cond (j == k) 1 0) came (i ∷ []), sum_by-cons (λ j. cond (j == k) 1 0) i [])
+times-push : (came : List ℕ) (i k : ℕ) → one_more (times came) i k ≡ times (came ++ i ∷ []) k
+times-push came i k = omega (arith, sum_by-append (λ j. cond (j == k) 1 0) came (i ∷ []), sum_by-cons (λ j. cond (j == k) 1 0) i [])
 
 is_same : (i k : ℕ) → i ≡ k → (i == k) ≡ true
 is_same i k same = grind (arith, nat_tests)
 
-is_other : (i k : ℕ) → i ≢ k → (i == k) ≡ false
-is_other i k other = grind (arith, nat_tests)
+-- what tells of trees tells of what has them
+tells_joined : (first second : Trees) (own : Tags) (t : Tag) → TellsTree first own t → TellsTree second own t → TellsTree (joined first second) own t
+tells_joined none second own t one other = other
+tells_joined (more tree trees) second own t one other = (one.0, tells_joined trees second own t one.1 other)
 
-once_more : (k : ℕ) (came : List ℕ) (i : ℕ) → i ≡ k → times k (came ++ i ∷ []) ≡ suc (times k came)
-once_more k came i same = omega (arith, times-push k came i, ap {B = ℕ} (λ b. cond b 1 0) (is_same i k same))
-
-as_before : (k : ℕ) (came : List ℕ) (i : ℕ) → i ≢ k → times k (came ++ i ∷ []) ≡ times k came
-as_before k came i other = omega (arith, times-push k came i, ap {B = ℕ} (λ b. cond b 1 0) (is_other i k other))
+tells_parts : {V : Type 0} (ps : List (ComponentType V)) (own : Tags) (t : Tag) → AreOwnParts ps → TellsTree (trees_of ps) own t → TellsComponent ps own t
+tells_parts [] own t are tells = tt
+tells_parts (p ∷ ps) own t are tells =
+    ((tells.0, subst (λ trees. TellsTree trees own t) (sym are.0) (tells.0, tt)), tells_parts ps own t are.1 tells.1)
 
 module _ {S V : Type 0} where
-  -- a slot is empty until its component has come, and then has what the value has
-  abbrev IsInStep : Slot S V → ℕ → S → V → Type 0
-  IsInStep h n s v = (n ≡ 0 → h.content s ≡ None) × (n ≢ 0 → h.holds (h.content s) v ≡ true)
+  -- the components of a type are those of its slots
+  pub well_tagged_slots : (cs : List (ComponentType V)) (hs : List (Slot S V)) → AreSlotsOf cs hs → V → EachIsWellTagged cs → EachIsWellTagged (components_of hs)
+  well_tagged_slots [] [] all v can = tt
+  well_tagged_slots [] (h ∷ hs) all v can = absurd all
+  well_tagged_slots (c ∷ cs) [] all v can = absurd all
+  well_tagged_slots (c ∷ cs) (h ∷ hs) all v can = ((all.0.0 v).0 can.0, well_tagged_slots cs hs all.1 v can.1)
 
-  -- so it is with each; the first has this index
-  abbrev AreInStep : List (Slot S V) → ℕ → List ℕ → S → V → Type 0
-  AreInStep [] k came s v = ⊤
-  AreInStep (h ∷ hs) k came s v = IsInStep h (times k came) s v × AreInStep hs (suc k) came s v
+  of_type_slots : (cs : List (ComponentType V)) (hs : List (Slot S V)) → AreSlotsOf cs hs → (v : V) → EachIsOfType cs v → EachIsOfType (components_of hs) v
+  of_type_slots [] [] all v are = tt
+  of_type_slots [] (h ∷ hs) all v are = absurd all
+  of_type_slots (c ∷ cs) [] all v are = absurd all
+  of_type_slots (c ∷ cs) (h ∷ hs) all v are = ((all.0.0 v).1 are.0, of_type_slots cs hs all.1 v are.1)
 
-  abbrev HoldsAt : List (Slot S V) → ℕ → S → V → Type 0
-  HoldsAt [] index s v = ⊤
-  HoldsAt (h ∷ hs) zero s v = h.holds (h.content s) v ≡ true
-  HoldsAt (h ∷ hs) (suc index) s v = HoldsAt hs index s v
+  valid_slots : (cs : List (ComponentType V)) (hs : List (Slot S V)) → AreSlotsOf cs hs → (accepts : List ℕ → Bool) (v : V) → EachIsValid cs accepts v → EachIsValid (components_of hs) accepts v
+  valid_slots [] [] all accepts v are = tt
+  valid_slots [] (h ∷ hs) all accepts v are = absurd all
+  valid_slots (c ∷ cs) [] all accepts v are = absurd all
+  valid_slots (c ∷ cs) (h ∷ hs) all accepts v are = ((all.0.0 v).2 accepts are.0, valid_slots cs hs all.1 accepts v are.1)
 
-  abbrev IsEmptyAt : List (Slot S V) → ℕ → S → Type 0
-  IsEmptyAt [] index s = ⊤
-  IsEmptyAt (h ∷ hs) zero s = h.content s ≡ None
-  IsEmptyAt (h ∷ hs) (suc index) s = IsEmptyAt hs index s
+  pub records_slots : (cs : List (ComponentType V)) (hs : List (Slot S V)) → AreSlotsOf cs hs → (v : V) → all_records cs v ≡ all_records (components_of hs) v
+  records_slots [] [] all v = refl
+  records_slots [] (h ∷ hs) all v = absurd all
+  records_slots (c ∷ cs) [] all v = absurd all
+  records_slots (c ∷ cs) (h ∷ hs) all v = ap (λ rs. rs ++ all_records cs v) (all.0.0 v).4 ∙ ap (λ l. h.component.records v ++ l) (records_slots cs hs all.1 v)
 
-  none_came : (hs : List (Slot S V)) (k : ℕ) (s : S) (v : V) → AreEmpty hs s → AreInStep hs k [] s v
-  none_came [] k s v empty = tt
-  none_came (h ∷ hs) k s v empty = (((λ _. empty.0), (λ some. absurd (some refl))), none_came hs (suc k) s v empty.1)
+  pub begins_slots : (cs : List (ComponentType V)) (hs : List (Slot S V)) → AreSlotsOf cs hs → (k : ℕ) (t : Tag) → CanBeginWith cs k t → CanBeginWith (components_of hs) k t
+  begins_slots [] hs all k t begins = absurd begins
+  begins_slots (c ∷ cs) [] all k t begins = absurd all
+  begins_slots (c ∷ cs) (h ∷ hs) all zero t begins = subst (λ tree. Has (tree_tags tree) t) all.0.1 begins
+  begins_slots (c ∷ cs) (h ∷ hs) all (suc k) t begins = begins_slots cs hs all.1 k t begins
 
-  empty_at : (hs : List (Slot S V)) (k j index : ℕ) (came : List ℕ) (s : S) (v : V) → index ≡ k + j → AreInStep hs k came s v → times index came ≡ 0 → IsEmptyAt hs j s
-  empty_at [] k j index came s v is in_step none = tt
-  empty_at (h ∷ hs) k zero index came s v is in_step none =
-      let same : k ≡ index = omega (arith, is) in
-      in_step.0.0 (ap (λ i. times i came) same ∙ none)
-  empty_at (h ∷ hs) k (suc j) index came s v is in_step none = empty_at hs (suc k) j index came s v (omega (arith, is)) in_step.1 none
+  pub slots_begin : (cs : List (ComponentType V)) (hs : List (Slot S V)) → AreSlotsOf cs hs → (k : ℕ) (t : Tag) → CanBeginWith (components_of hs) k t → CanBeginWith cs k t
+  slots_begin [] [] all k t begins = absurd begins
+  slots_begin [] (h ∷ hs) all k t begins = absurd all
+  slots_begin (c ∷ cs) [] all k t begins = absurd begins
+  slots_begin (c ∷ cs) (h ∷ hs) all zero t begins = subst (λ tree. Has (tree_tags tree) t) (sym all.0.1) begins
+  slots_begin (c ∷ cs) (h ∷ hs) all (suc k) t begins = slots_begin cs hs all.1 k t begins
 
-  module _ (before after : S) (v : V) where
-    kept_in_step : (h : Slot S V) (m n : ℕ) → n ≡ m → IsKept h before after → IsInStep h m before v → IsInStep h n after v
-    kept_in_step h m n same kept in_step =
-        ((λ none. kept ∙ in_step.0 (sym same ∙ none)), (λ some. ap (λ o. h.holds o v) kept ∙ in_step.1 (λ none. some (same ∙ none))))
+  pub distinct_slots : (cs : List (ComponentType V)) (hs : List (Slot S V)) → AreSlotsOf cs hs → EachTreeIsDistinct cs → EachTreeIsDistinct (components_of hs)
+  distinct_slots [] [] all are = tt
+  distinct_slots [] (h ∷ hs) all are = absurd all
+  distinct_slots (c ∷ cs) [] all are = absurd all
+  distinct_slots (c ∷ cs) (h ∷ hs) all are = (subst (λ tree. distinct (leaves tree) ≡ true) all.0.1 are.0, distinct_slots cs hs all.1 are.1)
 
-    later_in_step : (hs : List (Slot S V)) (k index : ℕ) (came : List ℕ) → suc index ≤ k → AllAreKept hs before after → AreInStep hs k came before v → AreInStep hs k (came ++ index ∷ []) after v
-    later_in_step [] k index came low kept in_step = tt
-    later_in_step (h ∷ hs) k index came low kept in_step = (
-      kept_in_step h (times k came) (times k (came ++ index ∷ [])) (as_before k came index (λ same. omega (arith, low, same))) kept.0 in_step.0,
-      later_in_step hs (suc k) index came (omega (arith, low)) kept.1 in_step.1,
-    )
+  apart_from_slots : (cs : List (ComponentType V)) (hs : List (Slot S V)) → AreSlotsOf cs hs → (tree : Tree) → ApartFromEach tree cs → ApartFromEach tree (components_of hs)
+  apart_from_slots [] [] all tree apart = tt
+  apart_from_slots [] (h ∷ hs) all tree apart = absurd all
+  apart_from_slots (c ∷ cs) [] all tree apart = absurd all
+  apart_from_slots (c ∷ cs) (h ∷ hs) all tree apart = (subst (λ other. ShareNone (tree_tags tree) (tree_tags other)) all.0.1 apart.0, apart_from_slots cs hs all.1 tree apart.1)
 
-    -- after the component of this index has come
-    one_came : (hs : List (Slot S V)) (k j index : ℕ) (came : List ℕ) → index ≡ k + j → AreInStep hs k came before v → HoldsAt hs j after v → OthersAreKept hs j before after →
-        AreInStep hs k (came ++ index ∷ []) after v
-    one_came [] k j index came is in_step holds kept = tt
-    one_came (h ∷ hs) k zero index came is in_step holds kept = (
-      ((λ none. let more : times k (came ++ index ∷ []) ≡ suc (times k came) = once_more k came index (omega (arith, is)) in absurd (omega (arith, none, more))), (λ _. holds)),
-      later_in_step hs (suc k) index came (omega (arith, is)) kept in_step.1,
-    )
-    one_came (h ∷ hs) k (suc j) index came is in_step holds kept = (
-      kept_in_step h (times k came) (times k (came ++ index ∷ [])) (as_before k came index (λ same. omega (arith, is, same))) kept.0 in_step.0,
-      one_came hs (suc k) j index came (omega (arith, is)) in_step.1 holds kept.1,
-    )
+  pub apart_slots : (cs : List (ComponentType V)) (hs : List (Slot S V)) → AreSlotsOf cs hs → AllApart cs → AllApart (components_of hs)
+  apart_slots [] [] all apart = tt
+  apart_slots [] (h ∷ hs) all apart = absurd all
+  apart_slots (c ∷ cs) [] all apart = absurd all
+  apart_slots (c ∷ cs) (h ∷ hs) all apart =
+      (subst (λ tree. ApartFromEach tree (components_of hs)) all.0.1 (apart_from_slots cs hs all.1 c.tree apart.0), apart_slots cs hs all.1 apart.1)
 
-  -- where all have come that are there
-  holds_at_end : (h : Slot S V) → h.is_single ≡ true → (s : S) (v : V) (n : ℕ) → h.component.IsWellTagged → IsInStep h n s v → (rs : List Record) → rs ≡ unmarked (h.component.records v) →
-      (rs ≢ [] → n ≢ 0) → h.holds (h.content s) v ≡ true
-  holds_at_end h single s v (suc n) can in_step rs is complete = in_step.1 (λ none. cc)
-  holds_at_end h single s v zero can in_step [] is complete = ap (λ o. h.holds o v) (in_step.0 refl) ∙ h.is_absent single v can (sym is)
-  holds_at_end h single s v zero can in_step (r ∷ rs) is complete = absurd (complete (λ none. cc) refl)
-
-  hold_at_end : (cs : List (ComponentType V)) (hs : List (Slot S V)) → AreSlotsOf cs hs → has_no_group hs ≡ true → (s : S) (v : V) (k : ℕ) (came : List ℕ) → EachIsWellTagged cs → AreInStep hs k came s v →
-      ((j index : ℕ) → index ≡ k + j → written_of cs v j ≢ [] → times index came ≢ 0) → HoldBefore hs (length hs) s v
-  hold_at_end [] [] all single s v k came can in_step complete = tt
-  hold_at_end [] (h ∷ hs) all single s v k came can in_step complete = absurd all
-  hold_at_end (c ∷ cs) [] all single s v k came can in_step complete = absurd all
-  hold_at_end (c ∷ cs) (h ∷ hs) all single s v k came can in_step complete =
-      let singles = and_parts h.is_single (has_no_group hs) single in
-      let same = all.0 v in (
-        holds_at_end h singles.0 s v (times k came) (same.0 can.0) in_step.0 (unmarked (c.records v)) (ap unmarked same.4) (complete 0 k (omega arith)),
-        hold_at_end cs hs all.1 singles.1 s v (suc k) came can.1 in_step.1 (λ j index is. complete (suc j) index (omega (arith, is))),
-      )
-
-  -- each component is one record, or absent
-  pub one_each : (cs : List (ComponentType V)) (hs : List (Slot S V)) → AreSlotsOf cs hs → has_no_group hs ≡ true → (v : V) → EachIsWellTagged cs → EachIsOneRecord cs v
-  one_each [] hs all single v can = tt
-  one_each (c ∷ cs) [] all single v can = absurd all
-  one_each (c ∷ cs) (h ∷ hs) all single v can =
-      let singles = and_parts h.is_single (has_no_group hs) single in
-      let same = all.0 v in
-      let one = h.is_one singles.0 (same.0 can.0) v in
-      (omega (arith, one, ap records_in same.4), one_each cs hs all.1 singles.1 v can.1)
-
-  -- the call reads the component of this index
-  reads_at : {D A : Type 0} (R : Reader D) (cs : List (ComponentType V)) (hs : List (Slot S V)) → AreSlotsOf cs hs → has_no_group hs ≡ true → (j : ℕ) (old new : D) (before after : S) (result : Result A DecodeError) →
-      ReadsOnceAt R hs j old new before after result → IsEmptyAt hs j before → (v : V) (rest : List Record) (outer : Outside) → EachIsWellTagged cs → EachIsOfType cs v → EachIsValid cs R.accepts v → written_of cs v j ≢ [] →
-      ReadsBack R old new (written_of cs v j) rest outer (λ _. HoldsAt hs j after v) result
-  reads_at R [] hs all single j old new before after result reads empty v rest outer can of_type valid some = absurd (some refl)
-  reads_at R (c ∷ cs) [] all single j old new before after result reads empty v rest outer can of_type valid some = absurd all
-  reads_at R (c ∷ cs) (h ∷ hs) all single zero old new before after result reads empty v rest outer can of_type valid some =
-      let singles = and_parts h.is_single (has_no_group hs) single in
-      let same = all.0 v in
-      let written : unmarked (c.records v) ≡ unmarked (h.component.records v) = ap unmarked same.4 in
-      let once = subst (λ o. h.ReadsOnce R old new o (h.content after) result) empty reads in
-      subst (λ rs. ReadsBack R old new rs rest outer (λ _. h.holds (h.content after) v ≡ true) result) (sym written)
-      (h.reads_once R old new (h.content after) result singles.0 once v rest outer (same.0 can.0) (same.1 of_type.0) (same.2 R.accepts valid.0) (λ none. some (written ∙ none)))
-  reads_at R (c ∷ cs) (h ∷ hs) all single (suc j) old new before after result reads empty v rest outer can of_type valid some =
-      let singles = and_parts h.is_single (has_no_group hs) single in
-      reads_at R cs hs all.1 singles.1 j old new before after result reads empty v rest outer can.1 of_type.1 valid.1 some
+  tells_slots : (cs : List (ComponentType V)) (hs : List (Slot S V)) → AreSlotsOf cs hs → (own : Tags) (t : Tag) → TellsComponent cs own t → TellsTree (parts_of (components_of hs)) own t
+  tells_slots [] [] all own t tells = tt
+  tells_slots [] (h ∷ hs) all own t tells = absurd all
+  tells_slots (c ∷ cs) [] all own t tells = absurd all
+  tells_slots (c ∷ cs) (h ∷ hs) all own t tells =
+      tells_joined h.component.parts (parts_of (components_of hs)) own t (subst (λ trees. TellsTree trees own t) all.0.2 tells.0.1) (tells_slots cs hs all.1 own t tells.1)
 
 -- an answer in the place of an error, which is the error where memory or depth was not enough
 pub same_failure : {depth height : ℕ} {error answer : DecodeError} → (error ≡ Memory → answer ≡ Memory) → (error ≡ Depth → answer ≡ Depth) →
@@ -145,75 +118,150 @@ same_failure memory depth (inl is) = inl (memory is)
 same_failure memory depth (inr is) = inr (depth is.0, is.1)
 
 module _ {D S V : Type 0} (R : Reader D) (cs : List (ComponentType V)) (hs : List (Slot S V)) (v : V) where
-  -- Some components were read into their slots, and others are left. The records of all are so high.
+  -- Some parts were read into their slots, and others are left. The records of all are so high.
   pub record SlotsRead (d : D) (s : S) (height : ℕ) (outer : Outside) (count bound : ℕ) : Type 0 where
     pub came : List ℕ
-    pub so_far : PartsRead R cs v (λ i. i) (λ _. ⊤) d came height outer count bound
-    pub in_step : AreInStep hs 0 came s v
+    pub so_far : PartsRead R (parts_of_slots hs) v (λ i. i) (λ _. ⊤) d came height outer count bound
+    pub in_step : AreInStep hs (times came) s v
 
-  -- The same, where the component of this index comes.
-  pub record SlotComes (d : D) (s : S) (height : ℕ) (outer : Outside) (count bound index : ℕ) : Type 0 where
+  -- The same, where a part comes that can begin with the tag, of the component of this index.
+  pub record SlotComes (d : D) (s : S) (height : ℕ) (outer : Outside) (count bound : ℕ) (t : Tag) (index : ℕ) : Type 0 where
     pub came : List ℕ
-    pub next : ComponentComes R cs v (λ i. i) (λ _. ⊤) d came height outer count bound index
-    pub in_step : AreInStep hs 0 came s v
+    pub part : ℕ
+    pub among_all : ℕ
+    pub place : IsPlace hs t index part among_all
+    pub next : ComponentComes R (parts_of_slots hs) v (λ i. i) (λ _. ⊤) d came height outer count bound among_all
+    pub in_step : AreInStep hs (times came) s v
 
-  module _ (all : AreSlotsOf cs hs) (single : has_no_group hs ≡ true) (can : EachIsWellTagged cs) where
+  module _ (all : AreSlotsOf cs hs) (ready : can_be_in_set hs ≡ true) (can : EachIsWellTagged cs) where
+    can_be : EachIsWellTagged (components_of hs)
+    can_be = well_tagged_slots cs hs all v can
+
+    -- what is written without marks
+    same_unmarked : unmarked (all_records cs v) ≡ records (unmarked_items (items_from 0 (parts_of_slots hs) v))
+    same_unmarked =
+        ap unmarked (records_slots cs hs all v) ∙ written_in_parts hs ready v
+        ∙ ap unmarked (sym (their_records 0 (parts_of_slots hs) v)) ∙ sym (unmarked-records (items_from 0 (parts_of_slots hs) v))
+
     pub begin : (d : D) (s : S) (items : List Record) (outer : Outside) (bound : ℕ) → AreEmpty hs s → IsPermutation items (all_records cs v) → records_in items ≤ bound → R.remains d (items, outer) →
         SlotsRead d s (highest items) outer 0 bound
-    begin d s items outer bound empty moved few at = record {
-      came = [];
-      so_far = start R cs v (λ i. i) (λ _. ⊤) d items outer bound (one_each cs hs all single v can) moved few at;
-      in_step = none_came hs 0 s v empty;
+    begin d s items outer bound empty moved few at =
+        let ps = parts_of_slots hs in
+        let named = unmarked_items (items_from 0 ps v) in
+        let labelled = woven (all_records cs v) named in
+        let one = each_is_one hs ready can_be v in
+        let made = made_of (λ (i : Item). i.1) items labelled (subst (IsPermutation items) (sym (woven-records (all_records cs v) named)) moved) in
+        let high : highest items ≡ highest (records made.order) = ap highest made.is in
+        record {
+          came = [];
+          so_far = record {
+            todo = made.order;
+            one_each = one;
+            are = All-permutation (IsAll ps v) labelled made.order (IsPermutation-sym made.order labelled made.rearranged)
+                (woven-all ps v (all_records cs v) named same_unmarked (unmarked-all (IsAll ps v) (items_from 0 ps v)
+                (all_are ps ps 0 v (λ i. let same : 0 + i ≡ i = omega arith in ap (written_of ps v) same) one)));
+            each = All-nil (λ _. ⊤);
+            counted = λ k.
+                let all_counted = items_at-permutation k made.order labelled made.rearranged ∙ woven-counts k (all_records cs v) named same_unmarked
+                ∙ unmarked-counts k (items_from 0 ps v) ∙ as_many_as_written ps 0 k k v (omega arith) in
+                omega (arith, all_counted);
+            few = omega (arith, few, ap records_in made.is);
+            low = omega (arith, high);
+            no_deeper = omega (arith, high);
+            at = subst (λ l. R.remains d (l, outer)) made.is at;
+          };
+          in_step = times_in_step hs ready (λ _. 0) (times []) s v (λ j low. refl) (none_came hs ready s v empty);
+        }
+
+    -- the next tag tells of a part
+    next_part : (items : List Record) (next : Option Tag) → IsNextTag cs items next → IsNextTag (parts_of_slots hs) items next
+    next_part items next is = record {
+      none = is.none;
+      some = λ t e.
+          let told = is.some t e in (
+            told.0,
+            (
+              told.1.0,
+              tells_parts (parts_of_slots hs) (first_tags items) t (each_is_own hs ready)
+                  (subst (λ trees. TellsTree trees (first_tags items) t) (trees_in_parts hs ready) (tells_slots cs hs all (first_tags items) t told.1.1)),
+            ),
+          );
     }
 
-    -- the slot of what comes is empty
-    not_yet : {d : D} {height : ℕ} {outer : Outside} {count bound index : ℕ} (came : List ℕ) (comes : ComponentComes R cs v (λ i. i) (λ _. ⊤) d came height outer count bound index) → times index came ≡ 0
-    not_yet {index = index} came comes = omega (arith, comes.counted index, at_most_one cs v index comes.one_each, ap {B = ℕ} (λ b. cond b 1 0) (is_same index index refl))
+    in_parts : (d e : D) (items : List Record) (before after : Remaining) (result : Result (Option Tag) DecodeError) →
+        Advances R d e 0 before after (IsNextTag cs items) result → Advances R d e 0 before after (IsNextTag (parts_of_slots hs) items) result
+    in_parts d e items before after result moves = in_other_words R d e 0 before after result (λ next is. next_part items next is) moves
 
-    pub reads : {A : Type 0} {d : D} {s : S} {height : ℕ} {outer : Outside} {count bound index : ℕ} (e : D) (after : S) (result : Result A DecodeError) (comes : SlotComes d s height outer count bound index) →
-        EachIsOfType cs v → EachIsValid cs R.accepts v → ReadsOnceAt R hs index d e s after result →
-        ReadsBack R d e (written_of cs v index) (records comes.next.todo) outer (λ _. HoldsAt hs index after v) result
-    reads {d = d} {s = s} {index = index} e after result comes of_type valid once =
-        reads_at R cs hs all single index d e s after result once
-        (empty_at hs 0 index index comes.came s v (omega arith) comes.in_step (not_yet comes.came comes.next))
-        v (records comes.next.todo) _ can of_type valid comes.next.is_there
+    -- where the next tag could not be told
+    pub next_not_told : (e : D) {d : D} {s : S} {height : ℕ} {outer : Outside} {count bound : ℕ} {error : DecodeError} (b h : ℕ) (m : SlotsRead d s height outer count bound) →
+        Advances R d e 0 (records m.so_far.todo, outer) (marks_passed (records m.so_far.todo), outer) (IsNextTag cs (records m.so_far.todo)) (Err error) → MayFail b h error
+    next_not_told e {outer = outer} {error = error} b h m moves = not_told R (parts_of_slots hs) v (λ i. i) (λ _. ⊤) e b h m.so_far (in_parts _ e (records m.so_far.todo) (records m.so_far.todo, outer) (marks_passed (records m.so_far.todo), outer) (Err error) moves)
+
+    -- the part that comes has not come before
+    not_yet : {d : D} {height : ℕ} {outer : Outside} {count bound index : ℕ} (came : List ℕ) (comes : ComponentComes R (parts_of_slots hs) v (λ i. i) (λ _. ⊤) d came height outer count bound index) → times came index ≡ 0
+    not_yet {index = index} came comes =
+        omega (arith, comes.counted index, at_most_one (parts_of_slots hs) v index comes.one_each, ap {B = ℕ} (λ b. cond b 1 0) (is_same index index refl))
+
+    pub reads : {A : Type 0} {d : D} {s : S} {height : ℕ} {outer : Outside} {count bound index : ℕ} {t : Tag} (e : D) (after : S) (result : Result A DecodeError) (comes : SlotComes d s height outer count bound t index) →
+        EachTreeIsDistinct cs → EachIsOfType cs v → EachIsValid cs R.accepts v → ReadsOnceAt R hs index t d e s after result → OthersAreKept hs index s after →
+        ReadsBack R d e (written_of (parts_of_slots hs) v comes.among_all) (records comes.next.todo) outer (λ _. AreInStep hs (one_more (times comes.came) comes.among_all) after v) result
+    reads {d = d} {s = s} {index = index} {t = t} e after result comes distinct of_type valid once kept =
+        part_is_read R hs ready t index comes.part comes.among_all (times comes.came) d e s after result comes.place once kept
+        (distinct_slots cs hs all distinct) v (records comes.next.todo) _ can_be (of_type_slots cs hs all v of_type) (valid_slots cs hs all R.accepts v valid)
+        comes.in_step (not_yet comes.came comes.next) comes.next.is_there
 
     -- after it was read
-    pub one_more : {d : D} {s : S} {height : ℕ} {outer : Outside} {count bound index : ℕ} (e : D) (after : S) (comes : SlotComes d s height outer count bound index) →
-        HasAdvanced R d e (highest (written_of cs v index)) (records comes.next.todo, outer) (HoldsAt hs index after v) → OthersAreKept hs index s after → R.depth_left e ≡ R.depth_left d →
+    pub one_further : {d : D} {s : S} {height : ℕ} {outer : Outside} {count bound index : ℕ} {t : Tag} (e : D) (after : S) (comes : SlotComes d s height outer count bound t index) →
+        HasAdvanced R d e (highest (written_of (parts_of_slots hs) v comes.among_all)) (records comes.next.todo, outer) (AreInStep hs (one_more (times comes.came) comes.among_all) after v) → R.depth_left e ≡ R.depth_left d →
         SlotsRead e after height outer (count + 1) bound
-    one_more {s = s} {index = index} e after comes moved kept same = record {
-      came = comes.came ++ index ∷ [];
-      so_far = further R cs v (λ i. i) (λ _. ⊤) e index comes.next refl tt moved.within_depth_left moved.at same;
-      in_step = one_came s after v hs 0 index index comes.came (omega arith) comes.in_step moved.answer kept;
+    one_further e after comes moved same = record {
+      came = comes.came ++ comes.among_all ∷ [];
+      so_far = further R (parts_of_slots hs) v (λ i. i) (λ _. ⊤) e comes.among_all comes.next refl tt moved.within_depth_left moved.at same;
+      in_step = times_in_step hs ready (one_more (times comes.came) comes.among_all) (times (comes.came ++ comes.among_all ∷ [])) after v (λ j low. times-push comes.came comes.among_all j) moved.answer;
     }
 
-    -- where a component comes, which begins with the tag
+    -- where a part comes, of the component that begins with the tag
     pub comes_next : {d : D} {s : S} {height : ℕ} {outer : Outside} {count bound : ℕ} (e : D) (t : Tag) (index : ℕ) (m : SlotsRead d s height outer count bound) → AllApart cs → CanBeginWith cs index t →
-        Advances R d e 0 (records m.so_far.todo, outer) (marks_passed (records m.so_far.todo), outer) (IsNextTag cs (records m.so_far.todo)) (Ok (Some t)) → R.depth_left e ≡ R.depth_left d → SlotComes e s height outer count bound index
-    comes_next e t index m apart begins moves same = record {
-      came = m.came;
-      next = comes_at R cs v (λ i. i) (λ _. ⊤) index apart begins (comes R cs v (λ i. i) (λ _. ⊤) e t can m.so_far moves same);
-      in_step = m.in_step;
-    }
+        Advances R d e 0 (records m.so_far.todo, outer) (marks_passed (records m.so_far.todo), outer) (IsNextTag cs (records m.so_far.todo)) (Ok (Some t)) → R.depth_left e ≡ R.depth_left d →
+        SlotComes e s height outer count bound t index
+    comes_next {d = d} {outer = outer} e t index m apart begins moves same =
+        let a = comes R (parts_of_slots hs) v (λ i. i) (λ _. ⊤) e t (each_well_tagged hs ready can_be) m.so_far (in_parts d e (records m.so_far.todo) (records m.so_far.todo, outer) (marks_passed (records m.so_far.todo), outer) (Ok (Some t)) moves) same in
+        let place = place_of hs ready a.index t a.begins in
+        record {
+          came = m.came;
+          part = place.part;
+          among_all = a.index;
+          place = subst (λ i. IsPlace hs t i place.part a.index) (same_component (components_of hs) place.slot index t (apart_slots cs hs all apart) place.begins (begins_slots cs hs all index t begins)) place.is;
+          next = a.comes;
+          in_step = m.in_step;
+        }
 
-    all_hold : {d : D} {height : ℕ} {outer : Outside} (s : S) (came : List ℕ) → Through R cs v (λ i. i) (λ _. ⊤) d came height outer → AreInStep hs 0 came s v →
+    -- the component that comes is one of them
+    pub one_begins : {d : D} {s : S} {height : ℕ} {outer : Outside} {count bound : ℕ} {P : Type 0} (e : D) (t : Tag) (m : SlotsRead d s height outer count bound) → ((k : ℕ) → CanBeginWith cs k t → ⊥) →
+        Advances R d e 0 (records m.so_far.todo, outer) (marks_passed (records m.so_far.todo), outer) (IsNextTag cs (records m.so_far.todo)) (Ok (Some t)) → R.depth_left e ≡ R.depth_left d → P
+    one_begins {d = d} {outer = outer} e t m cannot moves same =
+        let a = comes R (parts_of_slots hs) v (λ i. i) (λ _. ⊤) e t (each_well_tagged hs ready can_be) m.so_far (in_parts d e (records m.so_far.todo) (records m.so_far.todo, outer) (marks_passed (records m.so_far.todo), outer) (Ok (Some t)) moves) same in
+        let place = place_of hs ready a.index t a.begins in
+        absurd (cannot place.slot (slots_begin cs hs all place.slot t place.begins))
+
+    all_hold : (accepts : List ℕ → Bool) {d : D} {height : ℕ} {outer : Outside} (s : S) (came : List ℕ) → EachIsValid cs accepts v → Through R (parts_of_slots hs) v (λ i. i) (λ _. ⊤) d came height outer → AreInStep hs (times came) s v →
         HasAdvanced R d d height ([], outer) (HoldBefore hs (length hs) s v)
-    all_hold s came t in_step = record {
-      answer = hold_at_end cs hs all single s v 0 came can in_step (λ j index is written.
-          let same : j ≡ index = omega (arith, is) in t.parts_are.complete index (subst (λ i. written_of cs v i ≢ []) same written));
+    all_hold accepts s came valid t in_step = record {
+      answer = hold_at_end hs ready accepts (times came) s v can_be (valid_slots cs hs all accepts v valid) in_step t.parts_are.complete;
       at = t.at;
       within_depth_left = t.low;
     }
 
     -- where none is left
-    pub none_is_left : {d : D} {s : S} {height : ℕ} {outer : Outside} {count bound : ℕ} (e : D) (m : SlotsRead d s height outer count bound) →
+    pub none_is_left : {d : D} {s : S} {height : ℕ} {outer : Outside} {count bound : ℕ} (e : D) (m : SlotsRead d s height outer count bound) → EachIsValid cs R.accepts v →
         Advances R d e 0 (records m.so_far.todo, outer) (marks_passed (records m.so_far.todo), outer) (IsNextTag cs (records m.so_far.todo)) (Ok None) → R.depth_left e ≡ R.depth_left d →
         HasAdvanced R e e height ([], outer) (HoldBefore hs (length hs) s v)
-    none_is_left {s = s} e m moves same = all_hold s m.came (through R cs v (λ i. i) (λ _. ⊤) e m.so_far moves same) m.in_step
+    none_is_left {d = d} {s = s} {outer = outer} e m valid moves same =
+        all_hold R.accepts s m.came valid (through R (parts_of_slots hs) v (λ i. i) (λ _. ⊤) e m.so_far (in_parts d e (records m.so_far.todo) (records m.so_far.todo, outer) (marks_passed (records m.so_far.todo), outer) (Ok None) moves) same) m.in_step
 
     -- where as many were read as there can be
-    pub as_many_as_can : {d : D} {s : S} {height : ℕ} {outer : Outside} {count bound : ℕ} (e : D) (answer : Option Tag) (m : SlotsRead d s height outer count bound) → bound ≤ count →
+    pub as_many_as_can : {d : D} {s : S} {height : ℕ} {outer : Outside} {count bound : ℕ} (e : D) (answer : Option Tag) (m : SlotsRead d s height outer count bound) → EachIsValid cs R.accepts v → bound ≤ count →
         Advances R d e 0 (records m.so_far.todo, outer) (marks_passed (records m.so_far.todo), outer) (IsNextTag cs (records m.so_far.todo)) (Ok answer) → R.depth_left e ≡ R.depth_left d →
         HasAdvanced R e e height ([], outer) (HoldBefore hs (length hs) s v)
-    as_many_as_can {s = s} e answer m full moves same = all_hold s m.came (filled R cs v (λ i. i) (λ _. ⊤) e answer m.so_far full moves same) m.in_step
+    as_many_as_can {d = d} {s = s} {outer = outer} e answer m valid full moves same =
+        all_hold R.accepts s m.came valid (filled R (parts_of_slots hs) v (λ i. i) (λ _. ⊤) e answer m.so_far full (in_parts d e (records m.so_far.todo) (records m.so_far.todo, outer) (marks_passed (records m.so_far.todo), outer) (Ok answer) moves) same) m.in_step

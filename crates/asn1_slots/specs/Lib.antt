@@ -5,3 +5,6 @@ pub mod ReadSlots
 pub mod Slots
 pub mod TagIndices
 pub mod Taggings
+pub mod GroupsInSets
+pub mod PartsInSets
+pub mod SlotsInStep

@@ -1,15 +1,19 @@
 -- The components of a SEQUENCE or a group, each read into a slot of its own.
-use Rattle.std.specs.Prelude.{◌≡◌, ◌≢◌, ◌≤◌, ◌&&◌, ℕ, zero, suc, ⊤, Bool, true, false, List, [], ◌∷◌, drop, length, take, Option, None, Some, IfSome, Result, Ok, MatchResult, Vec, is_some, if◌then◌else◌, refl}
+use Rattle.std.specs.Prelude.{◌≡◌, ◌&&◌, ◌+◌, ◌++◌, ℕ, zero, suc, ⊤, Bool, true, false, List, [], ◌∷◌, drop, length, take, Option, None, Some, IfSome, Result, Ok, MatchResult, Vec, is_some, if◌then◌else◌, refl}
 use Rattle.std.specs.Cmp.Lexicographic.{pointwise}
 use Rattle.std.specs.Option.{option_eq}
 use Rattle.std.specs.Result.{IsErrAnd}
-use Rattle.asn1_components.specs.Components.{Components, all_components, extensible_sequence, extensible_set, group, sequence, set}
+use Rattle.asn1_components.proofs.DistinctSets.{default_distinct, groups_distinct, optional_distinct, required_distinct}
+use Rattle.asn1_components.proofs.WrittenAlike.{default_alike, groups_alike, optional_alike, required_alike}
+use Rattle.asn1_components.specs.ComponentLists.{EachIsWellTagged}
+use Rattle.asn1_components.specs.Components.{Components, all_components, component_records, extensible_sequence, extensible_set, group, rows, sequence, set}
 use Rattle.asn1_components.specs.ComponentTypes.{ComponentType, default_in, optional_in, required}
 use Rattle.asn1_components.specs.Following.{BeginsApart, When}
+use Rattle.asn1_components.specs.DistinctSets.{IsDistinct}
+use Rattle.asn1_components.specs.WrittenAlike.{IsAlike}
 use Rattle.asn1_laws.specs.DecodeErrors.{missing_field, reason}
-use Rattle.asn1_laws.specs.Reading.{Outside, Reader, ReadsBack, records_in}
+use Rattle.asn1_laws.specs.Reading.{Outside, Reader, ReadsBack}
 use Rattle.asn1_laws.specs.ReadingTypes.{ReadsSetLeft}
-use Rattle.asn1_laws.specs.SetParts.{unmarked}
 use Rattle.asn1_laws.proofs.ReadingSteps.{in_other_words}
 use Rattle.asn1_laws.specs.declared.decode_error.DecodeError.{DecodeError}
 use Rattle.asn1_laws.specs.declared.decode_error.DecodeError.TheVariants.{Memory}
@@ -17,8 +21,12 @@ use Rattle.asn1_fields.specs.FieldViews.{may_be_absent}
 use Rattle.asn1_model.specs.Composites.{default_records}
 use Rattle.asn1_model.specs.Records.{Record, Side, in_additions, in_root}
 use Rattle.asn1_model.specs.TaggedTypes.{TaggedType}
+use Rattle.asn1_model.specs.DistinctSets.{AreDistinct, SetsAreDistinctInside}
+use Rattle.asn1_model.specs.WrittenAlike.{AreAlikeInside, HaveSameRecords}
 use Rattle.asn1_slots.specs.Filling.{Fills, FillsGroup, FillsOnce, FillsOptional}
 use Rattle.asn1_slots.specs.InSets.{one_default, one_optional, one_required, slot_of_absent, slot_of_present, unless_default, written_default, written_optional, written_required}
+use Rattle.asn1_slots.specs.PartsInSets.{ReadInSet, alone, alone_in_step}
+use Rattle.asn1_tags.specs.declared.tags.Tag.{Tag}
 
 -- A call that reads this component: then the answer to the question is yes.
 abbrev pub ReadsInto : {D V A : Type 0} → Reader D → ComponentType V → (V → Bool) → D → D →
@@ -31,8 +39,8 @@ ReadsInto {V = V} R c holds old new result =
 -- A component of the values V, and its slot among the slots S.
 pub record Slot (S V : Type 0) : Type 1 where
   pub component : ComponentType V
-  -- it is no group of additions
-  pub is_single : Bool
+  -- it can be read in a SET
+  pub is_in_set : Bool
   -- what the slot can hold, and the slot itself
   pub Content : Type 0
   pub content : S → Option Content
@@ -51,22 +59,24 @@ pub record Slot (S V : Type 0) : Type 1 where
   -- after a success the slot is filled, whatever was read
   pub fills : {D A : Type 0} (R : Reader D) (old new : D) (slot : Option Content) (x : A) →
       Reads R old new slot (Ok x) → is_filled slot ≡ true
-  -- what a call promises that reads it in a SET, by the slot before and after
-  pub ReadsOnce : {D A : Type 0} → Reader D → D → D → Option Content → Option Content →
+  -- in a SET: the parts that come one by one, and what a call promises that reads the one of a tag,
+  -- by the slot before and after
+  pub parts : List (ComponentType V)
+  pub ReadsOnce : {D A : Type 0} → Reader D → Tag → D → D → Option Content → Option Content →
       Result A DecodeError → Type 0
-  -- A component that is no group is one record in a SET, or absent.
-  pub is_one : is_single ≡ true → component.IsWellTagged → (v : V) →
-      records_in (component.records v) ≤ 1
-  -- what is there is read into an empty slot, without its presence mark
-  pub reads_once : {D A : Type 0} (R : Reader D) (old new : D) (after : Option Content)
-      (result : Result A DecodeError) → is_single ≡ true → ReadsOnce R old new None after result →
-      (v : V) (rest : List Record) (outer : Outside) → component.IsWellTagged → component.IsOfType v →
-      component.IsValid R.accepts v → unmarked (component.records v) ≢ [] →
-      ReadsBack R old new (unmarked (component.records v)) rest outer (λ _. holds after v ≡ true)
-      result
-  -- what is absent has an empty slot
-  pub is_absent : is_single ≡ true → (v : V) → component.IsWellTagged →
-      unmarked (component.records v) ≡ [] → holds None v ≡ true
+  -- the slot is in step with the parts, by how often each has come
+  pub InStep : (ℕ → ℕ) → Option Content → V → Type 0
+  -- which is enough
+  pub in_set : is_in_set ≡ true → ReadInSet component parts holds
+      (λ D A R t old new before after result. ReadsOnce R t old new before after result) InStep
+  -- whether two values have equal components
+  pub equal : V → V → Bool
+  -- what is asked of the component's type so that these are written alike, which is enough
+  pub CanBeAlike : Type 0
+  pub alike : CanBeAlike → IsAlike component equal
+  -- the same of the SETs inside it, whose components are to have distinct tags
+  pub CanBeDistinct : Type 0
+  pub distinct : CanBeDistinct → IsDistinct component
 
 -- The slot of a component with a default: it has what the value has, or it is empty, and the value
 -- passes the test for the default.
@@ -81,6 +91,10 @@ holds_or_default eq default_value slot w = holds_or_passes eq (λ v. eq v defaul
 -- the test for the empty list, by the equality of the elements
 abbrev pub is_empty_list : {T A : Type 0} → (T → T → Bool) → Vec T A → Bool
 is_empty_list eq list = pointwise eq list.items []
+
+-- Equal values pass the test for a default together.
+abbrev pub PassTogether : {W : Type 0} → (W → W → Bool) → (W → Bool) → Type 0
+PassTogether {W = W} eq test = (x y : W) → eq x y ≡ true → test x ≡ test y
 
 holds_default : {W : Type 0} (eq : W → W → Bool) (test : W → Bool) (w : W) (slot : Option W) (is_default : Bool) →
     test w ≡ is_default → option_eq eq slot (unless_default is_default w) ≡ true →
@@ -124,7 +138,7 @@ full_if_held eq None w held = cc
 full_if_held eq (Some x) w held = refl
 
 -- which no group is
-pub no_group : {P : Type 0} → false ≡ true → P
+pub no_group : {P : Type 1} → false ≡ true → P
 no_group wrong = cc
 
 module _ {S V W : Type 0} (name : List ℕ) where
@@ -132,7 +146,7 @@ module _ {S V W : Type 0} (name : List ℕ) where
   abbrev pub required_slot : (V → W) → (S → Option W) → TaggedType W → (W → W → Bool) → Slot S V
   required_slot get slot type eq = record {
     component = required name get type;
-    is_single = true;
+    is_in_set = true;
     Content = W;
     content = slot;
     is_filled = is_some;
@@ -142,21 +156,28 @@ module _ {S V W : Type 0} (name : List ℕ) where
     reads = λ R old new s result fills v rest outer can of_type valid apart.
         fills.reads (get v) rest outer can of_type valid;
     fills = λ R old new s x fills. fills.is_full;
-    ReadsOnce = λ R old new before after result.
+    parts = required name get type ∷ [];
+    ReadsOnce = λ R t old new before after result.
         FillsOnce R name type eq old new before after result;
-    is_one = λ single can v. one_required type can (get v);
-    reads_once = λ R old new after result single fills v rest outer can of_type valid some.
+    InStep = alone_in_step (λ s v. option_eq eq s (Some (get v)));
+    in_set = λ _. alone (required name get type) (λ s v. option_eq eq s (Some (get v))) (λ D A R old new before after result. FillsOnce R name type eq old new before after result) refl
+        (λ can v. one_required type can (get v))
+        (λ D A R old new after result fills v rest outer can of_type valid some.
         slot_of_present type R name eq old new None after result fills refl (Some (get v))
-        _ rest outer can of_type valid (written_required type can (get v)) some;
-    is_absent = λ single v can none.
-        slot_of_absent type can eq None (Some (get v)) _ (written_required type can (get v)) refl none;
+        _ rest outer can of_type valid (written_required type can (get v)) some)
+        (λ v can none. slot_of_absent type can eq None (Some (get v)) _ (written_required type can (get v)) refl none);
+    equal = λ v w. eq (get v) (get w);
+    CanBeAlike = AreAlikeInside type eq;
+    alike = λ each. required_alike name get type each;
+    CanBeDistinct = SetsAreDistinctInside type;
+    distinct = λ own. required_distinct name get type own;
   }
 
   -- of one that may be absent, on this side
   abbrev optional_slot_in : Side → (V → Option W) → (S → Option W) → TaggedType W → (W → W → Bool) → Slot S V
   optional_slot_in side get slot type eq = record {
     component = optional_in side name get type;
-    is_single = true;
+    is_in_set = true;
     Content = W;
     content = slot;
     is_filled = λ _. true;
@@ -166,14 +187,21 @@ module _ {S V W : Type 0} (name : List ℕ) where
     reads = λ R old new s result fills v rest outer can of_type valid apart.
         fills.reads (get v) rest outer can of_type valid apart;
     fills = λ R old new s x fills. refl;
-    ReadsOnce = λ R old new before after result.
+    parts = optional_in side name get type ∷ [];
+    ReadsOnce = λ R t old new before after result.
         FillsOnce R name type eq old new before after result;
-    is_one = λ single can v. one_optional type can side (get v);
-    reads_once = λ R old new after result single fills v rest outer can of_type valid some.
+    InStep = alone_in_step (λ s v. option_eq eq s (get v));
+    in_set = λ _. alone (optional_in side name get type) (λ s v. option_eq eq s (get v)) (λ D A R old new before after result. FillsOnce R name type eq old new before after result) refl
+        (λ can v. one_optional type can side (get v))
+        (λ D A R old new after result fills v rest outer can of_type valid some.
         slot_of_present type R name eq old new None after result fills refl (get v)
-        _ rest outer can of_type valid (written_optional type can side (get v)) some;
-    is_absent = λ single v can none.
-        slot_of_absent type can eq None (get v) _ (written_optional type can side (get v)) refl none;
+        _ rest outer can of_type valid (written_optional type can side (get v)) some)
+        (λ v can none. slot_of_absent type can eq None (get v) _ (written_optional type can side (get v)) refl none);
+    equal = λ v w. option_eq eq (get v) (get w);
+    CanBeAlike = AreAlikeInside type eq;
+    alike = λ each. optional_alike side name get type each;
+    CanBeDistinct = SetsAreDistinctInside type;
+    distinct = λ own. optional_distinct side name get type own;
   }
 
   -- of the root, and of the additions
@@ -187,7 +215,7 @@ module _ {S V W : Type 0} (name : List ℕ) where
   abbrev default_slot_in : Side → (V → W) → (W → Bool) → (S → Option W) → TaggedType W → (W → W → Bool) → Slot S V
   default_slot_in side get test slot type eq = record {
     component = default_in side name get (λ v. test (get v)) type;
-    is_single = true;
+    is_in_set = true;
     Content = W;
     content = slot;
     is_filled = λ _. true;
@@ -198,18 +226,26 @@ module _ {S V W : Type 0} (name : List ℕ) where
         reads_default R side type eq test old new s result fills (get v) rest outer (test (get v))
         refl can of_type valid apart;
     fills = λ R old new s x fills. refl;
-    ReadsOnce = λ R old new before after result.
+    parts = default_in side name get (λ v. test (get v)) type ∷ [];
+    ReadsOnce = λ R t old new before after result.
         FillsOnce R name type eq old new before after result;
-    is_one = λ single can v. one_default type can side (test (get v)) (get v);
-    reads_once = λ R old new after result single fills v rest outer can of_type valid some.
+    InStep = alone_in_step (λ s v. holds_or_passes eq test s (get v));
+    in_set = λ _. alone (default_in side name get (λ v. test (get v)) type) (λ s v. holds_or_passes eq test s (get v)) (λ D A R old new before after result. FillsOnce R name type eq old new before after result) refl
+        (λ can v. one_default type can side (test (get v)) (get v))
+        (λ D A R old new after result fills v rest outer can of_type valid some.
         in_other_words R old new _ _ _ result (λ _ same. default_is_read eq test (get v) after same)
         (slot_of_present type R name eq old new None after result fills refl
         (unless_default (test (get v)) (get v)) _ rest outer can (if_not_default _ (test (get v)) (get v) of_type)
         (if_not_default _ (test (get v)) (get v) valid)
-        (written_default type can side (test (get v)) (get v)) some);
-    is_absent = λ single v can none. default_is_read eq test (get v) None
+        (written_default type can side (test (get v)) (get v)) some))
+        (λ v can none. default_is_read eq test (get v) None
         (slot_of_absent type can eq None (unless_default (test (get v)) (get v)) _
-        (written_default type can side (test (get v)) (get v)) refl none);
+        (written_default type can side (test (get v)) (get v)) refl none));
+    equal = λ v w. eq (get v) (get w);
+    CanBeAlike = PassTogether eq test × AreAlikeInside type eq;
+    alike = λ each. default_alike side name get test type each.0 each.1;
+    CanBeDistinct = SetsAreDistinctInside type;
+    distinct = λ own. default_distinct side name get (λ v. test (get v)) type own;
   }
 
   -- of one default value, in the root and among the additions
@@ -220,11 +256,11 @@ module _ {S V W : Type 0} (name : List ℕ) where
   addition_with_default_slot get default_value slot type eq =
       default_slot_in in_additions get (λ w. eq w default_value) slot type eq
 
-  -- of a group of additions, which is in no SET that is read into slots
+  -- of a group of additions of a SEQUENCE; `group_in_set` is that of a SET
   abbrev pub group_slot : (V → Option W) → (S → Option W) → Components W → (W → W → Bool) → Slot S V
   group_slot get slot components eq = record {
     component = group name get components;
-    is_single = false;
+    is_in_set = false;
     Content = W;
     content = slot;
     is_filled = λ _. true;
@@ -234,10 +270,15 @@ module _ {S V W : Type 0} (name : List ℕ) where
     reads = λ R old new s result fills v rest outer can of_type valid apart.
         fills.reads (get v) rest outer can.0 of_type valid apart;
     fills = λ R old new s x fills. refl;
-    ReadsOnce = λ R old new before after result. ⊤;
-    is_one = λ wrong. no_group wrong;
-    reads_once = λ R old new after result wrong. no_group wrong;
-    is_absent = λ wrong. no_group wrong;
+    parts = [];
+    ReadsOnce = λ R t old new before after result. ⊤;
+    InStep = λ times slot v. ⊤;
+    in_set = λ wrong. no_group wrong;
+    equal = λ v w. option_eq eq (get v) (get w);
+    CanBeAlike = EachIsWellTagged (all_components components) → HaveSameRecords eq (component_records components);
+    alike = λ each can v w same. groups_alike (rows components) (component_records components) (each can.0.0) (get v) (get w) same;
+    CanBeDistinct = EachIsWellTagged (all_components components) → (w : W) → AreDistinct (component_records components w);
+    distinct = λ own can v. groups_distinct (rows components) (component_records components) (own can.0.0) (get v);
   }
 
 module _ {S V T A : Type 0} (name : List ℕ) where
@@ -266,6 +307,19 @@ module _ {S V : Type 0} where
   abbrev pub components_of : List (Slot S V) → List (ComponentType V)
   components_of [] = []
   components_of (h ∷ hs) = h.component ∷ components_of hs
+
+  -- the comparisons of the slots, and what is asked of the types of all
+  abbrev pub comparisons : List (Slot S V) → List (V → V → Bool)
+  comparisons [] = []
+  comparisons (h ∷ hs) = h.equal ∷ comparisons hs
+
+  abbrev pub EachCanBeAlike : List (Slot S V) → Type 0
+  EachCanBeAlike [] = ⊤
+  EachCanBeAlike (h ∷ hs) = h.CanBeAlike × EachCanBeAlike hs
+
+  abbrev pub EachCanBeDistinct : List (Slot S V) → Type 0
+  EachCanBeDistinct [] = ⊤
+  EachCanBeDistinct (h ∷ hs) = h.CanBeDistinct × EachCanBeDistinct hs
 
   -- a SEQUENCE of these components, without an extension marker
   abbrev pub sequence_of_slots : List (Slot S V) → Components V
@@ -301,10 +355,21 @@ module _ {S V : Type 0} where
   AreFilled [] s = ⊤
   AreFilled (h ∷ hs) s = (h.is_filled (h.content s) ≡ true) × AreFilled hs s
 
-  -- none of the components is a group
-  abbrev pub has_no_group : List (Slot S V) → Bool
-  has_no_group [] = true
-  has_no_group (h ∷ hs) = h.is_single && has_no_group hs
+  -- each of the components can be read in a SET
+  abbrev pub can_be_in_set : List (Slot S V) → Bool
+  can_be_in_set [] = true
+  can_be_in_set (h ∷ hs) = h.is_in_set && can_be_in_set hs
+
+  -- the parts of all
+  abbrev pub parts_of_slots : List (Slot S V) → List (ComponentType V)
+  parts_of_slots [] = []
+  parts_of_slots (h ∷ hs) = h.parts ++ parts_of_slots hs
+
+  -- each slot is in step with its parts, by how often each of all has come
+  abbrev pub AreInStep : List (Slot S V) → (ℕ → ℕ) → S → V → Type 0
+  AreInStep [] times s v = ⊤
+  AreInStep (h ∷ hs) times s v =
+      h.InStep times (h.content s) v × AreInStep hs (λ j. times (length h.parts + j)) s v
 
   -- the slot is as it was
   abbrev pub IsKept : Slot S V → S → S → Type 0
@@ -328,14 +393,15 @@ module _ {S V : Type 0} where
   OthersAreKept (h ∷ hs) (suc index) before after =
       IsKept h before after × OthersAreKept hs index before after
 
-  -- the call reads the component of this index in a SET, into its slot
-  abbrev pub ReadsOnceAt : {D A : Type 0} → Reader D → List (Slot S V) → ℕ → D → D → S → S →
+  -- the call reads the component of this index in a SET, or the part of it that has the tag, into its
+  -- slot
+  abbrev pub ReadsOnceAt : {D A : Type 0} → Reader D → List (Slot S V) → ℕ → Tag → D → D → S → S →
       Result A DecodeError → Type 0
-  ReadsOnceAt R [] index old new before after result = ⊤
-  ReadsOnceAt R (h ∷ hs) zero old new before after result =
-      h.ReadsOnce R old new (h.content before) (h.content after) result
-  ReadsOnceAt R (h ∷ hs) (suc index) old new before after result =
-      ReadsOnceAt R hs index old new before after result
+  ReadsOnceAt R [] index t old new before after result = ⊤
+  ReadsOnceAt R (h ∷ hs) zero t old new before after result =
+      h.ReadsOnce R t old new (h.content before) (h.content after) result
+  ReadsOnceAt R (h ∷ hs) (suc index) t old new before after result =
+      ReadsOnceAt R hs index t old new before after result
 
   -- the call reads the component at this index into its slot
   abbrev pub ReadsAt : {D A : Type 0} → Reader D → List (Slot S V) → ℕ → D → D → S →
@@ -369,12 +435,12 @@ module _ {S V : Type 0} where
 
 -- Two components are the same to a reader.
 abbrev pub SameComponent : {V : Type 0} → ComponentType V → ComponentType V → Type 0
-SameComponent {V = V} c d = (v : V) →
+SameComponent {V = V} c d = ((v : V) →
     (c.IsWellTagged → d.IsWellTagged) × (c.IsOfType v → d.IsOfType v)
     × ((accepts : List ℕ → Bool) → c.IsValid accepts v → d.IsValid accepts v)
     × ((rest : List Record) → When (may_be_absent c.presence) (BeginsApart c.tree rest) →
     When (may_be_absent d.presence) (BeginsApart d.tree rest))
-    × (c.records v ≡ d.records v)
+    × (c.records v ≡ d.records v)) × (c.tree ≡ d.tree) × (c.parts ≡ d.parts)
 
 -- The slots are those of these components.
 abbrev pub AreSlotsOf : {S V : Type 0} → List (ComponentType V) → List (Slot S V) → Type 0

@@ -13,7 +13,7 @@ use crate::calls::Decoded;
 use crate::errors::in_component;
 use asn1_bounds::Constraints;
 use asn1_components::{ConstructedType, FieldTable};
-use asn1_dec::Decoder;
+use asn1_dec::{Decoder, finish_sequence};
 use asn1_laws::DecodeError;
 use asn1_tags::Tag;
 use std::alloc::{AllocError, Global};
@@ -136,12 +136,8 @@ fn read_sequence<S: DecodeByIndex + FieldTable, D: Decoder>(
     ensures keeps_depth { KeepsDepth D.reader decoder.old decoder.new result }
 {
     decoder.open_sequence::<S>(tag)?;
-    let value = match decode_fields_naming_errors(decoder) {
-        Ok(value) => value,
-        Err(error) => return Err(decoder.refuse(error)),
-    };
-    decoder.close()?;
-    Ok(value)
+    let components = decode_fields_naming_errors(decoder);
+    finish_sequence(decoder, tag, components)
 }
 
 /// Reads a SEQUENCE, by its components, one after another, and answers an error of a component with its name. It requires that the

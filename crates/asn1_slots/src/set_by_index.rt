@@ -4,7 +4,7 @@ ghost use Rattle.asn1_laws.specs.ReadingTypes.{ReadsComponents};
 ghost use Rattle.asn1_laws.specs.declared.decode_error.DecodeError.TheVariants.{Depth, Memory};
 ghost use Rattle.asn1_components.specs.Components.{is_set};
 ghost use Rattle.asn1_model.specs.ConstraintSets.{constraint_set};
-ghost use Rattle.asn1_slots.specs.Slots.{AreEmpty, AreFilled, HoldBefore, IsLayoutOf, MakesValueOfSlots, OthersAreKept, ReadsOnceAt, ReadsSlotsLeft, RefusesMissing, Slot, first_missing, has_no_group, missing_at};
+ghost use Rattle.asn1_slots.specs.Slots.{AreEmpty, AreFilled, HoldBefore, IsLayoutOf, MakesValueOfSlots, OthersAreKept, ReadsOnceAt, ReadsSlotsLeft, RefusesMissing, Slot, can_be_in_set, first_missing, missing_at};
 ghost use Rattle.std.specs.Option.{option_map};
 ghost use Rattle.std.specs.Prelude.{◌≡◌, IfOk, List, OnErr, OnOk, length, true};
 
@@ -35,11 +35,16 @@ pub trait DecodeSetByIndex: Eq + Sized + Drop {
         ensures missing { option_map (λ name. name.now) result ≡
             missing_at layout index slots.now };
 
-    /// Reads the component at an index of the definition into its slot, and leaves the other slots. If it was read before, the
-    /// error is [`DecodeError::DuplicateField`] with its name.
-    fn decode_field<D: Decoder>(index: usize, slots: &mut Self::Slots, decoder: &mut D) -> Decoded
-        ensures read { ReadsOnceAt D.reader layout index decoder.old decoder.new slots.old slots.new
-            result }
+    /// Reads the component at an index of the definition into its slot, and leaves the other slots: of a group of additions the
+    /// component that can begin with the tag. If it was read before, the error is [`DecodeError::DuplicateField`] with its name.
+    fn decode_field<D: Decoder>(
+        index: usize,
+        tag: Tag,
+        slots: &mut Self::Slots,
+        decoder: &mut D,
+    ) -> Decoded
+        ensures read { ReadsOnceAt D.reader layout index tag decoder.old decoder.new slots.old
+            slots.new result }
         ensures kept { OthersAreKept layout index slots.old slots.new }
         ensures same_depth { OnOk result (D.reader.depth_left decoder.new ≡
             D.reader.depth_left decoder.old) };
@@ -47,7 +52,9 @@ pub trait DecodeSetByIndex: Eq + Sized + Drop {
 
 /// The name of the first required component whose slot is empty.
 #[inline(always)]
-fn first_missing<S: DecodeSetByIndex + FieldTable>(slots: &S::Slots) -> Option<&'static str>
+pub(crate) fn first_missing<S: DecodeSetByIndex + FieldTable>(
+    slots: &S::Slots,
+) -> Option<&'static str>
     requires laid_out { IsLayoutOf S.components S.layout }
     ensures first { option_map (λ name. name.now) result ≡ first_missing S.layout slots.now }
 {
@@ -87,7 +94,7 @@ fn read_slots<S: DecodeSetByIndex + FieldTable, D: Decoder>(
     bound: usize,
 ) -> Result<S::Slots, DecodeError>
     requires laid_out { IsLayoutOf S.components S.layout }
-    requires no_group { has_no_group S.layout ≡ true }
+    requires can_be_read { can_be_in_set S.layout ≡ true }
     requires empty_at_first { (s : S.Slots) → S.Slots.Default.is_default s → AreEmpty S.layout s }
     ensures read { ReadsSlotsLeft D.reader bound S.components S.layout decoder.old decoder.new
         result }
@@ -105,7 +112,7 @@ fn read_slots<S: DecodeSetByIndex + FieldTable, D: Decoder>(
             Some(index) => index,
             None => return Err(decoder.refuse(DecodeError::UnknownField { index: count, tag })),
         };
-        match S::decode_field(index, &mut slots, decoder) {
+        match S::decode_field(index, tag, &mut slots, decoder) {
             Ok(()) => {}
             Err(error) => return Err(refuse_component::<S, D>(decoder, count, bound, error)),
         }
@@ -130,7 +137,7 @@ fn read_rest<S: DecodeSetByIndex + FieldTable, D: Decoder>(
             None => return Err(DecodeError::UnknownField { index: count, tag }),
         };
         let mut slots = S::Slots::default();
-        S::decode_field(index, &mut slots, decoder)?;
+        S::decode_field(index, tag, &mut slots, decoder)?;
     }
     decoder.close()
 }
@@ -165,7 +172,7 @@ fn read_components<S: DecodeSetByIndex + FieldTable, D: Decoder>(
     tag: Tag,
 ) -> Result<S, DecodeError>
     requires laid_out { IsLayoutOf S.components S.layout }
-    requires no_group { has_no_group S.layout ≡ true }
+    requires can_be_read { can_be_in_set S.layout ≡ true }
     requires empty_at_first { (s : S.Slots) → S.Slots.Default.is_default s → AreEmpty S.layout s }
     ensures read { ReadsComponents D.reader is_set tag S.components S.eq decoder.old decoder.new
         result }
@@ -183,7 +190,7 @@ fn read_components<S: DecodeSetByIndex + FieldTable, D: Decoder>(
 }
 
 /// Reads a SET, by its components, in whatever order they come. It requires that the layout is that of the type's components,
-/// which are of a SET and none of which is a group, and that the slots are empty at first. It reads the components under the tag
+/// which are of a SET and can be read in one, and that the slots are empty at first. It reads the components under the tag
 /// (`components`), and keeps the contract of [`asn1_dec::Decode`] under whatever constraints (`read`, `after_reading`). The error is [`DecodeError::Depth`] if no depth is left, before anything but `Failed` (`depth_first`). An
 /// error makes the decoder failed, a failed decoder answers [`DecodeError::Failed`], and a success keeps the depth left
 /// (`keeps_depth`).
@@ -200,7 +207,7 @@ pub fn decode_set_by_index<S: DecodeSetByIndex + ConstructedType, D: Decoder>(
 ) -> Result<S, DecodeError>
     requires laid_out { IsLayoutOf S.components S.layout }
     requires kind { S.components.kind ≡ is_set }
-    requires no_group { has_no_group S.layout ≡ true }
+    requires can_be_read { can_be_in_set S.layout ≡ true }
     requires empty_at_first { (s : S.Slots) → S.Slots.Default.is_default s → AreEmpty S.layout s }
     ensures components { ReadsComponents D.reader is_set tag S.components S.eq decoder.old
         decoder.new result }

@@ -1,4 +1,6 @@
 pub mod Alphabets
+pub mod BitLists
+pub mod Bits
 pub mod Dotted
 pub mod Refusals
 pub mod Shown

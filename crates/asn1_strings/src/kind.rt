@@ -9,6 +9,14 @@ use crate::strings::ascii_text::AsciiAlphabet;
 #[derive(Drop)]
 pub enum Bits {}
 
+/// The kind of BIT STRING whose bits lie in octets.
+#[derive(Drop)]
+pub enum PackedBits {}
+
+/// The kind of BIT STRING with named bits (X.680, 22.7), whose last bit is 1.
+#[derive(Drop)]
+pub enum NamedBits {}
+
 /// The kind of OCTET STRING.
 #[derive(Drop)]
 pub enum Octets {}

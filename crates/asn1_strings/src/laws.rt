@@ -8,13 +8,16 @@ ghost use Rattle.std.specs.Fmt.{styled_text};
 ghost use Rattle.std.specs.Hash as fed;
 ghost use Rattle.std.specs.List.{AllPass};
 ghost use Rattle.asn1_strings.specs.Alphabets.{is_among, is_ia5, is_numeric, is_printable, is_visible};
+ghost use Rattle.asn1_strings.specs.Bits.{without_trailing_zeros};
 ghost use Rattle.asn1_strings.specs.Dotted.{arcs_of, dotted};
 
 use crate::error::{AlphabetError, ArcError, ObjectIdentifierError, StringError};
 use crate::object_identifier::ObjectIdentifier;
 use crate::strings::alphabet_string::{Alphabet, AlphabetString};
 use crate::strings::ascii_text::AsciiAlphabet;
+use crate::strings::bit_vec::BitVec;
 use crate::strings::character::{Ia5String, NumericString, PrintableString, VisibleString};
+use crate::strings::named_bits::NamedBitString;
 use crate::strings::string_unit::StringUnit;
 use crate::strings::unit_string::UnitString;
 use std::fmt::Display;
@@ -48,6 +51,22 @@ pub fn alphabet_strings_are_compared_by_units<U: Ord + Hash, A: Alphabet<U>>(
         fed.slice U.hash_input a.now }
 {
     a == b
+}
+
+/// Whether the bits are equal. Bits that lie in octets are compared as the list of them is, and so are named bits (`named`).
+pub fn bits_are_compared_one_by_one(a: &BitVec, b: &BitVec) -> bool
+    ensures same { result ≡ pointwise ⟦<bool as PartialEq>⟧.eq a.now b.now }
+    ensures named { (c d : List Bool) → ⟦<NamedBitString as PartialEq>⟧.eq c d ≡
+        pointwise ⟦<bool as PartialEq>⟧.eq c d }
+{
+    a == b
+}
+
+/// The named bits among these, which `From` makes as `NamedBitString::new` does.
+pub fn named_bits_are_made_of_bits(bits: BitVec) -> NamedBitString
+    ensures { result ≡ without_trailing_zeros bits }
+{
+    NamedBitString::from(bits)
 }
 
 /// The string of these units, which `From` makes as `UnitString::new` does.

@@ -4,6 +4,8 @@
 //! |---|---|---|
 //! | [`VisibleString`], [`Ia5String`], [`NumericString`], [`PrintableString`] | units of an alphabet, an [`AlphabetString`] | the list of its units |
 //! | [`BitString`], [`OctetString`], [`GeneralString`], [`GraphicString`], [`TeletexString`], [`BmpString`] | any units, a [`UnitString`] | the list of its units |
+//! | [`BitVec`], [`BitIter`] | bits that lie in octets, and those of them that are left | the list of its bits |
+//! | [`NamedBitString`] | named bits, of which the last is 1 | the list of its bits |
 //! | [`StringUnit`] | what strings are made of: bits, octets, numbers of 16 or 32 bits | |
 //! | [`ObjectIdentifier`] | any arcs, a `UnitString` too | the list of its arcs |
 //! | [`Utf8String`], [`BitStr`] | names for `String` and for borrowed bits | |
@@ -18,6 +20,8 @@
 //! - `AlphabetString::new` succeeds if and only if the alphabet has all units (`allowed`), with these units (`units`); else the
 //!   error names the first that the alphabet lacks (`first`). `as_slice` and `into_vec` give the units back, and tell that they
 //!   are of the alphabet (`allowed`), or values of their type (`in_range`).
+//! - `BitVec::from_octets` takes octets and the number of their unused bits (`made`, `bits`), and `octets`, `unused_bits` and `get`
+//!   give them back. `NamedBitString::new` leaves out the 0 bits at the end, which mean nothing there.
 //! - A string with an alphabet inside ASCII is made of a text by `try_from_str` (`units`), or the error is a refusal
 //!   (`IsRefusal` of `specs/Refusals.antt`): the first character that the alphabet lacks, or no memory. `as_str` gives the text
 //!   back.
@@ -38,9 +42,11 @@ pub use object_identifier::ObjectIdentifier;
 pub use strings::alphabet_string::{Alphabet, AlphabetString};
 pub use strings::ascii_text::AsciiAlphabet;
 pub use strings::binary::{BitStr, BitString, OctetString};
+pub use strings::bit_vec::{BitIter, BitVec};
 pub use strings::character::{
     BmpString, GeneralString, GraphicString, Ia5String, NumericString, PrintableString,
     TeletexString, Utf8String, VisibleString,
 };
+pub use strings::named_bits::NamedBitString;
 pub use strings::string_unit::StringUnit;
 pub use strings::unit_string::UnitString;

@@ -4,6 +4,7 @@
 ghost use Rattle.std.specs.Prelude.{◌≡◌};
 ghost use Rattle.asn1_strings.specs.Shown.{is_shown, turns_or_ends_line};
 
+use crate::strings::bit_vec::BitVec;
 use std::{fmt, str};
 
 /// Whether a line can show the character: it is no control, and none that changes the direction of others or ends a line or a
@@ -56,6 +57,15 @@ pub fn write_bits<W: fmt::Write>(bits: &[bool], f: &mut fmt::Formatter<W>) -> fm
     f.write_str("'")?;
     for bit in bits {
         f.write_str(if *bit { "1" } else { "0" })?;
+    }
+    f.write_str("'B")
+}
+
+/// Writes bits that lie in octets, as [`write_bits`] does.
+pub fn write_packed_bits<W: fmt::Write>(bits: &BitVec, f: &mut fmt::Formatter<W>) -> fmt::Result {
+    f.write_str("'")?;
+    for bit in bits.iter() {
+        f.write_str(if bit { "1" } else { "0" })?;
     }
     f.write_str("'B")
 }

@@ -2,7 +2,9 @@
 pub(crate) mod alphabet_string;
 pub(crate) mod ascii_text;
 pub(crate) mod binary;
+pub(crate) mod bit_vec;
 pub(crate) mod character;
+pub(crate) mod named_bits;
 pub(crate) mod string_unit;
 mod texts;
 pub(crate) mod unit_string;

@@ -118,7 +118,7 @@ and_true : (b : Bool) → b ≡ (b && true)
 and_true true = refl
 and_true false = refl
 
-distinct-append : (xs ys : List Tag) → distinct (xs ++ ys) ≡ (distinct xs && (distinct ys && not (have_common_tag xs ys)))
+pub distinct-append : (xs ys : List Tag) → distinct (xs ++ ys) ≡ (distinct xs && (distinct ys && not (have_common_tag xs ys)))
 distinct-append [] ys = and_true (distinct ys)
 distinct-append (x ∷ xs) ys =
     ap (λ b. not b && distinct (xs ++ ys)) (has-append x xs ys)

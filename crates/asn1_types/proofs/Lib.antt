@@ -1,1 +1,3 @@
 pub mod Positions
+pub mod WrittenAlike
+pub mod DistinctSets

@@ -1,5 +1,6 @@
 -- The content of a string of any kind in a record.
 use Rattle.std.specs.Prelude.{◌≡◌, ⊤}
+use Rattle.asn1_values.specs.Bits.{EndsInOne, without_trailing_zeros}
 use Rattle.asn1_model.specs.Records as model
 use Rattle.asn1_types.specs.declared.any_string.OctetKind.{OctetKind}
 use Rattle.asn1_types.specs.declared.any_string.OctetKind.TheVariants as octets
@@ -24,6 +25,7 @@ octet_kind octets.Numeric = model.numeric
 -- the content of a string, apart from where it lies in memory
 abbrev pub content_of_str : AnyStr → model.Content
 content_of_str (borrowed.Bits list) = model.bits list.now
+content_of_str (borrowed.PackedBits list) = model.bits list.now
 content_of_str (borrowed.Octets k list) = model.units (octet_kind k) list.now
 content_of_str (borrowed.Bmp list) = model.units model.bmp list.now
 content_of_str (borrowed.Teletex list) = model.units model.teletex list.now
@@ -31,14 +33,38 @@ content_of_str (borrowed.Teletex list) = model.units model.teletex list.now
 -- the same of a string that has its own memory
 abbrev pub content_of_string : AnyString → model.Content
 content_of_string (owned.Bits list) = model.bits list.items
+content_of_string (owned.PackedBits list) = model.bits list
 content_of_string (owned.Octets k list) = model.units (octet_kind k) list.items
 content_of_string (owned.Bmp list) = model.units model.bmp list.items
 content_of_string (owned.Teletex list) = model.units model.teletex list.items
 
+-- the kind of the content of a string of this kind
+abbrev pub content_kind_of : StringKind → StringKind
+content_kind_of kind.PackedBits = kind.Bits
+content_kind_of kind.NamedBits = kind.Bits
+content_kind_of other = other
+
+-- The string is as strings of this kind are in memory.
+abbrev pub IsMadeAs : StringKind → AnyString → Type 0
+IsMadeAs kind.Bits (owned.Bits list) = ⊤
+IsMadeAs kind.PackedBits (owned.PackedBits list) = ⊤
+IsMadeAs kind.NamedBits (owned.PackedBits list) = ⊤
+IsMadeAs (kind.Octets k) (owned.Octets own list) = ⊤
+IsMadeAs kind.Bmp (owned.Bmp list) = ⊤
+IsMadeAs kind.Teletex (owned.Teletex list) = ⊤
+IsMadeAs _ _ = ⊥
+
 -- The content is a string of this kind.
 abbrev pub IsStringOf : StringKind → model.Content → Type 0
 IsStringOf kind.Bits (model.bits list) = ⊤
+IsStringOf kind.PackedBits (model.bits list) = ⊤
+IsStringOf kind.NamedBits (model.bits list) = EndsInOne list
 IsStringOf (kind.Octets k) (model.units own list) = own ≡ octet_kind k
 IsStringOf kind.Bmp (model.units own list) = own ≡ model.bmp
 IsStringOf kind.Teletex (model.units own list) = own ≡ model.teletex
 IsStringOf _ _ = ⊥
+
+-- The content that is read where this one comes: named bits without the 0 bits at their end (X.680, 22.7), any other as it is.
+abbrev pub content_read : StringKind → model.Content → model.Content
+content_read kind.NamedBits (model.bits list) = model.bits (without_trailing_zeros list)
+content_read _ x = x

@@ -3,9 +3,10 @@ ghost use Rattle.std.specs.Prelude.{◌≡◌, ◌<◌, ◌^◌, ⊤, All, IfSom
 ghost use Rattle.std.specs.Str.{IsUtf8};
 ghost use Rattle.std.specs.String.{string_bytes};
 ghost use Rattle.asn1_values.specs.Alphabets.{is_ia5, is_numeric, is_printable, is_visible};
+ghost use Rattle.asn1_values.specs.Bits.{EndsInOne};
 ghost use Rattle.asn1_model.specs.Records.{units, utf8};
 ghost use Rattle.asn1_model.specs.Tags.{universal};
-ghost use Rattle.asn1_types.specs.AnyStrings.{IsStringOf, content_of_str, content_of_string};
+ghost use Rattle.asn1_types.specs.AnyStrings.{IsMadeAs, IsStringOf, content_kind_of, content_of_str, content_of_string, content_read};
 ghost use Rattle.asn1_types.specs.declared.any_string.OctetKind.TheVariants as octets;
 ghost use Rattle.asn1_types.specs.declared.any_string.StringKind.TheVariants as kinds;
 ghost use Rattle.asn1_types.specs.declared.any_string.StringKind.{StringKind};
@@ -14,11 +15,12 @@ use crate::any_string::{AnyStr, AnyString, OctetKind, StringKind};
 use asn1_model::{StringType, TypeTable};
 use asn1_tags::{Identifier, Tag};
 use asn1_values::kind::{
-    Bits, Bmp, General, Graphic, Ia5, Numeric, Octets, Printable, Teletex, Visible,
+    Bits, Bmp, General, Graphic, Ia5, NamedBits, Numeric, Octets, PackedBits, Printable, Teletex,
+    Visible,
 };
 use asn1_values::{
-    BitString, BmpString, GeneralString, GraphicString, Ia5String, NumericString, PrintableString,
-    TeletexString, VisibleString,
+    BitString, BitVec, BmpString, GeneralString, GraphicString, Ia5String, NamedBitString,
+    NumericString, PrintableString, TeletexString, VisibleString,
 };
 
 /// A kind of string, by the kind's marker, as a codec writes and reads it: one call of a codec serves all kinds.
@@ -35,6 +37,10 @@ pub trait CodecString<U>: StringType<U> {
     // The units of a string.
     ghost units_in: { Self.Owned → List U };
 
+    // The units that are read where these come, in a codec that reads all spellings: those without the 0 bits at the end, if the
+    // bits have names (X.680, 22.7).
+    ghost units_read: { List U → List U };
+
     /// The kind, by which a codec tells it from others.
     fn kind() -> StringKind
         ensures { result ≡ own_kind };
@@ -45,14 +51,23 @@ pub trait CodecString<U>: StringType<U> {
 
     /// The string that a codec has read, if it is of this kind, and its units are those that a string of the kind can have.
     fn from_any(string: AnyString) -> Option<Self::Owned>
-        ensures found { (list : List U) → AreOfKind list →
+        ensures found { (list : List U) → AreOfKind list → IsMadeAs own_kind string →
             content_of_string string ≡ Self.content list →
             IsSomeAnd result (λ s. units_in s ≡ list) }
         ensures only { IfSome result (λ s.
             content_of_string string ≡ Self.content (units_in s)) };
 
     // The law of a kind: what its units are to a codec is a string of the kind.
-    ghost is_string: { (list : List U) → IsStringOf own_kind (Self.content list) };
+    ghost is_string: { (list : List U) → AreOfKind list → IsStringOf own_kind (Self.content list) };
+
+    // The same of the kind of the content, of whatever units.
+    ghost has_kind: { (list : List U) → IsStringOf (content_kind_of own_kind) (Self.content list) };
+
+    // The laws of what is read: units of the kind are read as they are, and the kind says what is read of others.
+    ghost reads_own: { (list : List U) → AreOfKind list → units_read list ≡ list };
+
+    ghost reads_content: { (list : List U) →
+        content_read own_kind (Self.content list) ≡ Self.content (units_read list) };
 }
 
 /// The kind of UTF8String, whose strings are of the language's own type.
@@ -81,6 +96,8 @@ impl CodecString<bool> for Bits {
 
     ghost units_in = { λ string. string };
 
+    ghost units_read = { λ list. list };
+
     fn kind() -> StringKind {
         StringKind::Bits
     }
@@ -96,7 +113,86 @@ impl CodecString<bool> for Bits {
         }
     }
 
-    ghost is_string = { λ _. tt };
+    ghost is_string = { λ _ _. tt };
+
+    ghost has_kind = { λ _. tt };
+
+    ghost reads_own = { λ _ _. refl };
+
+    ghost reads_content = { λ _. refl };
+}
+
+impl CodecString<bool> for PackedBits {
+    type Owned = BitVec;
+
+    ghost own_kind = { kinds.PackedBits };
+
+    ghost AreOfKind = { λ _. ⊤ };
+
+    ghost units_in = { λ string. string };
+
+    ghost units_read = { λ list. list };
+
+    fn kind() -> StringKind {
+        StringKind::PackedBits
+    }
+
+    fn as_any(units: &[bool]) -> AnyStr<'_> {
+        AnyStr::Bits(units)
+    }
+
+    fn from_any(string: AnyString) -> Option<BitVec> {
+        match string {
+            AnyString::PackedBits(bits) => Some(bits),
+            _ => None,
+        }
+    }
+
+    ghost is_string = { λ _ _. tt };
+
+    ghost has_kind = { λ _. tt };
+
+    ghost reads_own = { λ _ _. refl };
+
+    ghost reads_content = { λ _. refl };
+}
+
+impl CodecString<bool> for NamedBits {
+    ghost use Rattle.asn1_strings.proofs.TrailingZeros.{nothing_left_out};
+    ghost use Rattle.asn1_values.specs.Bits.{without_trailing_zeros};
+
+    type Owned = NamedBitString;
+
+    ghost own_kind = { kinds.NamedBits };
+
+    ghost AreOfKind = { EndsInOne };
+
+    ghost units_in = { λ string. string };
+
+    ghost units_read = { without_trailing_zeros };
+
+    fn kind() -> StringKind {
+        StringKind::NamedBits
+    }
+
+    fn as_any(units: &[bool]) -> AnyStr<'_> {
+        AnyStr::Bits(units)
+    }
+
+    fn from_any(string: AnyString) -> Option<NamedBitString> {
+        match string {
+            AnyString::PackedBits(bits) => NamedBitString::of_bits(bits),
+            _ => None,
+        }
+    }
+
+    ghost is_string = { λ _ ends. ends };
+
+    ghost has_kind = { λ _. tt };
+
+    ghost reads_own = { nothing_left_out };
+
+    ghost reads_content = { λ _. refl };
 }
 
 impl CodecString<u8> for Octets {
@@ -107,6 +203,8 @@ impl CodecString<u8> for Octets {
     ghost AreOfKind = { All (λ unit. unit < 2 ^ 8) };
 
     ghost units_in = { λ string. string.items };
+
+    ghost units_read = { λ list. list };
 
     fn kind() -> StringKind {
         StringKind::Octets(OctetKind::OctetString)
@@ -120,7 +218,13 @@ impl CodecString<u8> for Octets {
         string.into_octets(OctetKind::OctetString)
     }
 
-    ghost is_string = { λ _. refl };
+    ghost is_string = { λ _ _. refl };
+
+    ghost has_kind = { λ _. refl };
+
+    ghost reads_own = { λ _ _. refl };
+
+    ghost reads_content = { λ _. refl };
 }
 
 impl CodecString<u8> for Utf8 {
@@ -131,6 +235,8 @@ impl CodecString<u8> for Utf8 {
     ghost AreOfKind = { IsUtf8 };
 
     ghost units_in = { string_bytes };
+
+    ghost units_read = { λ list. list };
 
     fn kind() -> StringKind {
         StringKind::Octets(OctetKind::Utf8)
@@ -144,7 +250,13 @@ impl CodecString<u8> for Utf8 {
         String::from_utf8(string.into_octets(OctetKind::Utf8)?).ok()
     }
 
-    ghost is_string = { λ _. refl };
+    ghost is_string = { λ _ _. refl };
+
+    ghost has_kind = { λ _. refl };
+
+    ghost reads_own = { λ _ _. refl };
+
+    ghost reads_content = { λ _. refl };
 }
 
 impl CodecString<u8> for General {
@@ -155,6 +267,8 @@ impl CodecString<u8> for General {
     ghost AreOfKind = { All (λ unit. unit < 2 ^ 8) };
 
     ghost units_in = { λ string. string };
+
+    ghost units_read = { λ list. list };
 
     fn kind() -> StringKind {
         StringKind::Octets(OctetKind::General)
@@ -168,7 +282,13 @@ impl CodecString<u8> for General {
         Some(GeneralString::new(string.into_octets(OctetKind::General)?))
     }
 
-    ghost is_string = { λ _. refl };
+    ghost is_string = { λ _ _. refl };
+
+    ghost has_kind = { λ _. refl };
+
+    ghost reads_own = { λ _ _. refl };
+
+    ghost reads_content = { λ _. refl };
 }
 
 impl CodecString<u8> for Graphic {
@@ -179,6 +299,8 @@ impl CodecString<u8> for Graphic {
     ghost AreOfKind = { All (λ unit. unit < 2 ^ 8) };
 
     ghost units_in = { λ string. string };
+
+    ghost units_read = { λ list. list };
 
     fn kind() -> StringKind {
         StringKind::Octets(OctetKind::Graphic)
@@ -192,7 +314,13 @@ impl CodecString<u8> for Graphic {
         Some(GraphicString::new(string.into_octets(OctetKind::Graphic)?))
     }
 
-    ghost is_string = { λ _. refl };
+    ghost is_string = { λ _ _. refl };
+
+    ghost has_kind = { λ _. refl };
+
+    ghost reads_own = { λ _ _. refl };
+
+    ghost reads_content = { λ _. refl };
 }
 
 impl CodecString<u32> for Teletex {
@@ -203,6 +331,8 @@ impl CodecString<u32> for Teletex {
     ghost AreOfKind = { All (λ unit. unit < 2 ^ 32) };
 
     ghost units_in = { λ string. string };
+
+    ghost units_read = { λ list. list };
 
     fn kind() -> StringKind {
         StringKind::Teletex
@@ -219,7 +349,13 @@ impl CodecString<u32> for Teletex {
         }
     }
 
-    ghost is_string = { λ _. refl };
+    ghost is_string = { λ _ _. refl };
+
+    ghost has_kind = { λ _. refl };
+
+    ghost reads_own = { λ _ _. refl };
+
+    ghost reads_content = { λ _. refl };
 }
 
 impl CodecString<u16> for Bmp {
@@ -230,6 +366,8 @@ impl CodecString<u16> for Bmp {
     ghost AreOfKind = { All (λ unit. unit < 2 ^ 16) };
 
     ghost units_in = { λ string. string };
+
+    ghost units_read = { λ list. list };
 
     fn kind() -> StringKind {
         StringKind::Bmp
@@ -246,7 +384,13 @@ impl CodecString<u16> for Bmp {
         }
     }
 
-    ghost is_string = { λ _. refl };
+    ghost is_string = { λ _ _. refl };
+
+    ghost has_kind = { λ _. refl };
+
+    ghost reads_own = { λ _ _. refl };
+
+    ghost reads_content = { λ _. refl };
 }
 
 impl CodecString<u8> for Visible {
@@ -257,6 +401,8 @@ impl CodecString<u8> for Visible {
     ghost AreOfKind = { All (λ unit. IsTrue (is_visible unit)) };
 
     ghost units_in = { λ string. string };
+
+    ghost units_read = { λ list. list };
 
     fn kind() -> StringKind {
         StringKind::Octets(OctetKind::Visible)
@@ -270,7 +416,13 @@ impl CodecString<u8> for Visible {
         VisibleString::new(string.into_octets(OctetKind::Visible)?).ok()
     }
 
-    ghost is_string = { λ _. refl };
+    ghost is_string = { λ _ _. refl };
+
+    ghost has_kind = { λ _. refl };
+
+    ghost reads_own = { λ _ _. refl };
+
+    ghost reads_content = { λ _. refl };
 }
 
 impl CodecString<u8> for Ia5 {
@@ -281,6 +433,8 @@ impl CodecString<u8> for Ia5 {
     ghost AreOfKind = { All (λ unit. IsTrue (is_ia5 unit)) };
 
     ghost units_in = { λ string. string };
+
+    ghost units_read = { λ list. list };
 
     fn kind() -> StringKind {
         StringKind::Octets(OctetKind::Ia5)
@@ -294,7 +448,13 @@ impl CodecString<u8> for Ia5 {
         Ia5String::new(string.into_octets(OctetKind::Ia5)?).ok()
     }
 
-    ghost is_string = { λ _. refl };
+    ghost is_string = { λ _ _. refl };
+
+    ghost has_kind = { λ _. refl };
+
+    ghost reads_own = { λ _ _. refl };
+
+    ghost reads_content = { λ _. refl };
 }
 
 impl CodecString<u8> for Numeric {
@@ -305,6 +465,8 @@ impl CodecString<u8> for Numeric {
     ghost AreOfKind = { All (λ unit. IsTrue (is_numeric unit)) };
 
     ghost units_in = { λ string. string };
+
+    ghost units_read = { λ list. list };
 
     fn kind() -> StringKind {
         StringKind::Octets(OctetKind::Numeric)
@@ -318,7 +480,13 @@ impl CodecString<u8> for Numeric {
         NumericString::new(string.into_octets(OctetKind::Numeric)?).ok()
     }
 
-    ghost is_string = { λ _. refl };
+    ghost is_string = { λ _ _. refl };
+
+    ghost has_kind = { λ _. refl };
+
+    ghost reads_own = { λ _ _. refl };
+
+    ghost reads_content = { λ _. refl };
 }
 
 impl CodecString<u8> for Printable {
@@ -329,6 +497,8 @@ impl CodecString<u8> for Printable {
     ghost AreOfKind = { All (λ unit. IsTrue (is_printable unit)) };
 
     ghost units_in = { λ string. string };
+
+    ghost units_read = { λ list. list };
 
     fn kind() -> StringKind {
         StringKind::Octets(OctetKind::Printable)
@@ -342,5 +512,11 @@ impl CodecString<u8> for Printable {
         PrintableString::new(string.into_octets(OctetKind::Printable)?).ok()
     }
 
-    ghost is_string = { λ _. refl };
+    ghost is_string = { λ _ _. refl };
+
+    ghost has_kind = { λ _. refl };
+
+    ghost reads_own = { λ _ _. refl };
+
+    ghost reads_content = { λ _. refl };
 }

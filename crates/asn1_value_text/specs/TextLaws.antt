@@ -21,7 +21,7 @@ pub text_writer_is_lawful : {F : Type 0} (MayRefuse : Type 0) → IsLawful (text
 text_writer_is_lawful MayRefuse = record {
   part = λ before rs after refuses. refuses;
   inner = λ h rs refuses. refuses;
-  marks = λ rs alone refuses. refuses;
+  marks = λ table rs alone refuses. refuses;
   wrote_in_any_order = λ e w x same wrote. (wrote.0 ∙ open_in-same same, omega (arith, wrote.1, scopes_in-same same));
   rejects_in_any_order = λ rs ss same refuses. refuses;
 }

@@ -11,7 +11,9 @@ pub(crate) fn character_numbers(
     string: AnyStr<'_>,
 ) -> Result<Option<Vec<u32>>, AllocError> {
     match string {
-        AnyStr::Bits(_) | AnyStr::Octets(OctetKind::OctetString, _) => Ok(None),
+        AnyStr::Bits(_) | AnyStr::PackedBits(_) | AnyStr::Octets(OctetKind::OctetString, _) => {
+            Ok(None)
+        }
         AnyStr::Octets(OctetKind::Utf8, octets) => numbers_of_utf8(alloc, octets),
         AnyStr::Octets(_, octets) => {
             let numbers = octets.iter().map(|octet| u32::from(*octet)).collect(alloc)?;

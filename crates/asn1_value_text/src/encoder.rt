@@ -15,8 +15,8 @@ use asn1_components::{Choice, EnumeratedTable, FieldTable};
 use asn1_enc::{EncodeError, Encoder};
 use asn1_paths::alternative_name;
 use asn1_tags::{Identifier, Tag};
-use asn1_types::{Any, CodecString};
-use asn1_values::IntegerType;
+use asn1_types::{Any, AnyStr, CodecString};
+use asn1_values::{BitVec, IntegerType};
 use std::alloc::{AllocError, Global};
 
 /// An encoder that writes a text in the notation `F`.
@@ -321,6 +321,16 @@ impl<F: TextForm> Encoder for TextEncoder<F> {
         self.append(Scalar::String(K::as_any(value), only_length(constraints)))
     }
 
+    fn encode_packed_bits<K: CodecString<bool>>(
+        &mut self,
+        _tag: Tag,
+        constraints: &Constraints<'_>,
+        value: &BitVec,
+        _name: Identifier,
+    ) -> Result<(), EncodeError> {
+        self.append(Scalar::String(AnyStr::PackedBits(value), only_length(constraints)))
+    }
+
     fn encode_any(&mut self, _tag: Tag, value: &Any, _name: Identifier) -> Result<(), EncodeError> {
         self.append(Scalar::Open(value.as_bytes()))
     }
@@ -341,7 +351,7 @@ impl<F: TextForm> Encoder for TextEncoder<F> {
         self.append_absence()
     }
 
-    fn mark_group_absent(&mut self) -> Result<(), EncodeError> {
+    fn mark_group_absent<C: FieldTable>(&mut self) -> Result<(), EncodeError> {
         self.append_absence()
     }
 

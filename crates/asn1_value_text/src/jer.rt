@@ -48,7 +48,11 @@ impl JsonText {
         length: Option<usize>,
     ) -> Result<(), WriteError> {
         match string {
-            AnyStr::Bits(bits) => self.write_bits(bits, length)?,
+            AnyStr::Bits(bits) => {
+                let octets = octets_of_bits(self.alloc, bits)?;
+                self.write_bits(octets.as_slice(), bits.len(), length)?;
+            }
+            AnyStr::PackedBits(bits) => self.write_bits(bits.octets(), bits.len(), length)?,
             AnyStr::Octets(OctetKind::OctetString, octets) => self.write_octets(octets)?,
             AnyStr::Bmp(units) => {
                 let Ok(text) = String::from_utf16(self.alloc, units)? else {
@@ -76,17 +80,21 @@ impl JsonText {
         Ok(())
     }
 
-    /// Appends bits: of strings of one length their octets, of others the octets and the number of bits (X.697, 24).
-    fn write_bits(&mut self, bits: &[bool], length: Option<usize>) -> Result<(), AllocError> {
-        let octets = octets_of_bits(self.alloc, bits)?;
-        if length == Some(bits.len()) {
-            return self.write_octets(octets.as_slice());
+    /// Appends this number of bits, by their octets: of strings of one length the octets, of others the octets and the number of bits (X.697, 24).
+    fn write_bits(
+        &mut self,
+        octets: &[u8],
+        count: usize,
+        length: Option<usize>,
+    ) -> Result<(), AllocError> {
+        if length == Some(count) {
+            return self.write_octets(octets);
         }
         self.writer.begin_object()?;
         self.writer.key("value")?;
-        self.write_octets(octets.as_slice())?;
+        self.write_octets(octets)?;
         self.writer.key("length")?;
-        self.writer.u64(bits.len() as u64)?;
+        self.writer.u64(count as u64)?;
         self.writer.end_object()
     }
 }

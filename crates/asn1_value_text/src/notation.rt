@@ -5,6 +5,7 @@ mod strings;
 use crate::digits::{push_binary, push_hexadecimal};
 use crate::text_form::{Brackets, Scalar, TextForm};
 use asn1_buffers::WriteError;
+use asn1_values::BitVec;
 use std::alloc::{AllocError, Global};
 use std::fmt::Write;
 
@@ -145,6 +146,15 @@ fn push_octets(text: &mut String, octets: &[u8]) -> Result<(), AllocError> {
     text.push('\'')?;
     push_hexadecimal(text, octets)?;
     text.push_str("'H")
+}
+
+/// Appends bits that lie in octets as a bstring.
+fn push_packed_bits(text: &mut String, bits: &BitVec) -> Result<(), AllocError> {
+    text.push('\'')?;
+    for bit in bits.iter() {
+        text.push(if bit { '1' } else { '0' })?;
+    }
+    text.push_str("'B")
 }
 
 /// Appends bits as a bstring (X.680, 12.10).

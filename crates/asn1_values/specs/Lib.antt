@@ -6,6 +6,7 @@ pub use Rattle.asn1_integers.specs.Text
 pub use Rattle.asn1_integers.specs.contracts as integer_contracts
 -- of strings and names of objects
 pub use Rattle.asn1_strings.specs.Alphabets
+pub use Rattle.asn1_strings.specs.Bits
 pub use Rattle.asn1_strings.specs.Dotted
 pub use Rattle.asn1_strings.specs.Refusals
 pub use Rattle.asn1_strings.specs.Shown

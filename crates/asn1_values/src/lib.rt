@@ -7,6 +7,7 @@
 //! | [`Limits`], [`Between`] | the least number and the greatest one | `asn1_integers` |
 //! | [`OutOfRangeError`] | a number that does not fit | `asn1_integers` |
 //! | [`BitString`], [`OctetString`], [`VisibleString`] and the like, [`kind`] | the kinds of string | `asn1_strings` |
+//! | [`BitVec`], [`NamedBitString`] | bits that lie in octets, and named bits | `asn1_strings` |
 //! | [`AlphabetString`], [`UnitString`] | strings of an alphabet, and of any units | `asn1_strings` |
 //! | [`ObjectIdentifier`] | the arcs of an object identifier | `asn1_strings` |
 //! | [`shown`] | octets, bits and characters as a person reads them | `asn1_strings` |
@@ -22,8 +23,8 @@ pub use asn1_integers::{
 };
 pub use asn1_strings as strings;
 pub use asn1_strings::{
-    Alphabet, AlphabetError, AlphabetString, ArcError, AsciiAlphabet, BitStr, BitString, BmpString,
-    GeneralString, GraphicString, Ia5String, NumericString, ObjectIdentifier,
-    ObjectIdentifierError, OctetString, PrintableString, StringError, StringUnit, TeletexString,
-    UnitString, Utf8String, VisibleString, kind, shown,
+    Alphabet, AlphabetError, AlphabetString, ArcError, AsciiAlphabet, BitIter, BitStr, BitString,
+    BitVec, BmpString, GeneralString, GraphicString, Ia5String, NamedBitString, NumericString,
+    ObjectIdentifier, ObjectIdentifierError, OctetString, PrintableString, StringError, StringUnit,
+    TeletexString, UnitString, Utf8String, VisibleString, kind, shown,
 };

@@ -2,7 +2,7 @@
 
 use crate::attribute_type_and_value::AttributeTypeAndValue;
 use crate::extension::Extension;
-use asn1_schema::{Any, BitString, Integer, ObjectIdentifier, SetOf};
+use asn1_schema::{Any, BitVec, Integer, ObjectIdentifier, SetOf};
 
 /// `Version ::= INTEGER { v1(0), v2(1), v3(2) }`
 pub type Version = Integer;
@@ -25,7 +25,7 @@ impl VersionNames {
 pub type CertificateSerialNumber = Integer;
 
 /// `UniqueIdentifier ::= BIT STRING`
-pub type UniqueIdentifier = BitString;
+pub type UniqueIdentifier = BitVec;
 
 /// `Extensions ::= SEQUENCE (SIZE (1..MAX)) OF Extension`
 pub type Extensions = Vec<Extension>;

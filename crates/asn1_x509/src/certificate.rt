@@ -13,7 +13,7 @@ ghost use Rattle.asn1_schema.specs.Words.{IsWellTagged, constructed_agrees, cons
 use crate::algorithm_identifier::AlgorithmIdentifier;
 use crate::tbs_certificate::TbsCertificate;
 use asn1_schema::{
-    AsnType, BitString, Constraints, ConstructedType, Decode, DecodeByIndex, DecodeError, Decoded,
+    AsnType, BitVec, Constraints, ConstructedType, Decode, DecodeByIndex, DecodeError, Decoded,
     Decoder, Encode, EncodeError, EncodeFields, Encoder, Field, FieldTable, Identifier, Tag,
     Tagging, TypeTable, decode_sequence_naming_errors, required,
 };
@@ -27,19 +27,19 @@ pub struct Certificate {
     /// `signatureAlgorithm AlgorithmIdentifier`
     pub signature_algorithm: AlgorithmIdentifier,
     /// `signatureValue BIT STRING`
-    pub signature_value: BitString,
+    pub signature_value: BitVec,
 }
 
 impl DecodeByIndex for Certificate {
     type Slots = (
         Option<TbsCertificate>,
         Option<AlgorithmIdentifier>,
-        Option<BitString>,
+        Option<BitVec>,
     );
 
     ghost layout = { required_slot (codes "tbsCertificate") (λ v. v.tbs_certificate) (λ s. s.0) (untagged ⟦<TbsCertificate as AsnType>⟧.meaning) ⟦<TbsCertificate as PartialEq>⟧.eq ∷
         required_slot (codes "signatureAlgorithm") (λ v. v.signature_algorithm) (λ s. s.1) (untagged ⟦<AlgorithmIdentifier as AsnType>⟧.meaning) ⟦<AlgorithmIdentifier as PartialEq>⟧.eq ∷
-        required_slot (codes "signatureValue") (λ v. v.signature_value) (λ s. s.2) (untagged ⟦<BitString as AsnType>⟧.meaning) ⟦<BitString as PartialEq>⟧.eq ∷ [] };
+        required_slot (codes "signatureValue") (λ v. v.signature_value) (λ s. s.2) (untagged ⟦<BitVec as AsnType>⟧.meaning) ⟦<BitVec as PartialEq>⟧.eq ∷ [] };
 
     fn full(_alloc: Global, slots: Self::Slots) -> Result<Self, AllocError> {
         Ok(Self {
@@ -70,7 +70,7 @@ impl FieldTable for Certificate {
         match index {
             0 => Some(Field::new_required_type::<TbsCertificate>(0, "tbsCertificate")),
             1 => Some(Field::new_required_type::<AlgorithmIdentifier>(1, "signatureAlgorithm")),
-            2 => Some(Field::new_required_type::<BitString>(2, "signatureValue")),
+            2 => Some(Field::new_required_type::<BitVec>(2, "signatureValue")),
             _ => None,
         }
     }

@@ -6,7 +6,7 @@ ghost use Rattle.asn1_x509.specs.OpenValues.{ParametersAreAccepted};
 
 use crate::algorithm_identifier::AlgorithmIdentifier;
 use asn1_schema::{
-    AsnType, BitString, Constraints, ConstructedType, Decode, DecodeByIndex, DecodeError, Decoded,
+    AsnType, BitVec, Constraints, ConstructedType, Decode, DecodeByIndex, DecodeError, Decoded,
     Decoder, Encode, EncodeError, EncodeFields, Encoder, Field, FieldTable, Identifier, Tag,
     Tagging, TypeTable, decode_sequence_naming_errors, required,
 };
@@ -20,11 +20,11 @@ pub struct Signed<T> {
     /// `algorithmIdentifier AlgorithmIdentifier`
     pub algorithm_identifier: AlgorithmIdentifier,
     /// `encrypted BIT STRING`
-    pub encrypted: BitString,
+    pub encrypted: BitVec,
 }
 
 impl<T: Decode> DecodeByIndex for Signed<T> {
-    type Slots = (Option<T>, Option<AlgorithmIdentifier>, Option<BitString>);
+    type Slots = (Option<T>, Option<AlgorithmIdentifier>, Option<BitVec>);
 
     ghost layout = { required_slot (codes "toBeSigned") (λ v. v.to_be_signed) (λ s. s.0)
         (untagged T.meaning) T.eq ∷
@@ -32,7 +32,7 @@ impl<T: Decode> DecodeByIndex for Signed<T> {
         (untagged ⟦<AlgorithmIdentifier as AsnType>⟧.meaning)
         ⟦<AlgorithmIdentifier as PartialEq>⟧.eq ∷
         required_slot (codes "encrypted") (λ v. v.encrypted) (λ s. s.2)
-        (untagged ⟦<BitString as AsnType>⟧.meaning) ⟦<BitString as PartialEq>⟧.eq ∷ [] };
+        (untagged ⟦<BitVec as AsnType>⟧.meaning) ⟦<BitVec as PartialEq>⟧.eq ∷ [] };
 
     fn full(_alloc: Global, slots: Self::Slots) -> Result<Signed<T>, AllocError> {
         Ok(Signed {
@@ -58,7 +58,7 @@ impl<T: AsnType> FieldTable for Signed<T> {
         required (codes "algorithmIdentifier") (λ v. v.algorithm_identifier)
         (untagged ⟦<AlgorithmIdentifier as AsnType>⟧.meaning) ∷
         required (codes "encrypted") (λ v. v.encrypted)
-        (untagged ⟦<BitString as AsnType>⟧.meaning) ∷ []) };
+        (untagged ⟦<BitVec as AsnType>⟧.meaning) ∷ []) };
 
     fn field_count() -> usize {
         3
@@ -68,7 +68,7 @@ impl<T: AsnType> FieldTable for Signed<T> {
         match index {
             0 => Some(Field::new_required_type::<T>(0, "toBeSigned")),
             1 => Some(Field::new_required_type::<AlgorithmIdentifier>(1, "algorithmIdentifier")),
-            2 => Some(Field::new_required_type::<BitString>(2, "encrypted")),
+            2 => Some(Field::new_required_type::<BitVec>(2, "encrypted")),
             _ => None,
         }
     }

@@ -4,7 +4,7 @@ ghost use Rattle.asn1_schema.specs.Words.{IsWellTagged, constructed_agrees, cons
 
 use crate::algorithm_identifier::AlgorithmIdentifier;
 use asn1_schema::{
-    AsnType, BitString, Constraints, ConstructedType, Decode, DecodeByIndex, DecodeError, Decoded,
+    AsnType, BitVec, Constraints, ConstructedType, Decode, DecodeByIndex, DecodeError, Decoded,
     Decoder, Encode, EncodeError, EncodeFields, Encoder, Field, FieldTable, Identifier, Tag,
     Tagging, TypeTable, decode_sequence_naming_errors, required,
 };
@@ -16,14 +16,14 @@ pub struct SubjectPublicKeyInfo {
     /// `algorithm AlgorithmIdentifier`
     pub algorithm: AlgorithmIdentifier,
     /// `subjectPublicKey BIT STRING`
-    pub subject_public_key: BitString,
+    pub subject_public_key: BitVec,
 }
 
 impl DecodeByIndex for SubjectPublicKeyInfo {
-    type Slots = (Option<AlgorithmIdentifier>, Option<BitString>);
+    type Slots = (Option<AlgorithmIdentifier>, Option<BitVec>);
 
     ghost layout = { required_slot (codes "algorithm") (λ v. v.algorithm) (λ s. s.0) (untagged ⟦<AlgorithmIdentifier as AsnType>⟧.meaning) ⟦<AlgorithmIdentifier as PartialEq>⟧.eq ∷
-        required_slot (codes "subjectPublicKey") (λ v. v.subject_public_key) (λ s. s.1) (untagged ⟦<BitString as AsnType>⟧.meaning) ⟦<BitString as PartialEq>⟧.eq ∷ [] };
+        required_slot (codes "subjectPublicKey") (λ v. v.subject_public_key) (λ s. s.1) (untagged ⟦<BitVec as AsnType>⟧.meaning) ⟦<BitVec as PartialEq>⟧.eq ∷ [] };
 
     fn full(_alloc: Global, slots: Self::Slots) -> Result<Self, AllocError> {
         Ok(Self {
@@ -51,7 +51,7 @@ impl FieldTable for SubjectPublicKeyInfo {
     fn field_at(index: usize) -> Option<Field<'static>> {
         match index {
             0 => Some(Field::new_required_type::<AlgorithmIdentifier>(0, "algorithm")),
-            1 => Some(Field::new_required_type::<BitString>(1, "subjectPublicKey")),
+            1 => Some(Field::new_required_type::<BitVec>(1, "subjectPublicKey")),
             _ => None,
         }
     }

@@ -1,7 +1,7 @@
 //! Types that are other types under names of their own.
 
 use crate::general_name::GeneralName;
-use asn1_schema::{Any, BitString, ObjectIdentifier, OctetString};
+use asn1_schema::{Any, NamedBitString, ObjectIdentifier, OctetString};
 
 /// `KeyIdentifier ::= OCTET STRING`
 pub type KeyIdentifier = OctetString;
@@ -10,7 +10,7 @@ pub type KeyIdentifier = OctetString;
 pub type SubjectKeyIdentifier = KeyIdentifier;
 
 /// `KeyUsage ::= BIT STRING { digitalSignature(0), nonRepudiation(1), keyEncipherment(2), dataEncipherment(3), keyAgreement(4), keyCertSign(5), cRLSign(6), encipherOnly(7), decipherOnly(8) }`
-pub type KeyUsage = BitString;
+pub type KeyUsage = NamedBitString;
 
 /// The names in `KeyUsage`.
 pub struct KeyUsageNames;

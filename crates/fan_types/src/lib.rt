@@ -11,11 +11,12 @@
 //!
 //! The contracts promise:
 //!
-//! - FAN_OK of [`check`] comes only of octets that are the DER of a value of the type with at most 64 nested scopes (`der`), and break
-//!   no rule of X.690 that reading asks for, also inside open types (`keeps`). Octets that are the only DER of a valid value of a
-//!   well-tagged type and keep these rules have FAN_OK, with scopes nested at most 64 deep; or FAN_DEEP, only if they or elements are nested
-//!   deeper; or FAN_MEMORY (`found`). Octets with records that the type refuses never have FAN_OK (`admitted`); no contract says that numbers inside
-//!   the value are inside their limits.
+//! - FAN_OK of [`check`] comes only of octets that are the DER of a value of the type, in which each number that is written is within the
+//!   limits of its type, with at most 64 nested scopes (`der`), and that break no rule of X.690 that reading asks for, also inside open
+//!   types (`keeps`). No clause says that a group of additions in the value has a component. Octets that are
+//!   the only DER of a valid value of a well-tagged type and keep these rules have FAN_OK, with scopes nested at most 64 deep; or
+//!   FAN_DEEP, only if they or elements are nested deeper; or FAN_MEMORY (`found`). Octets with records that the type refuses never have
+//!   FAN_OK (`admitted`).
 //! - FAN_FAULT, FAN_ROOM and FAN_DEEP of [`check`] come of octets that `check_der` may refuse so (`refused`, `deep`); FAN_ROOM if the
 //!   reason does not fit (`no_room`). The position is one of the octets or their end (`within`). With another status neither the position
 //!   nor the size is written (`no_position`, `no_size`).

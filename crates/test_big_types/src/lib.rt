@@ -8,6 +8,7 @@
 //! | [`Measurement`] | a CHOICE of 25 alternatives |
 //! | [`Element`] | an ENUMERATED of 46 items |
 //! | [`Dossier`], [`Seal`] | a SEQUENCE with a SET under a tag, which may be absent |
+//! | [`Tray`] | a SET with two groups of additions, and another addition, as `asn1_compile` prints it |
 #![tactic(auto, using(asn1_schema::proofs::Trees::tree_shapes))]
 
 mod address;
@@ -20,6 +21,9 @@ mod member;
 mod reach;
 mod seal;
 mod standing;
+mod tray;
+mod tray_additions;
+mod tray_additions2;
 
 pub use address::{Address, address_is_well_tagged};
 pub use consignment::{Consignment, Strings, consignment_is_well_tagged};
@@ -31,3 +35,6 @@ pub use member::{Member, member_is_well_tagged};
 pub use reach::Reach;
 pub use seal::{Seal, seal_is_well_tagged};
 pub use standing::Standing;
+pub use tray::{Tray, tray_is_well_tagged};
+pub use tray_additions::TrayAdditions;
+pub use tray_additions2::TrayAdditions2;

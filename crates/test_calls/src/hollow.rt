@@ -37,7 +37,12 @@ impl DecodeSetByIndex for Hollow {
         }
     }
 
-    fn decode_field<D: Decoder>(index: usize, slots: &mut Self::Slots, decoder: &mut D) -> Decoded {
+    fn decode_field<D: Decoder>(
+        index: usize,
+        _tag: Tag,
+        slots: &mut Self::Slots,
+        decoder: &mut D,
+    ) -> Decoded {
         match index {
             0 => decode_unique(&mut slots.0, decoder, Tagging::Untagged, "nothing"),
             _ => Ok(()),

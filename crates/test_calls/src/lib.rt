@@ -30,10 +30,12 @@ mod hollow;
 mod lines;
 pub mod made;
 mod marker_tags;
+mod menu;
 mod named_types;
 mod nested;
 mod question;
 mod request;
+pub mod spelling;
 pub mod type_kinds;
 pub mod type_lists;
 

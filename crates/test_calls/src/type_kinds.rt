@@ -1,6 +1,7 @@
 //! Types of each kind, by their names.
 use crate::hollow::Hollow;
 use crate::marker_tags::{ApplicationTag, ContextTag, PrivateTag};
+use crate::menu::Menu;
 use crate::named_types::{TypeCase, TypeNames};
 use asn1_open::Open;
 use asn1_recursive::Nested;
@@ -10,8 +11,9 @@ use asn1_samples::{
 };
 use asn1_types::{Any, Array, Explicit, Implicit, InstanceOf, SetOf, tag};
 use asn1_values::{
-    BitString, BmpString, ConstrainedInteger, GeneralString, GraphicString, Ia5String, Integer,
-    NumericString, ObjectIdentifier, OctetString, PrintableString, TeletexString, VisibleString,
+    BitString, BitVec, BmpString, ConstrainedInteger, GeneralString, GraphicString, Ia5String,
+    Integer, NamedBitString, NumericString, ObjectIdentifier, OctetString, PrintableString,
+    TeletexString, VisibleString,
 };
 use std::borrow::Cow;
 use std::marker::PhantomData;
@@ -60,6 +62,8 @@ impl TypeNames for Items {
             "1..10" => Some(case.try_type::<OneToTen>()),
             "ObjectIdentifier" => Some(case.try_type::<ObjectIdentifier>()),
             "BitString" => Some(case.try_type::<BitString>()),
+            "BitVec" => Some(case.try_type::<BitVec>()),
+            "NamedBitString" => Some(case.try_type::<NamedBitString>()),
             "OctetString" => Some(case.try_type::<OctetString>()),
             "String" => Some(case.try_type::<String>()),
             "VisibleString" => Some(case.try_type::<VisibleString>()),
@@ -208,6 +212,7 @@ impl TypeNames for Samples {
             "Badge" => Some(case.try_type::<Badge>()),
             "Ticket" => Some(case.try_type::<Ticket>()),
             "Hollow" => Some(case.try_type::<Hollow>()),
+            "Menu" => Some(case.try_type::<Menu>()),
             "Shape" => Some(case.try_type::<Shape>()),
             "Corner" => Some(case.try_type::<Corner>()),
             "Color" => Some(case.try_type::<Color>()),

@@ -1,4 +1,5 @@
 //! Types of some lines, by their names.
+use crate::menu::Menu;
 use crate::named_types::{TypeCase, TypeNames};
 use asn1_open::Open;
 use asn1_samples::personnel::PersonnelRecord;
@@ -6,7 +7,10 @@ use asn1_samples::{
     Badge, Color, Corner, Envelope, Labelled, Node, Person, Plate, Profile, Settings, Shape, Ticket,
 };
 use asn1_types::{Any, InstanceOf, SetOf};
-use asn1_values::{BitString, BmpString, Integer, ObjectIdentifier, OctetString, TeletexString};
+use asn1_values::{
+    BitString, BitVec, BmpString, Integer, NamedBitString, ObjectIdentifier, OctetString,
+    TeletexString,
+};
 
 /// The types of lines that read DER and write it.
 #[derive(Clone, Copy, Drop)]
@@ -18,6 +22,7 @@ impl TypeNames for DerTypes {
             "Integer" => Some(case.try_type::<Integer>()),
             "Any" => Some(case.try_type::<Any>()),
             "Envelope" => Some(case.try_type::<Envelope>()),
+            "Menu" => Some(case.try_type::<Menu>()),
             "PersonnelRecord" => Some(case.try_type::<PersonnelRecord>()),
             _ => None,
         }
@@ -60,6 +65,8 @@ impl TypeNames for TypesOfEachAction {
             "u8" => Some(case.try_type::<u8>()),
             "Integer" => Some(case.try_type::<Integer>()),
             "BitString" => Some(case.try_type::<BitString>()),
+            "BitVec" => Some(case.try_type::<BitVec>()),
+            "NamedBitString" => Some(case.try_type::<NamedBitString>()),
             "TeletexString" => Some(case.try_type::<TeletexString>()),
             "Any" => Some(case.try_type::<Any>()),
             "Vec<bool>" => Some(case.try_type::<Vec<bool>>()),

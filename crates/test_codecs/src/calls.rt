@@ -1,6 +1,7 @@
 //! Each call of the encoder and of the decoder.
 use crate::cases::assert_passes;
 use asn1_bench::{ItemBuffer, ItemDecoder, PackedBuffer, PackedDecoder};
+use asn1_ber::{BerBuffer, BerDecoder};
 use asn1_buffers::{BufferEncoder, RecordBuffer, WholeDecoder};
 use asn1_der::{DerBuffer, DerDecoder};
 use asn1_enc::EncodeError;
@@ -101,6 +102,29 @@ impl CallRules for DerCalls {
     }
 }
 
+/// Those of BER, whose decoder reads elements in normal form, as DER is.
+#[derive(Drop)]
+struct BerCalls {
+    alloc: Global,
+}
+
+impl CallRules for BerCalls {
+    type Output = Vec<u8>;
+
+    fn write_calls<C: Calls>(&self, calls: &C, depth: usize) -> Result<Vec<u8>, EncodeError> {
+        write::<BerBuffer, C>(self.alloc, calls, depth)
+    }
+
+    fn read_calls<C: Calls>(
+        &self,
+        calls: &C,
+        output: &Vec<u8>,
+        depth: usize,
+    ) -> Result<(), Failure> {
+        read(BerDecoder::new(self.alloc, output.as_slice(), depth), calls)
+    }
+}
+
 fn assert_calls<R: CallRules>(rt: &impl Abort, alloc: Global, codec: &str, rules: &R) {
     assert_passes(rt, codec, each_call_comes_back(rules, alloc));
 }
@@ -111,4 +135,5 @@ fn calls_come_back(rt: HostRuntime) {
     assert_calls(&rt, alloc, "packed", &PackedCalls { alloc });
     assert_calls(&rt, alloc, "tag form", &TagCalls { alloc });
     assert_calls(&rt, alloc, "DER", &DerCalls { alloc });
+    assert_calls(&rt, alloc, "BER", &BerCalls { alloc });
 }

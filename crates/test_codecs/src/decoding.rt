@@ -1,6 +1,7 @@
 //! Errors of reading, and a decoder after an error.
 use crate::cases::{assert_bytes, assert_that};
 use asn1_bench::{ItemDecoder, PackedDecoder};
+use asn1_ber::BerDecoder;
 use asn1_buffers::WholeDecoder;
 use asn1_dec::{Decode, DecodeError, DecodeSet, Needed};
 use asn1_der::DerDecoder;
@@ -29,6 +30,7 @@ fn a_number_outside_its_limits_has_been_read(rt: HostRuntime) {
     assert_outside(&rt, PackedDecoder::new(rt.alloc(), ELEVEN, 0));
     assert_outside(&rt, ItemDecoder::<NextItem>::new(rt.alloc(), ELEVEN, 0));
     assert_outside(&rt, DerDecoder::new(rt.alloc(), ELEVEN_IN_DER, 0));
+    assert_outside(&rt, BerDecoder::new(rt.alloc(), ELEVEN_IN_DER, 0));
 }
 
 /// Asserts that a decoder without bytes that refuses has failed.
@@ -49,9 +51,11 @@ fn a_decoder_that_answers_an_error_has_failed(rt: HostRuntime) {
     assert_refuses(&rt, PackedDecoder::new(rt.alloc(), &[], 0));
     assert_refuses(&rt, ItemDecoder::<NextItem>::new(rt.alloc(), &[], 0));
     assert_refuses(&rt, DerDecoder::new(rt.alloc(), &[], 0));
+    assert_refuses(&rt, BerDecoder::new(rt.alloc(), &[], 0));
     assert_too_deep(&rt, PackedDecoder::new(rt.alloc(), &[], 0));
     assert_too_deep(&rt, ItemDecoder::<NextItem>::new(rt.alloc(), &[], 0));
     assert_too_deep(&rt, DerDecoder::new(rt.alloc(), &[], 0));
+    assert_too_deep(&rt, BerDecoder::new(rt.alloc(), &[], 0));
 }
 
 /// Asserts that this many bytes are missing, of which no memory is asked for.
@@ -83,9 +87,15 @@ fn a_length_reserves_nothing(rt: HostRuntime) {
     assert_missing::<OctetString, _>(&rt, PackedDecoder::new(alloc, LONG, 0), 4_294_967_294);
     assert_missing::<Vec<Person>, _>(&rt, PackedDecoder::new(alloc, LONG_LIST, 2), 4_294_967_294);
     assert_missing::<OctetString, _>(&rt, DerDecoder::new(alloc, LONG_IN_DER, 0), 2_147_483_646);
+    assert_missing::<OctetString, _>(&rt, BerDecoder::new(alloc, LONG_IN_DER, 0), 2_147_483_646);
     assert_missing::<Vec<Person>, _>(
         &rt,
         DerDecoder::new(alloc, LONG_LIST_IN_DER, 2),
+        2_147_483_646,
+    );
+    assert_missing::<Vec<Person>, _>(
+        &rt,
+        BerDecoder::new(alloc, LONG_LIST_IN_DER, 2),
         2_147_483_646,
     );
 }
@@ -124,4 +134,5 @@ fn the_note_of_a_default_is_read(rt: HostRuntime) {
     let without_marks = [2, 0, 0, 0, 0, 16, 0, 0, 0, 0];
     assert_note_of_default(&rt, alloc, Codec::TagForm, &without_marks);
     assert_note_of_default(&rt, alloc, Codec::Der, &[0x30, 0]);
+    assert_note_of_default(&rt, alloc, Codec::Ber, &[0x30, 0]);
 }

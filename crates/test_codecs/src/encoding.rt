@@ -1,6 +1,7 @@
 //! Errors of writing, and an encoder after an error.
 use crate::cases::{assert_bytes, assert_that, person};
 use asn1_bench::{ItemBuffer, PackedBuffer};
+use asn1_ber::BerBuffer;
 use asn1_bounds::Constraints;
 use asn1_buffers::{BufferEncoder, RecordBuffer, write_whole};
 use asn1_der::DerBuffer;
@@ -111,6 +112,7 @@ fn an_encoder_that_answers_an_error_has_failed(rt: HostRuntime) {
     fail_each::<PackedBuffer>(&rt, rt.alloc());
     fail_each::<ItemBuffer<NextItem>>(&rt, rt.alloc());
     fail_each::<DerBuffer>(&rt, rt.alloc());
+    fail_each::<BerBuffer>(&rt, rt.alloc());
 }
 
 /// The calls of groups, which a buffer of items keeps apart from scopes. A group has no bytes in DER, so no call fails there.
@@ -181,6 +183,7 @@ fn memory_runs_out(rt: HostRuntime) {
     assert_one_writes_all::<PackedBuffer>(&rt, rt.alloc(), ALL);
     assert_one_writes_all::<ItemBuffer<NextItem>>(&rt, rt.alloc(), ALL_WITHOUT_MARKS);
     assert_one_writes_all::<DerBuffer>(&rt, rt.alloc(), ALL_IN_DER);
+    assert_one_writes_all::<BerBuffer>(&rt, rt.alloc(), ALL_IN_DER);
 }
 
 /// The level 7 and the color red, with a contact of which nothing is there. No bytes are read as this value, but as one without a
@@ -215,4 +218,5 @@ fn a_group_of_nothing_is_written_as_absent(rt: HostRuntime) {
     ];
     assert_profile::<ItemBuffer<NextItem>>(&rt, rt.alloc(), &without_marks);
     assert_profile::<DerBuffer>(&rt, rt.alloc(), &[0x30, 3, 0x81, 1, 7]);
+    assert_profile::<BerBuffer>(&rt, rt.alloc(), &[0x30, 3, 0x81, 1, 7]);
 }

@@ -1,5 +1,5 @@
-//! Tests of the codecs over bytes by single calls, each written once and run for the packed codec, the tag form and DER. Values
-//! and their bytes are lines of `test_vectors`; damaged bytes and refused growths are lines of `try_codecs`.
+//! Tests of the codecs over bytes by single calls, each written once and most run for the packed codec, the tag form, DER and BER.
+//! Values and their bytes are lines of `test_vectors`; damaged bytes and refused growths are lines of `try_codecs`.
 //!
 //! | Module | What it tries |
 //! |---|---|

@@ -3,6 +3,7 @@
 //! `rt try --test --fail-alloc N` refuses the Nth growth of each test. All is done twice, so that one of the two has its memory.
 use crate::cases::{assert_bytes, assert_that};
 use asn1_bench::{ItemBuffer, ItemDecoder, PackedBuffer, PackedDecoder};
+use asn1_ber::{BerBuffer, BerDecoder};
 use asn1_buffers::{BufferEncoder, RecordBuffer, WholeDecoder};
 use asn1_dec::{Decode, DecodeError, Decoder};
 use asn1_der::{DerBuffer, DerDecoder};
@@ -40,12 +41,18 @@ fn reads_box_in_der(rt: &impl Abort, alloc: Global) -> bool {
     reads_box(rt, DerDecoder::new(alloc, &[2, 1, 7], 0))
 }
 
+fn reads_box_in_ber(rt: &impl Abort, alloc: Global) -> bool {
+    reads_box(rt, BerDecoder::new(alloc, &[2, 1, 7], 0))
+}
+
 #[test]
 fn memory_for_a_box_runs_out(rt: HostRuntime) {
     let first = reads_packed_box(&rt, rt.alloc());
     assert_that(&rt, first || reads_packed_box(&rt, rt.alloc()));
     let first = reads_box_in_der(&rt, rt.alloc());
     assert_that(&rt, first || reads_box_in_der(&rt, rt.alloc()));
+    let first = reads_box_in_ber(&rt, rt.alloc());
+    assert_that(&rt, first || reads_box_in_ber(&rt, rt.alloc()));
 }
 
 /// Whether a plate is read. If there is no memory for the constraints of the type, the decoder is as it was, and else it has
@@ -73,6 +80,10 @@ fn reads_plate_in_der(rt: &impl Abort, alloc: Global) -> bool {
     reads_plate(rt, &mut DerDecoder::new(alloc, PLATE_IN_DER, 0))
 }
 
+fn reads_plate_in_ber(rt: &impl Abort, alloc: Global) -> bool {
+    reads_plate(rt, &mut BerDecoder::new(alloc, PLATE_IN_DER, 0))
+}
+
 #[test]
 fn memory_to_read_an_alphabet_runs_out(rt: HostRuntime) {
     let first = reads_packed_plate(&rt, rt.alloc());
@@ -81,6 +92,8 @@ fn memory_to_read_an_alphabet_runs_out(rt: HostRuntime) {
     assert_that(&rt, first || reads_plate_without_marks(&rt, rt.alloc()));
     let first = reads_plate_in_der(&rt, rt.alloc());
     assert_that(&rt, first || reads_plate_in_der(&rt, rt.alloc()));
+    let first = reads_plate_in_ber(&rt, rt.alloc());
+    assert_that(&rt, first || reads_plate_in_ber(&rt, rt.alloc()));
 }
 
 /// Asserts that memory ran out, and that the next call of the encoder answers that it has failed.
@@ -114,4 +127,5 @@ fn memory_to_write_an_alphabet_runs_out(rt: HostRuntime) {
     assert_one_writes_plate::<PackedBuffer>(&rt, rt.alloc(), PLATE);
     assert_one_writes_plate::<ItemBuffer<NextItem>>(&rt, rt.alloc(), PLATE);
     assert_one_writes_plate::<DerBuffer>(&rt, rt.alloc(), PLATE_IN_DER);
+    assert_one_writes_plate::<BerBuffer>(&rt, rt.alloc(), PLATE_IN_DER);
 }

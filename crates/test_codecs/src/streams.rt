@@ -1,6 +1,7 @@
 //! Values one after another, out of bytes that come byte by byte, or in two pieces.
 use crate::cases::{PERSON, PERSON_IN_DER, assert_bytes, person};
 use asn1_bench::{BenchReader, BenchRules};
+use asn1_ber::{BerReader, BerRules};
 use asn1_dec::{Decode, DecodeError, Needed};
 use asn1_der::{DerReader, DerRules};
 use asn1_rules::{
@@ -74,9 +75,11 @@ fn a_value_comes_with_its_last_byte(rt: HostRuntime) {
     let alloc = rt.alloc();
     assert_comes_twice(&rt, alloc, BenchReader::new(alloc, 0), TRUE, &true);
     assert_comes_twice(&rt, alloc, DerReader::new(alloc, 0), TRUE_IN_DER, &true);
+    assert_comes_twice(&rt, alloc, BerReader::new(alloc, 0), TRUE_IN_DER, &true);
     let ann = person(&rt, alloc, 30, "Ann");
     assert_comes_twice(&rt, alloc, BenchReader::new(alloc, 1), PERSON, &ann);
     assert_comes_twice(&rt, alloc, DerReader::new(alloc, 1), PERSON_IN_DER, &ann);
+    assert_comes_twice(&rt, alloc, BerReader::new(alloc, 1), PERSON_IN_DER, &ann);
 }
 
 /// Asserts that one byte more is wanted of a truth value, and that these are unread.
@@ -153,11 +156,19 @@ fn assert_read_of_der_wherever_cut(rt: &impl Abort, alloc: Global, persons: &[Pe
     }
 }
 
+fn assert_read_of_ber_wherever_cut(rt: &impl Abort, alloc: Global, persons: &[Person]) {
+    let bytes = write_list(alloc, &BerRules::new(alloc), persons, 1).expect(rt, "memory");
+    for cut in 0..=bytes.len() {
+        assert_read(rt, alloc, BerReader::new(alloc, 1), persons, (&bytes, cut));
+    }
+}
+
 #[test]
 fn persons_come_back_wherever_their_bytes_are_cut(rt: HostRuntime) {
     let persons = three_persons(&rt, rt.alloc());
     assert_read_wherever_cut(&rt, rt.alloc(), &persons);
     assert_read_of_der_wherever_cut(&rt, rt.alloc(), &persons);
+    assert_read_of_ber_wherever_cut(&rt, rt.alloc(), &persons);
 }
 
 #[test]
@@ -171,6 +182,13 @@ fn persons_make_the_round_trip_in_pieces(rt: HostRuntime) {
         alloc,
         &DerRules::new(alloc),
         DerReader::new(alloc, 1),
+        &persons,
+    );
+    assert_round_trip(
+        &rt,
+        alloc,
+        &BerRules::new(alloc),
+        BerReader::new(alloc, 1),
         &persons,
     );
 }
@@ -206,4 +224,12 @@ fn a_list_is_written_value_after_value(rt: HostRuntime) {
         &[1, 1, 0xff, 1, 1, 0],
     );
     assert_list(&rt, alloc, &DerRules::new(alloc), &[], &[]);
+    assert_list(
+        &rt,
+        alloc,
+        &BerRules::new(alloc),
+        &[true, false],
+        &[1, 1, 0xff, 1, 1, 0],
+    );
+    assert_list(&rt, alloc, &BerRules::new(alloc), &[], &[]);
 }

@@ -57,6 +57,13 @@ stop_tree = choice (more (leaf (context 1)) none)
 abbrev route_tree : Tree
 route_tree = choice (more (leaf (context 0)) (more stop_tree none))
 
+-- the table of the inner group
+abbrev stop_table : Table Row
+stop_table = record {
+  root = at_will (codes "over") (leaf (context 1)) ∷ [];
+  additions = None;
+}
+
 -- the table of the outer group
 abbrev route_table : Table Row
 route_table = record {
@@ -77,12 +84,12 @@ journey_table = record {
 abbrev pub journey : Journey
 journey = record { id = 7; route = Some (record { from = Some true; stop = None }) }
 
--- its records, beside the tables of the journey and of its outer group
+-- its records, beside the tables of the journey and of its groups
 abbrev pub journey_records : List Record
 journey_records = holding (sequence_head (universal 16) journey_table (Some (codes "Journey"))) (
     scalar (universal 2) (values_of (Range (Some (pos 0)) (Some (pos 255)))) (Some (codes "INTEGER")) (number (pos 7)) ∷
     presence_mark (group_start route_table) ∷
     presence_mark (present in_root (context 0)) ∷
     scalar (context 0) unconstrained (Some (codes "BOOLEAN")) (boolean true) ∷
-    presence_mark group_absent ∷
+    presence_mark (group_absent stop_table) ∷
     presence_mark group_end ∷ []) ∷ []

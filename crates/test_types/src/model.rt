@@ -14,7 +14,7 @@ ghost use Rattle.test_types.specs.RecordExamples.{choice_of_null, chosen_null, s
 /// A group whose components are marks alone is absent.
 fn empty_group()
     ensures { group_records no_table (Some (option_records in_root (context 3) None ++
-        option_records in_root (context 4) None)) ≡ presence_mark group_absent ∷ [] }
+        option_records in_root (context 4) None)) ≡ presence_mark (group_absent no_table) ∷ [] }
 {}
 
 /// A component that is its DEFAULT is the mark that it is absent; another is the mark that it is present, and its records.
@@ -61,7 +61,7 @@ fn heights()
 /// First tags: marks are passed over, and a value that is given as its bytes may begin with every tag.
 fn firsts()
     ensures nothing { first_tags (presence_mark (absent in_root (context 0)) ∷
-        presence_mark group_absent ∷ []) ≡
+        presence_mark (group_absent no_table) ∷ []) ≡
         among [] }
     ensures one { first_tags (presence_mark (group_start no_table) ∷
         presence_mark (present in_root (context 3)) ∷
@@ -69,10 +69,10 @@ fn firsts()
     ensures any { first_tags (presence_mark (present in_root CHOICE) ∷ open_type None [] ∷ []) ≡
         every }
     ensures scope { first_tags (presence_mark (absent in_root (context 0)) ∷
-        sequence_with (presence_mark group_absent ∷ []) ∷ []) ≡ only (universal 16) }
+        sequence_with (presence_mark (group_absent no_table) ∷ []) ∷ []) ≡ only (universal 16) }
     ensures under_a_tag { first_tags (presence_mark (present in_root (context 0)) ∷
         explicit_tag_records (context 0) None (sequence_records (universal 16) no_table None
-        (presence_mark group_absent ∷ []))) ≡ only (context 0) }
+        (presence_mark (group_absent no_table) ∷ []))) ≡ only (context 0) }
     ensures chosen { first_tags (holding (alternative (context 2) unconstrained no_table None) [] ∷
         []) ≡ only (context 2) }
 {}
@@ -82,7 +82,7 @@ fn firsts()
 fn well_formed_records()
     ensures contents { (accepts : List ℕ → Bool) →
         AreWellFormed accepts (scalar (context 0) unconstrained None null ∷
-        presence_mark group_absent ∷ []) }
+        presence_mark (group_absent no_table) ∷ []) }
     ensures taken { AreWellFormed (λ bytes. true) (open_type None (0 ∷ []) ∷ []) }
     ensures not_taken { ¬ AreWellFormed (λ bytes. false)
         (explicit_tag_records (context 0) None (open_type None (0 ∷ []) ∷ [])) }

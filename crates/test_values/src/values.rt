@@ -1,4 +1,5 @@
 //! Whole numbers, strings, and errors.
+mod bits;
 mod character_strings;
 mod errors;
 mod integers;

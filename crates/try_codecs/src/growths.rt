@@ -1,7 +1,8 @@
 //! A value that is written and read, alone, in a list and out of pieces, where a growth may be refused.
 use crate::report::Report;
-use crate::trial::{NOT_ASKED, Trial};
+use crate::trial::Trial;
 use asn1_bench::{BenchReader, BenchRules};
+use asn1_ber::{BerReader, BerRules};
 use asn1_dec::Decode;
 use asn1_der::{DerReader, DerRules};
 use asn1_enc::Encode;
@@ -74,7 +75,7 @@ fn list_of<T: Encode>(trial: &Trial<'_>, values: &[T]) -> Result<Vec<u8>, Failur
         Codec::Packed => write_list(alloc, &BenchRules::new(alloc), values, depth),
         Codec::TagForm => write_list(alloc, &TagRules::new(alloc), values, depth),
         Codec::Der => write_list(alloc, &DerRules::new(alloc), values, depth),
-        Codec::Ber => return Err(Failure::of_reading(NOT_ASKED)),
+        Codec::Ber => write_list(alloc, &BerRules::new(alloc), values, depth),
     };
     match written {
         Ok(bytes) => Ok(bytes),
@@ -121,7 +122,13 @@ fn come_out_of_pieces<T: Decode>(
             bytes,
             position,
         ),
-        Codec::Ber => Err(Failure::of_reading(NOT_ASKED)),
+        Codec::Ber => are_read(
+            trial,
+            BerReader::new(trial.alloc, trial.depth),
+            values,
+            bytes,
+            position,
+        ),
     }
 }
 

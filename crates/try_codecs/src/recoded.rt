@@ -1,7 +1,8 @@
 //! A value that goes from a codec to the tag form and back.
 use crate::report::Report;
-use crate::trial::{NOT_ASKED, Trial};
+use crate::trial::Trial;
 use asn1_bench::BenchRules;
+use asn1_ber::BerRules;
 use asn1_dec::Decode;
 use asn1_der::DerRules;
 use asn1_enc::Encode;
@@ -19,7 +20,7 @@ pub(crate) fn try_recoding<T: Encode + Decode>(
         Codec::Packed => go_and_return::<T, _>(trial, &BenchRules::new(trial.alloc), &there)?,
         Codec::TagForm => go_and_return::<T, _>(trial, &TagRules::new(trial.alloc), &there)?,
         Codec::Der => go_and_return::<T, _>(trial, &DerRules::new(trial.alloc), &there)?,
-        Codec::Ber => return Err(Failure::of_reading(NOT_ASKED)),
+        Codec::Ber => go_and_return::<T, _>(trial, &BerRules::new(trial.alloc), &there)?,
     }
     Ok(Report::ComesBack)
 }

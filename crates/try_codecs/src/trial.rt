@@ -11,9 +11,6 @@ use test_calls::type_kinds::{Samples, Sequences};
 use test_calls::type_lists::TriedTypes;
 use test_calls::{Codec, Failure, Request, TypeCase, TypeNames, is_same};
 
-/// The answer to what is not asked of a codec.
-pub(crate) const NOT_ASKED: DecodeError = DecodeError::Custom("not asked of this codec");
-
 /// What is tried.
 #[derive(Clone, Copy, Drop)]
 enum Action {

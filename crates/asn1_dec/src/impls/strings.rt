@@ -4,9 +4,10 @@ use crate::decoder::Decoder;
 use asn1_bounds::Constraints;
 use asn1_laws::DecodeError;
 use asn1_tags::Tag;
+use asn1_values::kind::{NamedBits, PackedBits};
 use asn1_values::{
-    BitString, BmpString, GeneralString, GraphicString, Ia5String, NumericString, ObjectIdentifier,
-    OctetString, PrintableString, TeletexString, VisibleString,
+    BitString, BitVec, BmpString, GeneralString, GraphicString, Ia5String, NamedBitString,
+    NumericString, ObjectIdentifier, OctetString, PrintableString, TeletexString, VisibleString,
 };
 
 impl Decode for ObjectIdentifier {
@@ -40,6 +41,28 @@ impl Decode for BitString {
         constraints: &Constraints<'_>,
     ) -> Result<BitString, DecodeError> {
         decoder.decode_bit_string(tag, constraints)
+    }
+}
+
+impl Decode for BitVec {
+    #[inline(always)]
+    fn decode_with_tag_and_constraints<D: Decoder>(
+        decoder: &mut D,
+        tag: Tag,
+        constraints: &Constraints<'_>,
+    ) -> Result<BitVec, DecodeError> {
+        decoder.decode_string::<bool, PackedBits>(tag, constraints)
+    }
+}
+
+impl Decode for NamedBitString {
+    #[inline(always)]
+    fn decode_with_tag_and_constraints<D: Decoder>(
+        decoder: &mut D,
+        tag: Tag,
+        constraints: &Constraints<'_>,
+    ) -> Result<NamedBitString, DecodeError> {
+        decoder.decode_string::<bool, NamedBits>(tag, constraints)
     }
 }
 

@@ -4,9 +4,10 @@ use crate::encoder::Encoder;
 use asn1_bounds::Constraints;
 use asn1_laws::EncodeError;
 use asn1_tags::{Identifier, Tag};
+use asn1_values::kind::{NamedBits, PackedBits};
 use asn1_values::{
-    BitString, BmpString, GeneralString, GraphicString, Ia5String, NumericString, ObjectIdentifier,
-    OctetString, PrintableString, TeletexString, VisibleString,
+    BitString, BitVec, BmpString, GeneralString, GraphicString, Ia5String, NamedBitString,
+    NumericString, ObjectIdentifier, OctetString, PrintableString, TeletexString, VisibleString,
 };
 
 impl Encode for ObjectIdentifier {
@@ -39,6 +40,42 @@ impl Encode for BitString {
             tag,
             constraints,
             self.as_slice(),
+            name.or(Identifier::BIT_STRING),
+        )
+    }
+}
+
+impl Encode for BitVec {
+    #[inline(always)]
+    fn encode_with_tag_and_constraints<E: Encoder>(
+        &self,
+        encoder: &mut E,
+        tag: Tag,
+        constraints: &Constraints<'_>,
+        name: Identifier,
+    ) -> Result<(), EncodeError> {
+        encoder.encode_packed_bits::<PackedBits>(
+            tag,
+            constraints,
+            self,
+            name.or(Identifier::BIT_STRING),
+        )
+    }
+}
+
+impl Encode for NamedBitString {
+    #[inline(always)]
+    fn encode_with_tag_and_constraints<E: Encoder>(
+        &self,
+        encoder: &mut E,
+        tag: Tag,
+        constraints: &Constraints<'_>,
+        name: Identifier,
+    ) -> Result<(), EncodeError> {
+        encoder.encode_packed_bits::<NamedBits>(
+            tag,
+            constraints,
+            self.as_bits(),
             name.or(Identifier::BIT_STRING),
         )
     }

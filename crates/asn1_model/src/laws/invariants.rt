@@ -1,21 +1,25 @@
 //! Laws on the invariants of types. The theorem for bytes from elsewhere asks these invariants of the values that the bytes
 //! encode.
-ghost use Rattle.std.specs.Prelude.{◌≡◌, ◌↔◌, ℤ, Bool, List, All, IfSome, IsTrue, Option, length};
+ghost use Rattle.std.specs.Prelude.{◌≡◌, ◌↔◌, ℤ, Bool, List, All, IfSome, IsTrue, Option, Some, length};
 ghost use Rattle.std.specs.Cow.{cow_value};
 ghost use Rattle.std.specs.Str.{IsUtf8};
 ghost use Rattle.std.specs.String.{string_bytes};
+ghost use Rattle.asn1_values.specs.Bits.{EndsInOne};
+ghost use Rattle.asn1_ranges.specs.Members.{IsMember};
+ghost use Rattle.asn1_ranges.specs.declared.bounded.Bounded.TheVariants.{Range};
 
 use crate::asn_type::AsnType;
 use crate::strings::StringType;
 use crate::tag::Marker;
 use asn1_values::{
-    Alphabet, AlphabetString, Integer, LimitedInteger, Limits, StringUnit, UnitString,
+    Alphabet, AlphabetString, BitVec, Integer, LimitedInteger, Limits, NamedBitString, StringUnit,
+    UnitString,
 };
 use std::borrow::Cow;
 use std::marker::PhantomData;
 
-/// A law of the types that hold no others: a string has the units of its kind, a UTF8String the bytes of a text, and each value of
-/// another type meets its invariant. The built-in integers have a law of their own.
+/// A law of the types that hold no others: a string has the units of its kind, a UTF8String the bytes of a text, named bits end in
+/// 1, a number with limits is within them, and each value of another type meets its invariant. The built-in integers have a law of their own.
 pub fn plain_types_state_their_invariants<
     'a,
     L: Limits,
@@ -28,13 +32,17 @@ pub fn plain_types_state_their_invariants<
     ensures null { (v : _) → ⟦<() as AsnType>⟧.meaning.IsOfType v }
     ensures boolean { (b : Bool) → ⟦<bool as AsnType>⟧.meaning.IsOfType b }
     ensures integer { (n : ℤ) → ⟦<Integer as AsnType>⟧.meaning.IsOfType n }
-    ensures limited { (n : ℤ) → ⟦<LimitedInteger<L> as AsnType>⟧.meaning.IsOfType n }
+    ensures limited { (n : ℤ) → ⟦<LimitedInteger<L> as AsnType>⟧.meaning.IsOfType n ↔
+        IsMember (λ z. z) (Range (Some L.start) (Some L.end)) n }
     ensures marker { (v : _) → ⟦<Marker<NUMBER> as AsnType>⟧.meaning.IsOfType v }
     ensures phantom { (v : _) → ⟦<PhantomData<T> as AsnType>⟧.meaning.IsOfType v }
     ensures units { (s : List U) → ⟦<UnitString<U, K> as AsnType>⟧.meaning.IsOfType s ↔
         All U.IsInRange s }
     ensures alphabet { (s : List U) → ⟦<AlphabetString<U, A> as AsnType>⟧.meaning.IsOfType s ↔
         All (λ unit. IsTrue (A.allows unit)) s }
+    ensures packed_bits { (s : List Bool) → ⟦<BitVec as AsnType>⟧.meaning.IsOfType s }
+    ensures named_bits { (s : List Bool) → ⟦<NamedBitString as AsnType>⟧.meaning.IsOfType s ↔
+        EndsInOne s }
     ensures string { ⟦<String as AsnType>⟧.meaning.IsOfType _string.now ↔
         IsUtf8 (string_bytes _string.now) }
     ensures text { ⟦<&'a str as AsnType>⟧.meaning.IsOfType _text.entry ↔ IsUtf8 _text.entry.now }

@@ -1,26 +1,24 @@
 //! When the premises of a round trip hold of each type of the lower layers and of the language: which values are valid, and
 //! under which tags the type is well tagged. Without these a type could be of no use, and no other contract would tell.
-ghost use Rattle.std.specs.Prelude.{◌↔◌, ℕ, ℤ, Bool, List, All, IfSome, None, Option, Some};
+ghost use Rattle.std.specs.Prelude.{◌↔◌, ℕ, Bool, List, All, IfSome, Option};
 ghost use Rattle.std.specs.Cow.{cow_value};
 ghost use Rattle.asn1_tags.specs.declared.tags.Tag.{Tag};
-ghost use Rattle.asn1_ranges.specs.Members.{IsMember};
-ghost use Rattle.asn1_ranges.specs.declared.bounded.Bounded.TheVariants.{Range};
 ghost use Rattle.asn1_model.specs.Meaning.{IsWellTagged, IsWellTaggedUnder};
-ghost use Rattle.asn1_model.specs.Premises.{EachIsValid, HasOneTag, IsPlain, IsTaggedAs};
+ghost use Rattle.asn1_model.specs.Premises.{EachIsValid, IsPlain, IsTaggedAs};
 ghost use Rattle.asn1_model.specs.Tags.{IsATag};
 
 use crate::asn_type::AsnType;
 use crate::strings::StringType;
 use crate::tag::Marker;
 use asn1_values::{
-    Alphabet, AlphabetString, Integer, LimitedInteger, Limits, ObjectIdentifier, StringUnit,
-    UnitString,
+    Alphabet, AlphabetString, BitVec, Integer, LimitedInteger, Limits, NamedBitString,
+    ObjectIdentifier, StringUnit, UnitString,
 };
 use std::borrow::Cow;
 use std::marker::PhantomData;
 
 /// A law of the types that hold no others: each value is valid, and the type is well tagged under each tag but the CHOICE marker
-/// tag. A number with limits is valid if it is within them, and a type without any content has no tag.
+/// tag. A type without any content has no tag.
 pub fn types_that_hold_no_others_are_plain<
     'a,
     L: Limits,
@@ -48,13 +46,12 @@ pub fn types_that_hold_no_others_are_plain<
     ensures string { IsPlain ⟦<String as AsnType>⟧.meaning }
     ensures text { IsPlain ⟦<&'a str as AsnType>⟧.meaning }
     ensures units { IsPlain ⟦<UnitString<U, K> as AsnType>⟧.meaning }
+    ensures packed_bits { IsPlain ⟦<BitVec as AsnType>⟧.meaning }
+    ensures named_bits { IsPlain ⟦<NamedBitString as AsnType>⟧.meaning }
     ensures alphabet { IsPlain ⟦<AlphabetString<U, A> as AsnType>⟧.meaning }
     ensures identifier { IsPlain ⟦<ObjectIdentifier as AsnType>⟧.meaning }
     ensures marker { IsPlain ⟦<Marker<NUMBER> as AsnType>⟧.meaning }
-    ensures limited { (accepts : List ℕ → Bool) (n : ℤ) →
-        ⟦<LimitedInteger<L> as AsnType>⟧.meaning.IsValid accepts n ↔
-        IsMember (λ z. z) (Range (Some L.start) (Some L.end)) n }
-    ensures limited_tag { HasOneTag ⟦<LimitedInteger<L> as AsnType>⟧.meaning }
+    ensures limited { IsPlain ⟦<LimitedInteger<L> as AsnType>⟧.meaning }
     ensures phantom { EachIsValid ⟦<PhantomData<T> as AsnType>⟧.meaning }
 {}
 

@@ -8,14 +8,14 @@ ghost use Rattle.asn1_tags.specs.declared.tags.Tag.{Tag};
 ghost use Rattle.asn1_model.specs.Composites.{elements_records, option_records, text_records};
 ghost use Rattle.asn1_model.specs.ConstraintSets.{ConstraintSet, unconstrained, values_of, size_of};
 ghost use Rattle.asn1_model.specs.Meaning.{HasOwn, own_records};
-ghost use Rattle.asn1_model.specs.Records.{Name, arcs, in_root, name_or, null, number, scalar, boolean};
+ghost use Rattle.asn1_model.specs.Records.{Name, arcs, bits, in_root, name_or, null, number, scalar, boolean};
 ghost use Rattle.asn1_model.specs.Tags.{universal};
 
 use crate::asn_type::AsnType;
 use crate::strings::StringType;
 use asn1_values::{
-    Alphabet, AlphabetString, Integer, LimitedInteger, Limits, ObjectIdentifier, StringUnit,
-    UnitString,
+    Alphabet, AlphabetString, BitVec, Integer, LimitedInteger, Limits, NamedBitString,
+    ObjectIdentifier, StringUnit, UnitString,
 };
 use std::borrow::Cow;
 use std::marker::PhantomData;
@@ -116,6 +116,16 @@ pub fn strings_have_their_records<
     ensures of_alphabet { (s : List U) (t : Tag) (c : ConstraintSet) (name : Name) →
         ⟦<AlphabetString<U, A> as AsnType>⟧.meaning.records s t c name ≡
         scalar t c (name_or name (Some A.own_name)) (A.content s) ∷ [] }
+    ensures packed_bits_own { HasOwn ⟦<BitVec as AsnType>⟧.meaning (universal 3) unconstrained
+        (Some (codes "BIT_STRING")) }
+    ensures packed_bits { (s : List Bool) (t : Tag) (c : ConstraintSet) (name : Name) →
+        ⟦<BitVec as AsnType>⟧.meaning.records s t c name ≡
+        scalar t c (name_or name (Some (codes "BIT_STRING"))) (bits s) ∷ [] }
+    ensures named_bits_own { HasOwn ⟦<NamedBitString as AsnType>⟧.meaning (universal 3)
+        unconstrained (Some (codes "BIT_STRING")) }
+    ensures named_bits { (s : List Bool) (t : Tag) (c : ConstraintSet) (name : Name) →
+        ⟦<NamedBitString as AsnType>⟧.meaning.records s t c name ≡
+        scalar t c (name_or name (Some (codes "BIT_STRING"))) (bits s) ∷ [] }
     ensures identifier_own { HasOwn ⟦<ObjectIdentifier as AsnType>⟧.meaning (universal 6)
         unconstrained (Some (codes "OBJECT_IDENTIFIER")) }
     ensures identifier { (s : List ℕ) (t : Tag) (c : ConstraintSet) (name : Name) →

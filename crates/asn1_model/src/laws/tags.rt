@@ -8,8 +8,8 @@ use crate::asn_type::AsnType;
 use crate::strings::StringType;
 use crate::tag::Marker;
 use asn1_values::{
-    Alphabet, AlphabetString, Integer, LimitedInteger, Limits, ObjectIdentifier, StringUnit,
-    UnitString,
+    Alphabet, AlphabetString, BitVec, Integer, LimitedInteger, Limits, NamedBitString,
+    ObjectIdentifier, StringUnit, UnitString,
 };
 use std::borrow::Cow;
 use std::marker::PhantomData;
@@ -44,6 +44,8 @@ pub fn types_that_hold_no_others_begin_with_their_tags<
     ensures string { HasTagOfItsOwn ⟦<String as AsnType>⟧.meaning }
     ensures text { HasTagOfItsOwn ⟦<&'a str as AsnType>⟧.meaning }
     ensures units { HasTagOfItsOwn ⟦<UnitString<U, K> as AsnType>⟧.meaning }
+    ensures packed_bits { HasTagOfItsOwn ⟦<BitVec as AsnType>⟧.meaning }
+    ensures named_bits { HasTagOfItsOwn ⟦<NamedBitString as AsnType>⟧.meaning }
     ensures alphabet { HasTagOfItsOwn ⟦<AlphabetString<U, A> as AsnType>⟧.meaning }
     ensures identifier { HasTagOfItsOwn ⟦<ObjectIdentifier as AsnType>⟧.meaning }
     ensures marker { HasTagOfItsOwn ⟦<Marker<NUMBER> as AsnType>⟧.meaning }

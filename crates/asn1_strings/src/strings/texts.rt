@@ -1,8 +1,12 @@
 //! How strings are written. By `{:?}`, bits are `'101'B`, octets and characters a text in quotes, octets that are no text `'0A'H`,
 //! and an object identifier is `1.2.840`. By `{}`, characters are a text without quotes, and all others as by `{:?}`.
 use crate::kind::{Arcs, Bits, Bmp, General, Graphic, Octets, Teletex};
-use crate::shown::{shown_text, write_bits, write_characters, write_hexadecimal, write_octets};
+use crate::shown::{
+    shown_text, write_bits, write_characters, write_hexadecimal, write_octets, write_packed_bits,
+};
 use crate::strings::alphabet_string::{Alphabet, AlphabetString};
+use crate::strings::bit_vec::BitVec;
+use crate::strings::named_bits::NamedBitString;
 use crate::strings::string_unit::StringUnit;
 use crate::strings::unit_string::UnitString;
 use std::fmt;
@@ -23,6 +27,32 @@ impl fmt::Debug for UnitString<bool, Bits> {
 impl fmt::Display for UnitString<bool, Bits> {
     fn fmt<W: fmt::Write>(&self, f: &mut fmt::Formatter<W>) -> fmt::Result {
         write_bits(self.as_slice(), f)
+    }
+}
+
+impl fmt::Debug for BitVec {
+    fn fmt<W: fmt::Write>(&self, f: &mut fmt::Formatter<W>) -> fmt::Result {
+        write_packed_bits(self, f)
+    }
+}
+
+/// As `Debug` shows it.
+impl fmt::Display for BitVec {
+    fn fmt<W: fmt::Write>(&self, f: &mut fmt::Formatter<W>) -> fmt::Result {
+        write_packed_bits(self, f)
+    }
+}
+
+impl fmt::Debug for NamedBitString {
+    fn fmt<W: fmt::Write>(&self, f: &mut fmt::Formatter<W>) -> fmt::Result {
+        write_packed_bits(self.as_bits(), f)
+    }
+}
+
+/// As `Debug` shows it.
+impl fmt::Display for NamedBitString {
+    fn fmt<W: fmt::Write>(&self, f: &mut fmt::Formatter<W>) -> fmt::Result {
+        write_packed_bits(self.as_bits(), f)
     }
 }
 

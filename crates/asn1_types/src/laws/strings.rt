@@ -10,11 +10,12 @@ use crate::any_string::{AnyStr, OctetKind, StringKind};
 use crate::codec_string::{CodecString, Utf8};
 use asn1_model::{AsnType, StringType};
 use asn1_values::kind::{
-    Bits, Bmp, General, Graphic, Ia5, Numeric, Octets, Printable, Teletex, Visible,
+    Bits, Bmp, General, Graphic, Ia5, NamedBits, Numeric, Octets, PackedBits, Printable, Teletex,
+    Visible,
 };
 use asn1_values::{
-    BitString, BmpString, GeneralString, GraphicString, Ia5String, NumericString, OctetString,
-    PrintableString, TeletexString, VisibleString,
+    BitString, BitVec, BmpString, GeneralString, GraphicString, Ia5String, NamedBitString,
+    NumericString, OctetString, PrintableString, TeletexString, VisibleString,
 };
 
 /// A law of the kinds of string: the units that a string of a kind can have are those that its type says, and a UTF8String has
@@ -22,6 +23,11 @@ use asn1_values::{
 pub fn kinds_of_string_say_what_their_types_say()
     ensures bit_string { (s : List Bool) →
         ⟦<Bits as CodecString<bool>>⟧.AreOfKind s ↔ ⟦<BitString as AsnType>⟧.meaning.IsOfType s }
+    ensures packed_bits { (s : List Bool) →
+        ⟦<PackedBits as CodecString<bool>>⟧.AreOfKind s ↔ ⟦<BitVec as AsnType>⟧.meaning.IsOfType s }
+    ensures named_bits { (s : List Bool) →
+        ⟦<NamedBits as CodecString<bool>>⟧.AreOfKind s ↔
+        ⟦<NamedBitString as AsnType>⟧.meaning.IsOfType s }
     ensures octet_string { (s : List ℕ) →
         ⟦<Octets as CodecString<u8>>⟧.AreOfKind s ↔ ⟦<OctetString as AsnType>⟧.meaning.IsOfType s }
     ensures general_string { (s : List ℕ) →

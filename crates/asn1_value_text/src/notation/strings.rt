@@ -1,7 +1,7 @@
 //! Strings in X.680's notation of values.
 
 use crate::characters::{character_numbers, shown_character};
-use crate::notation::{push_bits, push_octets};
+use crate::notation::{push_bits, push_octets, push_packed_bits};
 use asn1_types::{AnyStr, OctetKind};
 use asn1_values::shown::shown_text;
 use std::alloc::{AllocError, Global};
@@ -48,6 +48,7 @@ pub(crate) fn push_string(
 ) -> Result<(), AllocError> {
     match string {
         AnyStr::Bits(bits) => push_bits(text, bits),
+        AnyStr::PackedBits(bits) => push_packed_bits(text, bits),
         AnyStr::Octets(OctetKind::OctetString, octets) => push_explained_octets(text, octets),
         AnyStr::Octets(kind, octets) => match character_numbers(alloc, string)? {
             Some(numbers) => push_characters(text, Repertoire::of_kind(kind), numbers.as_slice()),

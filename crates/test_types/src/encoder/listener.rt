@@ -6,7 +6,7 @@ use asn1_components::{Choice, EnumeratedTable, FieldTable};
 use asn1_enc::{EncodeError, Encoder};
 use asn1_tags::{Identifier, Tag};
 use asn1_types::{Any, CodecString};
-use asn1_values::IntegerType;
+use asn1_values::{BitVec, IntegerType};
 use std::alloc::Global;
 
 /// The codec that listens. Each call answers that it has failed, so that nothing of it has to be right but what it keeps.
@@ -93,6 +93,16 @@ impl Encoder for Listener {
         Err(EncodeError::Failed)
     }
 
+    fn encode_packed_bits<K: CodecString<bool>>(
+        &mut self,
+        _tag: Tag,
+        _constraints: &Constraints<'_>,
+        _value: &BitVec,
+        _name: Identifier,
+    ) -> Result<(), EncodeError> {
+        Err(EncodeError::Failed)
+    }
+
     fn encode_any(
         &mut self,
         _tag: Tag,
@@ -118,7 +128,7 @@ impl Encoder for Listener {
         Err(EncodeError::Failed)
     }
 
-    fn mark_group_absent(&mut self) -> Result<(), EncodeError> {
+    fn mark_group_absent<C: FieldTable>(&mut self) -> Result<(), EncodeError> {
         Err(EncodeError::Failed)
     }
 
@@ -184,7 +194,7 @@ impl Encoder for Listener {
     ghost lawful = { record {
       part = λ _ _ _ h. h;
       inner = λ _ _ h. h;
-      marks = λ _ _ h. h;
+      marks = λ _ _ _ h. h;
       wrote_in_any_order = λ _ _ _ _ h. h;
       rejects_in_any_order = λ _ _ _ h. h;
     } };

@@ -1,8 +1,8 @@
 //! How strings are written by `{}` and `{:?}`.
 use crate::assertions::assert_that;
 use asn1_values::{
-    BitString, BmpString, GeneralString, GraphicString, Ia5String, Integer, ObjectIdentifier,
-    OctetString, TeletexString,
+    BitString, BitVec, BmpString, GeneralString, GraphicString, Ia5String, Integer, NamedBitString,
+    ObjectIdentifier, OctetString, TeletexString,
 };
 use std::alloc::Global;
 use std::fmt::{Debug, Display};
@@ -44,6 +44,13 @@ fn bits_are_shown(rt: HostRuntime) {
     let alloc = rt.alloc();
     let bits = list(&rt, alloc, &[true, false, true]);
     assert_shown(&rt, alloc, &BitString::new(bits), "'101'B");
+    let octets = list(&rt, alloc, &[0xa0]);
+    let four = BitVec::from_octets(octets, 4).expect(&rt, "bits");
+    assert_shown(&rt, alloc, &four, "'1010'B");
+    assert_written(&rt, alloc, &four, "'1010'B");
+    let named = NamedBitString::new(four);
+    assert_shown(&rt, alloc, &named, "'101'B");
+    assert_written(&rt, alloc, &named, "'101'B");
 }
 
 #[test]

@@ -1,30 +1,13 @@
-use Rattle.std.proofs.Common.{[], ◌∷◌}
-use Rattle.std.proofs.lemmas.Result.{err_from_is_err_and}
-use Rattle.asn1_components.specs.Components.{all_components, component_records, rows}
-use Rattle.asn1_model.specs.Records.{sequence}
-use Rattle.asn1_components.proofs.DistinctFollowers.{nothing_follows}
-use Rattle.asn1_laws.proofs.ReadingSteps.{to_end, fails_inside, flat_failure, within_scope}
+use Rattle.asn1_laws.proofs.ReadingSequences.{opened_sequence}
+use Rattle.std.proofs.Common.{Ok}
 use Rattle.asn1_dec.proofs.sequences.read_sequence.Goals as goal
 
-pub returns-in-Err-clause-read : goal.returns-in-Err-clause-read
-returns-in-Err-clause-read g c = λ v n rest outer can of_type valid at.
-    let rs = component_records g.C.FieldTable.components v in
-    let s = c.in_ok-open_sequence.ensures.read n rs rest outer at in
-    let r = c.in-Err.ensures.read v [] ((_, rest) ∷ outer) can of_type valid (nothing_follows (all_components g.C.FieldTable.components)) (to_end g.D.Decoder.reader _ rs ((_, rest) ∷ outer) s.at) in
-    rw c.refuse.ensures.same (fails_inside (sequence c.args.tag (rows g.C.FieldTable.components) n) rs _ _ c.in_ok-open_sequence.ensures.takes_depth.one_less r)
-
-pub returns-in_err-close-clause-read : goal.returns-in_err-close-clause-read
-returns-in_err-close-clause-read g c = λ v n rest outer can of_type valid at.
-    let p = err_from_is_err_and c.from_residual-in_err-close.result c.from_residual-in_err-close.ensures.1 in
-    let rs = component_records g.C.FieldTable.components v in
-    let s = c.in_ok-open_sequence.ensures.read n rs rest outer at in
-    let r = c.in-Ok.ensures.read v [] ((_, rest) ∷ outer) can of_type valid (nothing_follows (all_components g.C.FieldTable.components)) (to_end g.D.Decoder.reader _ rs ((_, rest) ∷ outer) s.at) in
-    rw (p.1, p.2) (flat_failure _ _ _ (c.in_err-close.ensures.read _ rest outer r.at))
-
 pub returns-clause-read : goal.returns-clause-read
-returns-clause-read g c = λ v n rest outer can of_type valid at.
-    let rs = component_records g.C.FieldTable.components v in
-    let s = c.in_ok-open_sequence.ensures.read n rs rest outer at in
-    let r = c.in-Ok.ensures.read v [] ((_, rest) ∷ outer) can of_type valid (nothing_follows (all_components g.C.FieldTable.components)) (to_end g.D.Decoder.reader _ rs ((_, rest) ∷ outer) s.at) in
-    let k = c.in_ok-close.ensures.read _ rest outer r.at in
-    record { answer = r.answer; at = k.at; within_depth_left = within_scope (sequence c.args.tag (rows g.C.FieldTable.components) n) rs _ _ c.in_ok-open_sequence.ensures.takes_depth.one_less r.within_depth_left }
+returns-clause-read g c =
+    let is_open = opened_sequence g.D.Decoder.reader g.C.FieldTable.components c.args.tag c.args.decoder.now _ (Ok tt) c.in_ok-open_sequence.ensures.read c.in_ok-open_sequence.ensures.takes_depth in
+    c.finish_sequence.ensures.read c.args.decoder.now _ is_open c.decode_fields-components.ensures.read
+
+pub returns-clause-keeps_depth : goal.returns-clause-keeps_depth
+returns-clause-keeps_depth g c =
+    let is_open = opened_sequence g.D.Decoder.reader g.C.FieldTable.components c.args.tag c.args.decoder.now _ (Ok tt) c.in_ok-open_sequence.ensures.read c.in_ok-open_sequence.ensures.takes_depth in
+    c.finish_sequence.ensures.keeps_depth c.args.decoder.now _ is_open c.decode_fields-components.ensures.same_depth

@@ -6,9 +6,9 @@ use Rattle.asn1_elements.proofs.decoder.value_in.Goals as goal
 pub returns-in_err-contents-clause-read : goal.returns-in_err-contents-clause-read
 returns-in_err-contents-clause-read g c = λ t k n x y e own same of_type alone parsed has.
     let p = err_from_is_err_and c.from_residual.result c.from_residual.ensures.1 in
-    rw (p.1, p.2) (c.in_err-contents.ensures.found t k n x e own (same.kind ∙ g.met.V.FromContent.has_kind y ∙ sym c.kind.ensures) alone parsed has)
+    rw (p.1, p.2) (c.in_err-contents.ensures.found t k n x e own (same.kind ∙ g.met.V.FromContents.spelled_kind y ∙ sym c.kind.ensures) alone parsed has)
 
 pub returns-clause-read : goal.returns-clause-read
 returns-clause-read g c = λ t k n x y e own same of_type alone parsed has.
-    c.from_contents.ensures.read y of_type (subst (HasContents (g.V.FromContent.content y)) (sym c.octets.ensures)
-    (same.octets _ (c.in_ok-contents.ensures.found t k n x e own (same.kind ∙ g.met.V.FromContent.has_kind y ∙ sym c.kind.ensures) alone parsed has)))
+    c.from_contents.ensures.read y of_type (subst (HasContents (g.V.FromContents.spelled y)) (sym c.octets.ensures)
+    (same.octets _ (c.in_ok-contents.ensures.found t k n x e own (same.kind ∙ g.met.V.FromContents.spelled_kind y ∙ sym c.kind.ensures) alone parsed has)))

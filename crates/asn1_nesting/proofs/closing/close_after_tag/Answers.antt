@@ -1,6 +1,6 @@
 use Rattle.std.proofs.lemmas.Result.{err_from_is_err_and}
 use Rattle.asn1_laws.proofs.ReadingChoices.{choice_after_tag_not_closed, choice_after_tag_not_read, choice_after_tag_read}
-use Rattle.asn1_nesting.proofs.OpenAndClosed.{closed_again, fails_now}
+use Rattle.asn1_laws.proofs.ReadingSequences.{closed_again, fails_now}
 use Rattle.asn1_nesting.proofs.closing.close_after_tag.Goals as goal
 
 pub returns-in_err-value-clause-read : goal.returns-in_err-value-clause-read

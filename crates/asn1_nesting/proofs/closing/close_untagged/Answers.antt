@@ -2,8 +2,9 @@ use Rattle.std.proofs.Common.{Err, Ok, subst}
 use Rattle.std.specs.Prelude.{OnOk, ◌≡◌}
 use Rattle.std.proofs.lemmas.Result.{err_from_is_err_and}
 use Rattle.asn1_laws.proofs.ReadingChoices.{alternative_not_read, choice_not_closed, choice_read}
+use Rattle.asn1_laws.proofs.ReadingSequences.{closed_again, fails_now}
 use Rattle.asn1_slots.specs.Cases.{ReadsCaseAt}
-use Rattle.asn1_nesting.proofs.OpenAndClosed.{closed_again, fails_now, reads_at_index}
+use Rattle.asn1_nesting.proofs.OpenAndClosed.{reads_at_index}
 use Rattle.asn1_nesting.proofs.closing.close_untagged.Goals as goal
 
 pub returns-in-Err-clause-read : goal.returns-in-Err-clause-read

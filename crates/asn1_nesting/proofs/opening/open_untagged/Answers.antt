@@ -2,9 +2,10 @@ use Rattle.std.proofs.Common.{subst}
 use Rattle.std.proofs.lemmas.Result.{err_from_is_err_and}
 use Rattle.asn1_components.specs.Alternatives.{all_of, trees_of}
 use Rattle.asn1_laws.proofs.ReadingChoices.{choice_not_opened}
+use Rattle.asn1_laws.proofs.ReadingSequences.{had_not_failed}
 use Rattle.asn1_model.specs.ConstraintSets.{constraint_set}
 use Rattle.asn1_slots.specs.TagIndices.{IsIndexOf}
-use Rattle.asn1_nesting.proofs.OpenAndClosed.{had_not_failed, none_has}
+use Rattle.asn1_nesting.proofs.OpenAndClosed.{none_has}
 use Rattle.asn1_nesting.proofs.opening.open_untagged.Goals as goal
 
 pub returns-in_err-tag-clause-not_read : goal.returns-in_err-tag-clause-not_read

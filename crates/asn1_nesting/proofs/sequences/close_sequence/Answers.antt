@@ -1,40 +1,13 @@
-use Rattle.std.proofs.Common.{subst}
-use Rattle.std.specs.Prelude.{OnOk, ◌≡◌}
-use Rattle.std.proofs.lemmas.Result.{err_from_is_err_and}
+use Rattle.asn1_components.specs.Components.{is_sequence}
 use Rattle.asn1_laws.proofs.ReadingChoices.{leaves_kept}
-use Rattle.asn1_laws.specs.ReadingTypes.{ReadsFields}
-use Rattle.asn1_nesting.proofs.OpenAndClosed.{closed_again, fails_now}
-use Rattle.asn1_nesting.proofs.OpenAndClosedSequences.{sequence_not_closed, sequence_not_read, sequence_read}
+use Rattle.asn1_laws.proofs.ReadingConstructed.{as_constructed}
 use Rattle.asn1_nesting.proofs.sequences.close_sequence.Goals as goal
-
-pub returns-in-Err-clause-read : goal.returns-in-Err-clause-read
-returns-in-Err-clause-read g c = λ cs old opened is_open reads.
-    let given = subst (ReadsFields g.D.Decoder.reader g.S.FieldTable.components g.S.PartialEq.eq opened c.args.decoder.now) c.in-Err.is reads in
-    rw c.refuse.ensures.same (sequence_not_read g.D.Decoder.reader g.S.PartialEq.eq g.met.S.ConstructedType.agrees c.requires.kind c.args.tag cs old opened c.args.decoder.now c.args.decoder.now is_open given)
-
-pub returns-in-Err-clause-after_reading : goal.returns-in-Err-clause-after_reading
-returns-in-Err-clause-after_reading g c = λ cs old opened is_open same.
-    leaves_kept g.D.Decoder.reader g.S.AsnType.meaning c.args.tag cs old _ _ (fails_now g.D.Decoder.reader old _ is_open.had_not_failed c.refuse.ensures.has_failed)
-
-pub returns-in_err-close-clause-read : goal.returns-in_err-close-clause-read
-returns-in_err-close-clause-read g c = λ cs old opened is_open reads.
-    let p = err_from_is_err_and c.from_residual.result c.from_residual.ensures.1 in
-    let given = subst (ReadsFields g.D.Decoder.reader g.S.FieldTable.components g.S.PartialEq.eq opened c.args.decoder.now) c.in-Ok.is reads in
-    rw (p.1, p.2) (sequence_not_closed g.D.Decoder.reader g.S.PartialEq.eq g.met.S.ConstructedType.agrees c.requires.kind c.args.tag cs old opened c.args.decoder.now c.close.new.self is_open given c.in_err-close.ensures.read)
-
-pub returns-in_err-close-clause-after_reading : goal.returns-in_err-close-clause-after_reading
-returns-in_err-close-clause-after_reading g c = λ cs old opened is_open same.
-    let p = err_from_is_err_and c.from_residual.result c.from_residual.ensures.1 in
-    rw (p.1, p.2) (leaves_kept g.D.Decoder.reader g.S.AsnType.meaning c.args.tag cs old _ _ (fails_now g.D.Decoder.reader old _ is_open.had_not_failed c.in_err-close.ensures.gives_depth_back.has_failed))
 
 pub returns-clause-read : goal.returns-clause-read
 returns-clause-read g c = λ cs old opened is_open reads.
-    let given = subst (ReadsFields g.D.Decoder.reader g.S.FieldTable.components g.S.PartialEq.eq opened c.args.decoder.now) c.in-Ok.is reads in
-    sequence_read g.D.Decoder.reader g.S.PartialEq.eq g.met.S.ConstructedType.agrees c.requires.kind c.args.tag cs old opened c.args.decoder.now c.close.new.self is_open given c.in_ok-close.ensures.read
+    as_constructed is_sequence g.D.Decoder.reader g.S.AsnType.meaning g.S.FieldTable.components g.S.PartialEq.eq c.args.tag cs old _ c.finish_sequence.result g.met.S.ConstructedType.agrees c.requires.kind
+    (c.finish_sequence.ensures.read old opened is_open reads)
 
 pub returns-clause-after_reading : goal.returns-clause-after_reading
 returns-clause-after_reading g c = λ cs old opened is_open same.
-    leaves_kept g.D.Decoder.reader g.S.AsnType.meaning c.args.tag cs old _ _
-    (closed_again g.D.Decoder.reader old opened c.args.decoder.now _ is_open.had_not_failed is_open.one_less
-    (subst (λ a. OnOk a (g.D.Decoder.reader.depth_left c.args.decoder.now ≡ g.D.Decoder.reader.depth_left opened)) c.in-Ok.is same)
-    c.in_ok-close.ensures.gives_depth_back.one_more c.in_ok-close.ensures.gives_depth_back.no_failure)
+    leaves_kept g.D.Decoder.reader g.S.AsnType.meaning c.args.tag cs old _ _ (c.finish_sequence.ensures.keeps_depth old opened is_open same)

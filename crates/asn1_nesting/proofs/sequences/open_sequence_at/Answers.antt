@@ -1,10 +1,11 @@
+use Rattle.asn1_laws.proofs.ReadingSequences.{opened_sequence}
 use Rattle.asn1_nesting.proofs.OpenAndClosed.{leaves_failed}
-use Rattle.asn1_nesting.proofs.OpenAndClosedSequences.{less_depth, opened_sequence, sequence_not_opened}
+use Rattle.asn1_nesting.proofs.OpenAndClosedSequences.{less_depth, sequence_not_opened}
 use Rattle.asn1_nesting.proofs.sequences.open_sequence_at.Goals as goal
 
 pub returns-clause-opened : goal.returns-clause-opened
 returns-clause-opened g c =
-    opened_sequence g.D.Decoder.reader g.S.PartialEq.eq g.met.S.ConstructedType.agrees c.requires.kind c.args.tag c.args.decoder.now c.open_sequence.new.self c.open_sequence.result c.open_sequence.ensures.read c.open_sequence.ensures.takes_depth
+    opened_sequence g.D.Decoder.reader g.S.FieldTable.components c.args.tag c.args.decoder.now c.open_sequence.new.self c.open_sequence.result c.open_sequence.ensures.read c.open_sequence.ensures.takes_depth
 
 pub returns-clause-deeper : goal.returns-clause-deeper
 returns-clause-deeper g c = less_depth g.D.Decoder.reader c.args.decoder.now c.open_sequence.new.self c.open_sequence.result c.open_sequence.ensures.takes_depth.one_less

@@ -13,14 +13,16 @@ pub returns-in-Ok-clause-read : goal.returns-in-Ok-clause-read
 returns-in-Ok-clause-read g c =
     let marks = g.P.Presence.mark_bytes in
     let there = group_start (rows g.C.FieldTable.components) in
+    let away = group_absent (rows g.C.FieldTable.components) in
     let own = tree_tags (choice (trees_of (all_components g.C.FieldTable.components))) in
-    tells_presence (in_one_order marks) c.args.self.now _ there group_absent own (Ok c.in-Ok.is_there)
-    (found marks c.args.self.now _ there group_absent own c.in-Ok.is_there c.if-state.false c.in-Ok.ensures.keeps_outside c.in-Ok.ensures.found)
+    tells_presence (in_one_order marks) c.args.self.now _ there away own (Ok c.in-Ok.is_there)
+    (found marks c.args.self.now _ there away own c.in-Ok.is_there c.if-state.false c.in-Ok.ensures.keeps_outside c.in-Ok.ensures.found)
 
 pub returns-in-Err-clause-read : goal.returns-in-Err-clause-read
 returns-in-Err-clause-read g c =
     let marks = g.P.Presence.mark_bytes in
     let there = group_start (rows g.C.FieldTable.components) in
+    let away = group_absent (rows g.C.FieldTable.components) in
     let own = tree_tags (choice (trees_of (all_components g.C.FieldTable.components))) in
-    tells_presence (in_one_order marks) c.args.self.now _ there group_absent own (Err c.fail_with.result)
-    (not_found marks c.args.self.now _ there group_absent own _ c.in-Err.error c.fail_with.result c.in-Err.ensures.found)
+    tells_presence (in_one_order marks) c.args.self.now _ there away own (Err c.fail_with.result)
+    (not_found marks c.args.self.now _ there away own _ c.in-Err.error c.fail_with.result c.in-Err.ensures.found)

@@ -8,4 +8,4 @@ use Rattle.asn1_bench.proofs.marks.PresenceMarksPresence.group.Goals as goal
 
 pub returns-clause-found : goal.returns-clause-found
 returns-clause-found g c =
-    c.tell.ensures.found (group_start (rows g.C.FieldTable.components)) group_absent (tree_tags (choice (trees_of (all_components g.C.FieldTable.components)))) refl refl (λ e. absurd (omega (arith, e)))
+    c.tell.ensures.found (group_start (rows g.C.FieldTable.components)) (group_absent (rows g.C.FieldTable.components)) (tree_tags (choice (trees_of (all_components g.C.FieldTable.components)))) refl refl (λ e. absurd (omega (arith, e)))

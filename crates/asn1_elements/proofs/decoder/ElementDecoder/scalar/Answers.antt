@@ -10,7 +10,7 @@ use Rattle.asn1_elements.proofs.decoder.ElementDecoder.scalar.Goals as goal
 pub returns-in_err-element-clause-read : goal.returns-in_err-element-clause-read
 returns-in_err-element-clause-read g c = λ content same k.
     let form = g.met.F.ElementForm.lawful in
-    reads_content (in_one_order g.F.ElementForm.form) c.args.self.now c.take.new.self c.args.tag k content g.V.FromContent.IsOfType g.V.FromContent.Is c.from_residual.result
+    reads_content (in_one_order g.F.ElementForm.form) c.args.self.now c.take.new.self c.args.tag k content g.V.FromContents.MayCome g.V.FromContents.IsReadOf c.from_residual.result
     (λ x n rest outer of_type at.
     let next = next_is (is_form form) c.args.self.now.state (scalar c.args.tag k n (content x)) rest outer at in
     let o = one_of c.args.tag next.front (form.content c.args.tag k n (content x) next.front next.has) in
@@ -19,7 +19,7 @@ returns-in_err-element-clause-read g c = λ content same k.
 pub returns-then-not-is_under-clause-read : goal.returns-then-not-is_under-clause-read
 returns-then-not-is_under-clause-read g c = λ content same k.
     let form = g.met.F.ElementForm.lawful in
-    reads_content (in_one_order g.F.ElementForm.form) c.args.self.now c.take.new.self c.args.tag k content g.V.FromContent.IsOfType g.V.FromContent.Is (Err c.fail.result)
+    reads_content (in_one_order g.F.ElementForm.form) c.args.self.now c.take.new.self c.args.tag k content g.V.FromContents.MayCome g.V.FromContents.IsReadOf (Err c.fail.result)
     (λ x n rest outer of_type at.
     let next = next_is (is_form form) c.args.self.now.state (scalar c.args.tag k n (content x)) rest outer at in
     let o = one_of c.args.tag next.front (form.content c.args.tag k n (content x) next.front next.has) in
@@ -29,7 +29,7 @@ returns-then-not-is_under-clause-read g c = λ content same k.
 pub returns-in-Ok-clause-read : goal.returns-in-Ok-clause-read
 returns-in-Ok-clause-read g c = λ content same k.
     let form = g.met.F.ElementForm.lawful in
-    reads_content (in_one_order g.F.ElementForm.form) c.args.self.now c.take.new.self c.args.tag k content g.V.FromContent.IsOfType g.V.FromContent.Is (Ok c.in-Ok.value)
+    reads_content (in_one_order g.F.ElementForm.form) c.args.self.now c.take.new.self c.args.tag k content g.V.FromContents.MayCome g.V.FromContents.IsReadOf (Ok c.in-Ok.value)
     (λ x n rest outer of_type at.
     let next = next_is (is_form form) c.args.self.now.state (scalar c.args.tag k n (content x)) rest outer at in
     let o = one_of c.args.tag next.front (form.content c.args.tag k n (content x) next.front next.has) in
@@ -43,7 +43,7 @@ returns-in-Ok-clause-read g c = λ content same k.
 pub returns-in-Err-clause-read : goal.returns-in-Err-clause-read
 returns-in-Err-clause-read g c = λ content same k.
     let form = g.met.F.ElementForm.lawful in
-    reads_content (in_one_order g.F.ElementForm.form) c.args.self.now c.take.new.self c.args.tag k content g.V.FromContent.IsOfType g.V.FromContent.Is (Err c.fail_with.result)
+    reads_content (in_one_order g.F.ElementForm.form) c.args.self.now c.take.new.self c.args.tag k content g.V.FromContents.MayCome g.V.FromContents.IsReadOf (Err c.fail_with.result)
     (λ x n rest outer of_type at.
     let next = next_is (is_form form) c.args.self.now.state (scalar c.args.tag k n (content x)) rest outer at in
     let o = one_of c.args.tag next.front (form.content c.args.tag k n (content x) next.front next.has) in

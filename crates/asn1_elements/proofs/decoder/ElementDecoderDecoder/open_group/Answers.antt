@@ -14,25 +14,28 @@ pub returns-in_err-tag-clause-read : goal.returns-in_err-tag-clause-read
 returns-in_err-tag-clause-read g c =
     let components = g.C.FieldTable.components in
     let there = group_start (rows components) in
+    let away = group_absent (rows components) in
     let own = tree_tags (choice (trees_of (all_components components))) in
     let p = err_from_is_err_and c.from_residual.result c.from_residual.ensures.1 in
-    tells_presence (in_one_order g.F.ElementForm.form) c.args.self.now c.next_tag.new.self there group_absent own c.from_residual.result
-    (not_found g.met.F.ElementForm.lawful c.args.self.now c.next_tag.new.self there group_absent own c.from_residual.result _ p.1 c.in_err-tag.ensures.found)
+    tells_presence (in_one_order g.F.ElementForm.form) c.args.self.now c.next_tag.new.self there away own c.from_residual.result
+    (not_found g.met.F.ElementForm.lawful c.args.self.now c.next_tag.new.self there away own c.from_residual.result _ p.1 c.in_err-tag.ensures.found)
 
 pub returns-in-Some-clause-read : goal.returns-in-Some-clause-read
 returns-in-Some-clause-read g c =
     let components = g.C.FieldTable.components in
     let there = group_start (rows components) in
+    let away = group_absent (rows components) in
     let own = tree_tags (choice (trees_of (all_components components))) in
-    tells_presence (in_one_order g.F.ElementForm.form) c.args.self.now c.next_tag.new.self there group_absent own (Ok c.group_can_begin_with.result)
-    (found g.met.F.ElementForm.lawful c.args.self.now c.next_tag.new.self there group_absent own c.in-Some.tag c.group_can_begin_with.result c.in_ok-tag.field-0 c.in-Some.is
+    tells_presence (in_one_order g.F.ElementForm.form) c.args.self.now c.next_tag.new.self there away own (Ok c.group_can_begin_with.result)
+    (found g.met.F.ElementForm.lawful c.args.self.now c.next_tag.new.self there away own c.in-Some.tag c.group_can_begin_with.result c.in_ok-tag.field-0 c.in-Some.is
     c.in_ok-tag.ensures.opens_nothing.keeps_depth.no_failure c.in_ok-tag.ensures.same_bytes c.in_ok-tag.ensures.found c.group_can_begin_with.ensures)
 
 pub returns-in-None-clause-read : goal.returns-in-None-clause-read
 returns-in-None-clause-read g c =
     let components = g.C.FieldTable.components in
     let there = group_start (rows components) in
+    let away = group_absent (rows components) in
     let own = tree_tags (choice (trees_of (all_components components))) in
-    tells_presence (in_one_order g.F.ElementForm.form) c.args.self.now c.next_tag.new.self there group_absent own (Ok _)
-    (none_found g.met.F.ElementForm.lawful c.args.self.now c.next_tag.new.self there group_absent own c.in_ok-tag.field-0 c.in-None.is
+    tells_presence (in_one_order g.F.ElementForm.form) c.args.self.now c.next_tag.new.self there away own (Ok _)
+    (none_found g.met.F.ElementForm.lawful c.args.self.now c.next_tag.new.self there away own c.in_ok-tag.field-0 c.in-None.is
     c.in_ok-tag.ensures.opens_nothing.keeps_depth.no_failure c.in_ok-tag.ensures.same_bytes c.in_ok-tag.ensures.found)

@@ -13,14 +13,14 @@ pub returns-in_err-tag-clause-found : goal.returns-in_err-tag-clause-found
 returns-in_err-tag-clause-found g c =
     let components = g.C.FieldTable.components in
     let p = err_from_is_err_and c.from_residual.result c.from_residual.ensures.1 in
-    rw (p.1) (not_found c.args.slices.now (group_start (rows components)) group_absent (tree_tags (choice (trees_of (all_components components)))) _ (λ rs left. c.in_err-tag.ensures rs left))
+    rw (p.1) (not_found c.args.slices.now (group_start (rows components)) (group_absent (rows components)) (tree_tags (choice (trees_of (all_components components)))) _ (λ rs left. c.in_err-tag.ensures rs left))
 
 pub returns-in-Some-clause-found : goal.returns-in-Some-clause-found
 returns-in-Some-clause-found g c =
     let components = g.C.FieldTable.components in
-    found c.args.slices.now (group_start (rows components)) group_absent (tree_tags (choice (trees_of (all_components components)))) c.in-Some.tag c.group_can_begin_with.result (λ rs left. subst (IsNext rs) c.in-Some.is (c.in_ok-tag.ensures rs left)) c.group_can_begin_with.ensures
+    found c.args.slices.now (group_start (rows components)) (group_absent (rows components)) (tree_tags (choice (trees_of (all_components components)))) c.in-Some.tag c.group_can_begin_with.result (λ rs left. subst (IsNext rs) c.in-Some.is (c.in_ok-tag.ensures rs left)) c.group_can_begin_with.ensures
 
 pub returns-in-None-clause-found : goal.returns-in-None-clause-found
 returns-in-None-clause-found g c =
     let components = g.C.FieldTable.components in
-    none_found c.args.slices.now (group_start (rows components)) group_absent (tree_tags (choice (trees_of (all_components components)))) (λ rs left. subst (IsNext rs) c.in-None.is (c.in_ok-tag.ensures rs left))
+    none_found c.args.slices.now (group_start (rows components)) (group_absent (rows components)) (tree_tags (choice (trees_of (all_components components)))) (λ rs left. subst (IsNext rs) c.in-None.is (c.in_ok-tag.ensures rs left))

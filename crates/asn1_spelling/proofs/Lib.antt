@@ -1,0 +1,3 @@
+pub mod ChoicesAlike
+pub mod EqualCases
+pub mod GroupsAlike
