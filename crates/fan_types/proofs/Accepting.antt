@@ -16,6 +16,7 @@ use Rattle.fan_calls.specs.declared.status.Status.{Status}
 use Rattle.fan_calls.specs.declared.status.Status.TheVariants as status
 use Rattle.fan_types.specs.Checks.{AcceptsOnlyDer, AreOfNoneRefused, AreRefusedAs, IsDerOf, IsOnlyDerOf, KeepRules, LieDeeper}
 use Rattle.fan_types.specs.Refusals.{status_of_canonical, status_of_check}
+use Rattle.fan_types.proofs.OpenTypes.{are_elements}
 
 -- statuses differ
 memory_is_no_fault : status.Fault ≡ status.Memory → ⊥
@@ -35,6 +36,7 @@ module _ {V : Type 0} (m : Meaning V) where
   is_der value own octets same w = record {
     value = value;
     of_type = w.written.of_type;
+    open_types = are_elements w.output.items (own_records m value) w.written.carried;
     carries = subst (λ l. Carries l (own_records m value)) (w.has_bytes ∙ same) w.written.carried;
     shallow = w.written.within_depth_left;
   }

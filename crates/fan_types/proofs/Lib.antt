@@ -1,4 +1,5 @@
 mod Accepting
 mod Converting
 mod Numbers
+mod OpenTypes
 mod Statuses

@@ -16,6 +16,7 @@ use Rattle.asn1_model.specs.WellFormed.{AreWellFormed}
 use Rattle.asn1_rules.specs.CanonicalReading.{HasOneSpelling}
 use Rattle.fan_calls.specs.Statuses.{FAN_DEEP, FAN_MEMORY, FAN_OK}
 use Rattle.fan_calls.specs.declared.status.Status.{Status}
+use Rattle.fan_types.specs.OpenTypes.{OpenTypesAreElements}
 use Rattle.fan_types.specs.Refusals.{status_of_check}
 
 -- The octets break no rule of X.690 that reading asks for, at any depth, also inside open types.
@@ -27,10 +28,12 @@ abbrev pub LieDeeper : ℕ → List ℕ → Type 0
 LieDeeper depth octets = (position : ℕ) × LiesDeeper depth part.Other octets position
 
 module _ {V : Type 0} (m : Meaning V) where
-  -- A value that meets the invariant of its type, whose scopes are nested at most 64 deep, and of which the octets are the DER.
+  -- A value that meets the invariant of its type, whose open types hold one element each, whose scopes are nested at most 64 deep,
+  -- and of which the octets are the DER.
   pub record ValueOf (octets : List ℕ) : Type 0 where
     pub value : V
     pub of_type : m.IsOfType value
+    pub open_types : OpenTypesAreElements (own_records m value)
     pub carries : Carries octets (own_records m value)
     pub shallow : highest (own_records m value) ≤ 64
 

@@ -1,3 +1,4 @@
 pub mod Checks
 pub mod Conversions
+pub mod OpenTypes
 pub mod Refusals

@@ -1,4 +1,4 @@
-//! The value of which octets are the BER, in another form.
+//! Conversions of a value from BER: to DER, to X.680's notation, and to JSON.
 ghost use Rattle.std.specs.Prelude.{◌≡◌, ◌≢◌, ◌⊎◌};
 ghost use Rattle.fan_calls.specs.Results.{LacksRoom, Puts};
 ghost use Rattle.fan_calls.specs.Statuses.{FAN_DEEP, FAN_FAULT, FAN_MEMORY, FAN_OK, FAN_ROOM};
@@ -12,7 +12,7 @@ use asn1_enc::Encode;
 use fan_calls::{DEPTH, Status, put};
 use std::alloc::Global;
 
-/// Writes the DER of the value of the type whose BER the octets are. `FAN_FAULT` if they are that of none, or if it has no DER;
+/// Reads the octets as the BER of a value of the type, and writes its DER. `FAN_FAULT` if they are the BER of none, or if it has no DER;
 /// `FAN_DEEP` if its scopes are nested more than 64 deep.
 pub fn der<T: Encode + Decode>(
     alloc: Global,
@@ -36,8 +36,8 @@ pub fn der<T: Encode + Decode>(
     convert::<T>(alloc, octets, OutputForm::Codec(CodecForm::Der), out, size)
 }
 
-/// Writes the value of the type whose BER the octets are in X.680's notation of values, with a line feed at its end. The statuses are
-/// those of [`der`].
+/// Reads the octets as the BER of a value of the type, and writes it in X.680's notation of values, with a line feed at its end. The
+/// statuses are those of [`der`].
 pub fn text<T: Encode + Decode>(
     alloc: Global,
     octets: &[u8],
@@ -60,8 +60,8 @@ pub fn text<T: Encode + Decode>(
     convert::<T>(alloc, octets, OutputForm::Notation, out, size)
 }
 
-/// Writes the value of the type whose BER the octets are as JSON (X.697), in one line with a line feed at its end. The statuses are those
-/// of [`der`].
+/// Reads the octets as the BER of a value of the type, and writes it as JSON (X.697), in one line with a line feed at its end. The
+/// statuses are those of [`der`].
 pub fn json<T: Encode + Decode>(
     alloc: Global,
     octets: &[u8],
@@ -84,7 +84,7 @@ pub fn json<T: Encode + Decode>(
     convert::<T>(alloc, octets, OutputForm::Json, out, size)
 }
 
-/// Writes the value of the type whose BER the octets are in a form.
+/// Reads the octets as the BER of a value of the type, and writes it in a form.
 #[tactic(auto, using(crate::proofs::Statuses::one_of_all))]
 fn convert<T: Encode + Decode>(
     alloc: Global,
