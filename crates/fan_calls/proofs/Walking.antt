@@ -5,7 +5,7 @@ use Rattle.std.proofs.lemmas.Bool.{eqb-true}
 use Rattle.asn1_der_items.proofs.TrailingBytes.{element_at-shorter, parts_fit}
 use Rattle.asn1_der_items.specs.Elements.{Element, element_at}
 use Rattle.asn1_der_items.specs.Faults.{AreElementsDownTo, IsFaultInside, IsFirstFault, behind, here, inside, none_left}
-use Rattle.fan_calls.specs.Depths.{HoldsDeeper, LiesDeeper}
+use Rattle.fan_calls.specs.Depths.{HoldsDeeper, NestsDeeper}
 use Rattle.fan_calls.specs.Walks.{Finds, FindsInside}
 use Rattle.fan_calls.specs.declared.walk.Finding.{Finding}
 use Rattle.fan_calls.specs.declared.walk.Finding.TheVariants.{Deeper, Elements, Fault}
@@ -21,7 +21,7 @@ no_octets [] test = refl
 no_octets (b ∷ bytes) test = absurd (omega (arith, eqb-true (length (b ∷ bytes)) 0 (sym test)))
 
 -- nothing lies in no octets
-pub no_deeper : (depth : ℕ) → LiesDeeper depth [] → ⊥
+pub no_deeper : (depth : ℕ) → NestsDeeper depth [] → ⊥
 no_deeper depth lies = absurd (omega (arith, some_octets (HoldsDeeper depth) [] lies))
 
 -- the depth below another
@@ -44,7 +44,7 @@ module _ (e : Element) where
   found_none zero none = (tt, λ deeper. absurd (omega (arith, subst (λ (l : List ℕ). 0 < length l) none deeper.1)))
   found_none (suc depth) none = (
     λ _. subst (λ (l : List ℕ). AreElementsDownTo depth l) (sym none) none_left,
-    λ deeper. no_deeper depth (subst (λ (l : List ℕ). LiesDeeper depth l) none deeper.1),
+    λ deeper. no_deeper depth (subst (λ (l : List ℕ). NestsDeeper depth l) none deeper.1),
   )
 
   pub found_primitive : (depth : ℕ) → (e.constructed ≡ true → ⊥) → FindsInside depth e Elements

@@ -12,6 +12,6 @@ abbrev pub HoldsDeeper : ℕ → Element → Type 0
 HoldsDeeper zero e = (e.constructed ≡ true) × (0 < length e.contents)
 HoldsDeeper (suc depth) e = (e.constructed ≡ true) × HasElement (HoldsDeeper depth) e.contents
 
--- Octets lie inside more constructed elements of the bytes than the depth.
-abbrev pub LiesDeeper : ℕ → List ℕ → Type 0
-LiesDeeper depth bytes = HasElement (HoldsDeeper depth) bytes
+-- The bytes nest deeper: octets lie inside more constructed elements than the depth.
+abbrev pub NestsDeeper : ℕ → List ℕ → Type 0
+NestsDeeper depth bytes = HasElement (HoldsDeeper depth) bytes

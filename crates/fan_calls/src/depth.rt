@@ -1,7 +1,7 @@
 //! Elements that lie deeper than a call looks.
 ghost use Rattle.std.specs.Prelude.{◌≡◌, Decides};
 ghost use Rattle.asn1_der_items.specs.Elements.{element_of};
-ghost use Rattle.fan_calls.specs.Depths.{HoldsDeeper, LiesDeeper};
+ghost use Rattle.fan_calls.specs.Depths.{HoldsDeeper, NestsDeeper};
 
 use asn1_der_items::{Element, find_element};
 
@@ -11,8 +11,8 @@ pub const DEPTH: usize = 64;
 /// Whether elements of DER hold octets that lie inside more constructed elements than this depth. It looks no further than the first
 /// octet at which an element is due and none begins.
 #[cycle(depths)]
-pub fn lies_deeper(bytes: &[u8], depth: usize) -> bool
-    ensures { Decides result (LiesDeeper depth bytes.now) }
+pub fn nests_deeper(bytes: &[u8], depth: usize) -> bool
+    ensures { Decides result (NestsDeeper depth bytes.now) }
 {
     let mut left = bytes;
     while let Ok(element) = find_element(left) {
@@ -35,5 +35,5 @@ fn holds_deeper(element: Element<'_>, depth: usize) -> bool
     if depth == 0 {
         return true;
     }
-    lies_deeper(element.contents, depth - 1)
+    nests_deeper(element.contents, depth - 1)
 }

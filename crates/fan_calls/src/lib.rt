@@ -4,7 +4,7 @@
 //! |---|---|---|
 //! | [`Status`] | what a call answers, and its number | `Statuses` |
 //! | [`put`] | writes a result into the memory of the caller, if there is room | `Results` |
-//! | [`lies_deeper`], [`DEPTH`] | whether octets lie inside more constructed elements than a call looks into | `Depths` |
+//! | [`nests_deeper`], [`DEPTH`] | whether octets lie inside more constructed elements than a call looks into | `Depths` |
 //! | [`walk_through`], [`Finding`] | whether octets are elements of DER, and where not | `Walks` |
 //!
 //! A static library cannot be named by another crate, so these are in a library.
@@ -15,7 +15,7 @@ mod result;
 mod status;
 mod walk;
 
-pub use depth::{DEPTH, lies_deeper};
+pub use depth::{DEPTH, nests_deeper};
 pub use result::put;
 pub use status::Status;
 pub use walk::{Finding, walk_through};

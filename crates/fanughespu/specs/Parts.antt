@@ -3,13 +3,13 @@ use Rattle.std.specs.Prelude.{◌≡◌, ◌+◌, ℕ, List, Some, length}
 use Rattle.asn1_der_items.specs.Elements.{Element, element_at}
 use Rattle.asn1_der_items.specs.Faults.{AreElementsDownTo}
 use Rattle.asn1_tags.specs.Tags.{class_number}
-use Rattle.fan_calls.specs.Depths.{LiesDeeper}
+use Rattle.fan_calls.specs.Depths.{NestsDeeper}
 use Rattle.fanughespu.specs.declared.elements.FanElement.{FanElement}
 
 -- The octets are elements, and so is what is inside those that are constructed, with at most this many constructed elements around it.
 pub record AreElements (depth : ℕ) (octets : List ℕ) : Type 0 where
   pub elements : AreElementsDownTo depth octets
-  pub all : ¬ LiesDeeper depth octets
+  pub all : ¬ NestsDeeper depth octets
 
 -- An element begins the octets, with the class, number and form of these parts. Its contents octets are as many as they say, behind
 -- as many octets as they say.

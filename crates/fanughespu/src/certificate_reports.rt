@@ -2,14 +2,14 @@
 ghost use Rattle.std.specs.Prelude.{◌≡◌, ◌≢◌, ◌⊎◌, ◌↔◌, ◌≤◌, IfErr, IfOk, List, length, ℕ};
 ghost use Rattle.asn1_certificate_input.specs.Shown.{IsShown};
 ghost use Rattle.asn1_certificate_input.specs.declared.error.InputError.TheVariants.{Memory};
-ghost use Rattle.fan_calls.specs.Depths.{LiesDeeper};
+ghost use Rattle.fan_calls.specs.Depths.{NestsDeeper};
 ghost use Rattle.fan_calls.specs.Results.{LacksRoom, Puts};
 ghost use Rattle.fan_calls.specs.Statuses.{FAN_DEEP, FAN_FAULT, FAN_MEMORY, FAN_OK, FAN_ROOM};
 ghost use Rattle.fan_calls.specs.declared.status.Status.TheVariants.{Fault, Memory as OutOfMemory, Room};
 ghost use Rattle.fanughespu.specs.CertificateReports.{AreGoodCertificate, AreNoCertificate, AreRefused, HaveNoReport, IsReport, IsReportOrMessage, is_explained, report_options};
 
 use asn1_certificate_input::{Departure, InputError, Options, OutputFormat, Shown, shown_of};
-use fan_calls::{DEPTH, Status, lies_deeper, put};
+use fan_calls::{DEPTH, Status, nests_deeper, put};
 use std::alloc::Global;
 
 /// `FAN_OK`, and the lines of the report of the certificate that the octets are. `FAN_FAULT` if they are refused, and a message
@@ -35,11 +35,11 @@ pub extern "C" fn fan_certificate_report(
     ensures no_room { result ≡ FAN_ROOM →
         LacksRoom (IsReportOrMessage octets.now) text.old text.new size.new }
     ensures fits { size.new ≤ length text.old → result ≢ FAN_ROOM }
-    ensures deep { (result ≡ FAN_DEEP) ↔ LiesDeeper 64 octets.now }
+    ensures deep { (result ≡ FAN_DEEP) ↔ NestsDeeper 64 octets.now }
     ensures stays { result ≢ FAN_OK → result ≢ FAN_FAULT → text.new ≡ text.old }
     ensures no_size { (result ≡ FAN_MEMORY) ⊎ (result ≡ FAN_DEEP) → size.new ≡ size.old }
 {
-    if lies_deeper(octets, DEPTH) {
+    if nests_deeper(octets, DEPTH) {
         return Status::Deep.number();
     }
     match report_of(alloc, octets) {

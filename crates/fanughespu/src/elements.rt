@@ -2,7 +2,7 @@
 ghost use Rattle.std.specs.Prelude.{◌≡◌, ◌≢◌, ◌⊎◌, ◌↔◌, None, ℕ};
 ghost use Rattle.asn1_der_items.specs.Elements.{element_at};
 ghost use Rattle.asn1_der_items.specs.Faults.{AreElementsDownTo, IsFirstFault};
-ghost use Rattle.fan_calls.specs.Depths.{LiesDeeper};
+ghost use Rattle.fan_calls.specs.Depths.{NestsDeeper};
 ghost use Rattle.fan_calls.specs.Statuses.{FAN_DEEP, FAN_FAULT, FAN_OK};
 ghost use Rattle.fanughespu.specs.Parts.{AreElements, BeginsWith};
 
@@ -20,7 +20,7 @@ pub extern "C" fn fan_der_check(octets: &[u8], position: &mut usize) -> i32
     ensures fault { result ≡ FAN_FAULT → IsFirstFault 64 octets.now position.new }
     ensures found { (at : ℕ) → IsFirstFault 64 octets.now at → result ≡ FAN_FAULT }
     ensures deep { (result ≡ FAN_DEEP) ↔
-        (AreElementsDownTo 64 octets.now × LiesDeeper 64 octets.now) }
+        (AreElementsDownTo 64 octets.now × NestsDeeper 64 octets.now) }
     ensures no_position { result ≢ FAN_FAULT → position.new ≡ position.old }
 {
     bytes_with_a_fault_are_no_elements();

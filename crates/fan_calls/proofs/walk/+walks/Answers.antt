@@ -3,7 +3,7 @@ use Rattle.std.proofs.lemmas.Bool.{true≢false}
 use Rattle.asn1_der_items.proofs.TrailingBytes.{element_at-shorter, parts_fit}
 use Rattle.asn1_der_items.specs.Elements.{element_of}
 use Rattle.asn1_der_items.specs.Faults.{AreElementsDownTo, IsFirstFault, behind, here, none_left, one_more}
-use Rattle.fan_calls.specs.Depths.{HoldsDeeper, LiesDeeper, first, later}
+use Rattle.fan_calls.specs.Depths.{HoldsDeeper, NestsDeeper, first, later}
 use Rattle.fan_calls.proofs.Deeper.{in_others}
 use Rattle.fan_calls.proofs.Walking.{fault_within, found_inside, found_none, found_primitive, in_first, no_deeper, no_octets, none_begins, some_octets_left}
 use Rattle.fan_calls.proofs.walk.+walks.Goals.{walk_inside-then-not-element-via-then-not-element, walk_inside-then-not-element-via-else-not-element+then-is_empty, walk_through-in-Deeper, walk_through-in-Elements}
@@ -84,6 +84,6 @@ walk_through-returns-then-is_deep t c = (
 pub walk_through-returns-else-is_deep : goal.walk_through-returns-else-is_deep
 walk_through-returns-else-is_deep t c = (
   c.loop-left.invariant.elements (subst (AreElementsDownTo c.args.depth) (sym (no_octets c.loop-left.left.now c.loop-left-test.ensures)) none_left),
-  λ lies. no_deeper c.args.depth (subst (LiesDeeper c.args.depth) (no_octets c.loop-left.left.now c.loop-left-test.ensures)
+  λ lies. no_deeper c.args.depth (subst (NestsDeeper c.args.depth) (no_octets c.loop-left.left.now c.loop-left-test.ensures)
       (c.loop-left.invariant.ahead c.if-is_deep.false lies)),
 )
