@@ -3,8 +3,8 @@ use Rattle.std.specs.Prelude.{⊤, IsTrue, List}
 use Rattle.asn1_der_items.specs.Series.{is_one_element}
 use Rattle.asn1_model.specs.Records.{Record, Records, scalar, scope, open_type, presence_mark, held, none, more}
 
--- Each open type in a record, at any depth, holds one element of DER: the whole encoding of one value of some type, and nothing
--- behind it (X.681, 14, and X.690, 8.15).
+-- Each open type in a record, at any depth, holds one element of DER and nothing behind it, as the encoding of one value of another
+-- type is (X.681, 14, and X.690, 8.15).
 abbrev mutual
   pub HasWholeOpenTypes : Record → Type 0
   HasWholeOpenTypes (scalar t c n x) = ⊤

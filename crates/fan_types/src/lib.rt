@@ -2,7 +2,7 @@
 //!
 //! | Item | What it answers of octets | In `specs/` |
 //! |---|---|---|
-//! | [`check`] | whether they are the DER of a value of the type, and if not where and why | `Checks` |
+//! | [`check`] | whether they are the DER of a value of the type, and if not where and why | `Checks`, `OpenTypes` |
 //! | [`der`] | the DER of the value that they are in BER | `Conversions` |
 //! | [`text`], [`json`] | the text of that value in X.680's notation, and its JSON | `Conversions` |
 //!
