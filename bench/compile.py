@@ -82,7 +82,7 @@ TABLE = {
 
 # The files of src/, and the folders of specs and proofs, that are written by hand in crates that are printed otherwise.
 BY_HAND = {
-    "asn1_x509": ("src/laws.rt", "src/signed.rt", "src/valid.rt", "specs/", "proofs/"),
+    "asn1_x509": ("src/laws.rt", "src/signed.rt", "src/valid.rt", "specs/", "proofs/laws/"),
     "asn1_x509_extensions": ("src/laws.rt", "src/valid.rt", "specs/", "proofs/"),
 }
 
@@ -199,7 +199,9 @@ def clone_with(name, files):
         lay(clone / "crates" / crate, files)
         lines = [line for line in (clone / "crates.txt").read_text().splitlines() if not line.startswith(f"{crate}:")]
         circles = ["asn1_circles"] if any(path.startswith("specs/") for path in files) else []
-        lines.append(" ".join([f"{crate}: asn1_schema asn1_tags", *circles, *libraries]))
+        lawful = any(path.endswith("_has_one_spelling/Answers.antt") for path in files)
+        laws = ["asn1_model", "asn1_slots", "asn1_spelling"] if lawful else []
+        lines.append(" ".join([f"{crate}: asn1_schema asn1_tags", *circles, *laws, *libraries]))
         (clone / "crates.txt").write_text("\n".join(lines) + "\n")
         yield clone
 

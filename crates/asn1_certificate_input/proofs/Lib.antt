@@ -1,4 +1,3 @@
-mod CertificateSets
 mod Differences
 mod NextAnswers
 mod Readings

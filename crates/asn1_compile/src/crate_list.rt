@@ -7,9 +7,16 @@ use std::alloc::AllocError;
 use std::fmt::Write;
 use std::fs;
 
-// The fronts of the names of libraries that a crate may name: that of the types whose values are kept as their contents octets, and
-// that of the values of open types.
-const LIBRARIES: &[&str] = &["asn1_contents::", "asn1_tables::"];
+// What a file has that names a library, with the library: the types whose values are kept as their contents octets, the values of open
+// types, and what the laws of one spelling are of.
+const LIBRARIES: &[(&str, &str)] = &[
+    ("asn1_contents::", "asn1_contents"),
+    ("asn1_tables::", "asn1_tables"),
+    ("Rattle.asn1_model.", "asn1_model"),
+    ("Rattle.asn1_slots.", "asn1_slots"),
+    ("Rattle.asn1_spelling.", "asn1_spelling"),
+    ("asn1_spelling::", "asn1_spelling"),
+];
 
 // The library of the types that hold themselves.
 const CIRCLES: &str = "asn1_circles";
@@ -73,8 +80,8 @@ fn missing_lines<'a>(
     let mut lines = String::new(rt.alloc());
     if !is_listed(list, crate_name) {
         write!(&mut lines, "{crate_name}: asn1_schema asn1_tags")?;
-        for library in LIBRARIES {
-            if files.iter().any(|file| names_library(file, library)) {
+        for (words, library) in LIBRARIES {
+            if files.iter().any(|file| has_words(file, words)) {
                 push_library(&mut lines, library)?;
             }
         }
@@ -98,9 +105,9 @@ fn missing_lines<'a>(
     Ok(lines)
 }
 
-// Whether a file names something of a library, by the front of its names.
-fn names_library(file: &PrintedFile, front: &str) -> bool {
-    file.text.as_str().contains(front)
+// Whether a file has these words.
+fn has_words(file: &PrintedFile, words: &str) -> bool {
+    file.text.as_str().contains(words)
 }
 
 // Whether a file has definitions: a crate has them for types that hold themselves.

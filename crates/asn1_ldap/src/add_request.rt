@@ -1,13 +1,17 @@
 //! `AddRequest ::= [APPLICATION 8] SEQUENCE { entry LDAPDN, attributes AttributeList }`
 ghost use Rattle.std.specs.Prelude.{[], codes, ◌∷◌};
 ghost use Rattle.asn1_schema.specs.Words.{IsWellTagged, application, constructed_agrees, constructed_type_under, extensible_sequence_after, required_slot, untagged};
+ghost use Rattle.asn1_model.specs.DistinctSets.{SetsAreDistinct};
+ghost use Rattle.asn1_model.specs.WrittenAlike.{AreWrittenAlike};
 
-use crate::aliases::{AttributeList, Ldapdn};
+use crate::aliases::{Attribute, AttributeList, Ldapdn};
+use crate::partial_attribute::partial_attribute_has_one_spelling;
 use asn1_schema::{
     AsnType, Constraints, ConstructedType, Decode, DecodeByIndex, DecodeError, Decoded, Decoder,
     Encode, EncodeError, EncodeFields, Encoder, Field, FieldTable, Identifier, Tag, Tagging,
     TypeTable, decode_sequence_naming_errors, required,
 };
+use asn1_spelling::{equal_lists_are_written_alike, sets_in_lists_are_distinct};
 use asn1_tags::tag;
 use std::alloc::{AllocError, Global};
 
@@ -82,6 +86,16 @@ impl ConstructedType for AddRequest {
 pub fn add_request_is_well_tagged()
     ensures { IsWellTagged ⟦<AddRequest as AsnType>⟧.meaning }
 {}
+
+/// Equal values are written alike, and in each value the components of a SET have distinct tags: the DER of a value is its only spelling.
+pub fn add_request_has_one_spelling()
+    ensures alike { AreWrittenAlike ⟦<AddRequest as AsnType>⟧.meaning ⟦<AddRequest as PartialEq>⟧.eq }
+    ensures distinct { SetsAreDistinct ⟦<AddRequest as AsnType>⟧.meaning }
+{
+    partial_attribute_has_one_spelling();
+    equal_lists_are_written_alike::<Attribute>();
+    sets_in_lists_are_distinct::<Attribute>();
+}
 
 impl Encode for AddRequest {
     fn encode_with_tag_and_constraints<E: Encoder>(

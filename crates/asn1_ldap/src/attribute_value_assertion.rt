@@ -8,6 +8,8 @@
 //! ```
 ghost use Rattle.std.specs.Prelude.{[], codes, ◌∷◌};
 ghost use Rattle.asn1_schema.specs.Words.{IsWellTagged, constructed_agrees, constructed_type, extensible_sequence_after, required_slot, untagged};
+ghost use Rattle.asn1_model.specs.DistinctSets.{SetsAreDistinct};
+ghost use Rattle.asn1_model.specs.WrittenAlike.{AreWrittenAlike};
 
 use crate::aliases::{AssertionValue, AttributeDescription};
 use asn1_schema::{
@@ -87,6 +89,12 @@ impl ConstructedType for AttributeValueAssertion {
 /// An `AttributeValueAssertion` can be inside other types.
 pub fn attribute_value_assertion_is_well_tagged()
     ensures { IsWellTagged ⟦<AttributeValueAssertion as AsnType>⟧.meaning }
+{}
+
+/// Equal values are written alike, and in each value the components of a SET have distinct tags: the DER of a value is its only spelling.
+pub fn attribute_value_assertion_has_one_spelling()
+    ensures alike { AreWrittenAlike ⟦<AttributeValueAssertion as AsnType>⟧.meaning ⟦<AttributeValueAssertion as PartialEq>⟧.eq }
+    ensures distinct { SetsAreDistinct ⟦<AttributeValueAssertion as AsnType>⟧.meaning }
 {}
 
 impl Encode for AttributeValueAssertion {

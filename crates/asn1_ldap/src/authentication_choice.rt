@@ -2,8 +2,10 @@
 ghost use Rattle.std.specs.Prelude.{[], codes, refl, ◌∷◌};
 ghost use Rattle.asn1_schema.specs.Words.{IsWellTagged, choice_agrees, choice_of, context, extensible_choice_after, inl, inr, tagged, variant};
 ghost use Rattle.asn1_ldap.specs.declared.authentication_choice.AuthenticationChoice.TheVariants.{Simple, Sasl};
+ghost use Rattle.asn1_model.specs.DistinctSets.{SetsAreDistinct};
+ghost use Rattle.asn1_model.specs.WrittenAlike.{AreWrittenAlike};
 
-use crate::sasl_credentials::SaslCredentials;
+use crate::sasl_credentials::{SaslCredentials, sasl_credentials_has_one_spelling};
 use asn1_schema::{
     AsnType, Choice, ChoiceType, Constraints, Decode, DecodeChoice, DecodeChoiceByIndex,
     DecodeError, Decoder, Encode, EncodeChoice, EncodeError, Encoder, Identifier, OctetString, Tag,
@@ -84,6 +86,14 @@ impl ChoiceType for AuthenticationChoice {
 pub fn authentication_choice_is_well_tagged()
     ensures { IsWellTagged ⟦<AuthenticationChoice as AsnType>⟧.meaning }
 {}
+
+/// Equal values are written alike, and in each value the components of a SET have distinct tags: the DER of a value is its only spelling.
+pub fn authentication_choice_has_one_spelling()
+    ensures alike { AreWrittenAlike ⟦<AuthenticationChoice as AsnType>⟧.meaning ⟦<AuthenticationChoice as PartialEq>⟧.eq }
+    ensures distinct { SetsAreDistinct ⟦<AuthenticationChoice as AsnType>⟧.meaning }
+{
+    sasl_credentials_has_one_spelling();
+}
 
 impl Encode for AuthenticationChoice {
     fn encode_with_tag_and_constraints<E: Encoder>(

@@ -9,9 +9,11 @@
 //! ```
 ghost use Rattle.std.specs.Prelude.{[], codes, ◌∷◌};
 ghost use Rattle.asn1_schema.specs.Words.{IsWellTagged, application, constructed_agrees, constructed_type_under, extensible_sequence_after, required_slot, untagged};
+ghost use Rattle.asn1_model.specs.DistinctSets.{SetsAreDistinct};
+ghost use Rattle.asn1_model.specs.WrittenAlike.{AreWrittenAlike};
 
 use crate::aliases::Ldapdn;
-use crate::authentication_choice::AuthenticationChoice;
+use crate::authentication_choice::{AuthenticationChoice, authentication_choice_has_one_spelling};
 use asn1_schema::{
     AsnType, ConstrainedInteger, Constraints, ConstructedType, Decode, DecodeByIndex, DecodeError,
     Decoded, Decoder, Encode, EncodeError, EncodeFields, Encoder, Field, FieldTable, Identifier,
@@ -101,6 +103,14 @@ impl ConstructedType for BindRequest {
 pub fn bind_request_is_well_tagged()
     ensures { IsWellTagged ⟦<BindRequest as AsnType>⟧.meaning }
 {}
+
+/// Equal values are written alike, and in each value the components of a SET have distinct tags: the DER of a value is its only spelling.
+pub fn bind_request_has_one_spelling()
+    ensures alike { AreWrittenAlike ⟦<BindRequest as AsnType>⟧.meaning ⟦<BindRequest as PartialEq>⟧.eq }
+    ensures distinct { SetsAreDistinct ⟦<BindRequest as AsnType>⟧.meaning }
+{
+    authentication_choice_has_one_spelling();
+}
 
 impl Encode for BindRequest {
     fn encode_with_tag_and_constraints<E: Encoder>(

@@ -8,14 +8,19 @@
 //! ```
 ghost use Rattle.std.specs.Prelude.{[], codes, ◌∷◌};
 ghost use Rattle.asn1_schema.specs.Words.{IsWellTagged, application, constructed_agrees, constructed_type_under, context, extensible_sequence_after, optional_slot, required_slot, tagged, untagged};
+ghost use Rattle.asn1_model.specs.DistinctSets.{SetsAreDistinct};
+ghost use Rattle.asn1_model.specs.WrittenAlike.{AreWrittenAlike};
 
-use crate::aliases::{LdapString, Ldapdn, Referral};
-use crate::ldap_result_result_code::LdapResultResultCode;
+use crate::aliases::{LdapString, Ldapdn, Referral, Uri};
+use crate::ldap_result_result_code::{
+    LdapResultResultCode, ldap_result_result_code_has_one_spelling,
+};
 use asn1_schema::{
     AsnType, Constraints, ConstructedType, Decode, DecodeByIndex, DecodeError, Decoded, Decoder,
     Encode, EncodeError, EncodeFields, Encoder, Field, FieldTable, Identifier, OctetString, Tag,
     Tagging, TypeTable, decode_sequence_naming_errors, optional, required,
 };
+use asn1_spelling::{equal_lists_are_written_alike, sets_in_lists_are_distinct};
 use asn1_tags::tag;
 use std::alloc::{AllocError, Global};
 
@@ -122,6 +127,16 @@ impl ConstructedType for BindResponse {
 pub fn bind_response_is_well_tagged()
     ensures { IsWellTagged ⟦<BindResponse as AsnType>⟧.meaning }
 {}
+
+/// Equal values are written alike, and in each value the components of a SET have distinct tags: the DER of a value is its only spelling.
+pub fn bind_response_has_one_spelling()
+    ensures alike { AreWrittenAlike ⟦<BindResponse as AsnType>⟧.meaning ⟦<BindResponse as PartialEq>⟧.eq }
+    ensures distinct { SetsAreDistinct ⟦<BindResponse as AsnType>⟧.meaning }
+{
+    ldap_result_result_code_has_one_spelling();
+    equal_lists_are_written_alike::<Uri>();
+    sets_in_lists_are_distinct::<Uri>();
+}
 
 impl Encode for BindResponse {
     fn encode_with_tag_and_constraints<E: Encoder>(

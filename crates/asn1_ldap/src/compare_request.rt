@@ -1,9 +1,13 @@
 //! `CompareRequest ::= [APPLICATION 14] SEQUENCE { entry LDAPDN, ava AttributeValueAssertion }`
 ghost use Rattle.std.specs.Prelude.{[], codes, ◌∷◌};
 ghost use Rattle.asn1_schema.specs.Words.{IsWellTagged, application, constructed_agrees, constructed_type_under, extensible_sequence_after, required_slot, untagged};
+ghost use Rattle.asn1_model.specs.DistinctSets.{SetsAreDistinct};
+ghost use Rattle.asn1_model.specs.WrittenAlike.{AreWrittenAlike};
 
 use crate::aliases::Ldapdn;
-use crate::attribute_value_assertion::AttributeValueAssertion;
+use crate::attribute_value_assertion::{
+    AttributeValueAssertion, attribute_value_assertion_has_one_spelling,
+};
 use asn1_schema::{
     AsnType, Constraints, ConstructedType, Decode, DecodeByIndex, DecodeError, Decoded, Decoder,
     Encode, EncodeError, EncodeFields, Encoder, Field, FieldTable, Identifier, Tag, Tagging,
@@ -83,6 +87,14 @@ impl ConstructedType for CompareRequest {
 pub fn compare_request_is_well_tagged()
     ensures { IsWellTagged ⟦<CompareRequest as AsnType>⟧.meaning }
 {}
+
+/// Equal values are written alike, and in each value the components of a SET have distinct tags: the DER of a value is its only spelling.
+pub fn compare_request_has_one_spelling()
+    ensures alike { AreWrittenAlike ⟦<CompareRequest as AsnType>⟧.meaning ⟦<CompareRequest as PartialEq>⟧.eq }
+    ensures distinct { SetsAreDistinct ⟦<CompareRequest as AsnType>⟧.meaning }
+{
+    attribute_value_assertion_has_one_spelling();
+}
 
 impl Encode for CompareRequest {
     fn encode_with_tag_and_constraints<E: Encoder>(

@@ -9,6 +9,8 @@
 //! ```
 ghost use Rattle.std.specs.Prelude.{[], codes, false, ◌∷◌};
 ghost use Rattle.asn1_schema.specs.Words.{IsWellTagged, constructed_agrees, constructed_type, default_slot, extensible_sequence_after, optional_slot, required_slot, untagged};
+ghost use Rattle.asn1_model.specs.DistinctSets.{SetsAreDistinct};
+ghost use Rattle.asn1_model.specs.WrittenAlike.{AreWrittenAlike};
 
 use crate::aliases::Ldapoid;
 use asn1_schema::{
@@ -94,6 +96,12 @@ impl ConstructedType for Control {
 /// A `Control` can be inside other types.
 pub fn control_is_well_tagged()
     ensures { IsWellTagged ⟦<Control as AsnType>⟧.meaning }
+{}
+
+/// Equal values are written alike, and in each value the components of a SET have distinct tags: the DER of a value is its only spelling.
+pub fn control_has_one_spelling()
+    ensures alike { AreWrittenAlike ⟦<Control as AsnType>⟧.meaning ⟦<Control as PartialEq>⟧.eq }
+    ensures distinct { SetsAreDistinct ⟦<Control as AsnType>⟧.meaning }
 {}
 
 impl Encode for Control {

@@ -8,6 +8,8 @@
 //! ```
 ghost use Rattle.std.specs.Prelude.{[], codes, ◌∷◌};
 ghost use Rattle.asn1_schema.specs.Words.{IsWellTagged, application, constructed_agrees, constructed_type_under, context, extensible_sequence_after, optional_slot, required_slot, tagged};
+ghost use Rattle.asn1_model.specs.DistinctSets.{SetsAreDistinct};
+ghost use Rattle.asn1_model.specs.WrittenAlike.{AreWrittenAlike};
 
 use crate::aliases::Ldapoid;
 use asn1_schema::{
@@ -96,6 +98,12 @@ impl ConstructedType for ExtendedRequest {
 /// An `ExtendedRequest` can be inside other types.
 pub fn extended_request_is_well_tagged()
     ensures { IsWellTagged ⟦<ExtendedRequest as AsnType>⟧.meaning }
+{}
+
+/// Equal values are written alike, and in each value the components of a SET have distinct tags: the DER of a value is its only spelling.
+pub fn extended_request_has_one_spelling()
+    ensures alike { AreWrittenAlike ⟦<ExtendedRequest as AsnType>⟧.meaning ⟦<ExtendedRequest as PartialEq>⟧.eq }
+    ensures distinct { SetsAreDistinct ⟦<ExtendedRequest as AsnType>⟧.meaning }
 {}
 
 impl Encode for ExtendedRequest {

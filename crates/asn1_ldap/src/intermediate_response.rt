@@ -8,6 +8,8 @@
 //! ```
 ghost use Rattle.std.specs.Prelude.{[], codes, ◌∷◌};
 ghost use Rattle.asn1_schema.specs.Words.{IsWellTagged, application, constructed_agrees, constructed_type_under, context, extensible_sequence_after, optional_slot, tagged};
+ghost use Rattle.asn1_model.specs.DistinctSets.{SetsAreDistinct};
+ghost use Rattle.asn1_model.specs.WrittenAlike.{AreWrittenAlike};
 
 use crate::aliases::Ldapoid;
 use asn1_schema::{
@@ -99,6 +101,12 @@ impl ConstructedType for IntermediateResponse {
 /// An `IntermediateResponse` can be inside other types.
 pub fn intermediate_response_is_well_tagged()
     ensures { IsWellTagged ⟦<IntermediateResponse as AsnType>⟧.meaning }
+{}
+
+/// Equal values are written alike, and in each value the components of a SET have distinct tags: the DER of a value is its only spelling.
+pub fn intermediate_response_has_one_spelling()
+    ensures alike { AreWrittenAlike ⟦<IntermediateResponse as AsnType>⟧.meaning ⟦<IntermediateResponse as PartialEq>⟧.eq }
+    ensures distinct { SetsAreDistinct ⟦<IntermediateResponse as AsnType>⟧.meaning }
 {}
 
 impl Encode for IntermediateResponse {

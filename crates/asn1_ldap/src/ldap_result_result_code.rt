@@ -60,6 +60,8 @@
 ghost use Rattle.std.specs.Prelude.{codes, refl};
 ghost use Rattle.asn1_schema.specs.Words.{IsWellTagged, by_test, enumeration_agrees, enumeration_type, extensible_enumeration, items_of};
 ghost use Rattle.asn1_ldap.specs.declared.ldap_result_result_code.LdapResultResultCode.TheVariants.{Success, OperationsError, ProtocolError, TimeLimitExceeded, SizeLimitExceeded, CompareFalse, CompareTrue, AuthMethodNotSupported, StrongerAuthRequired, Referral, AdminLimitExceeded, UnavailableCriticalExtension, ConfidentialityRequired, SaslBindInProgress, NoSuchAttribute, UndefinedAttributeType, InappropriateMatching, ConstraintViolation, AttributeOrValueExists, InvalidAttributeSyntax, NoSuchObject, AliasProblem, InvalidDnSyntax, AliasDereferencingProblem, InappropriateAuthentication, InvalidCredentials, InsufficientAccessRights, Busy, Unavailable, UnwillingToPerform, LoopDetect, NamingViolation, ObjectClassViolation, NotAllowedOnNonLeaf, NotAllowedOnRdn, EntryAlreadyExists, ObjectClassModsProhibited, AffectsMultipleDsas, Other, LcupResourcesExhausted, LcupSecurityViolation, LcupInvalidData, LcupUnsupportedScheme, LcupReloadRequired, Canceled, NoSuchOperation, TooLate, CannotCancel, AssertionFailed, AuthorizationDenied, ESyncRefreshRequired, NoOperation};
+ghost use Rattle.asn1_model.specs.DistinctSets.{SetsAreDistinct};
+ghost use Rattle.asn1_model.specs.WrittenAlike.{AreWrittenAlike};
 
 use asn1_schema::{
     AsnType, Constraints, Decode, DecodeError, Decoder, Encode, EncodeError, Encoder, Enumerated,
@@ -398,6 +400,12 @@ impl Enumerated for LdapResultResultCode {
 /// A `LdapResultResultCode` can be inside other types.
 pub fn ldap_result_result_code_is_well_tagged()
     ensures { IsWellTagged ⟦<LdapResultResultCode as AsnType>⟧.meaning }
+{}
+
+/// Equal values are written alike, and in each value the components of a SET have distinct tags: the DER of a value is its only spelling.
+pub fn ldap_result_result_code_has_one_spelling()
+    ensures alike { AreWrittenAlike ⟦<LdapResultResultCode as AsnType>⟧.meaning ⟦<LdapResultResultCode as PartialEq>⟧.eq }
+    ensures distinct { SetsAreDistinct ⟦<LdapResultResultCode as AsnType>⟧.meaning }
 {}
 
 impl Encode for LdapResultResultCode {

@@ -38,51 +38,111 @@ mod substring_filter;
 mod substring_filter_substrings_element;
 pub mod tags;
 
-pub use add_request::{AddRequest, add_request_is_well_tagged};
-pub use aliases::{
-    AbandonRequest, AddResponse, AssertionValue, Attribute, AttributeDescription, AttributeList,
-    AttributeSelection, AttributeValue, CompareResponse, Controls, DelRequest, DelResponse,
-    LdapString, Ldapdn, Ldapoid, MatchingRuleId, MessageId, ModifyDnResponse, ModifyResponse,
-    PartialAttributeList, Referral, RelativeLdapdn, SearchResultDone, SearchResultReference,
-    UnbindRequest, Uri,
-};
-pub use attribute_value_assertion::{
-    AttributeValueAssertion, attribute_value_assertion_is_well_tagged,
-};
-pub use authentication_choice::{AuthenticationChoice, authentication_choice_is_well_tagged};
-pub use bind_request::{BindRequest, bind_request_is_well_tagged};
-pub use bind_response::{BindResponse, bind_response_is_well_tagged};
-pub use compare_request::{CompareRequest, compare_request_is_well_tagged};
-pub use control::{Control, control_is_well_tagged};
-pub use extended_request::{ExtendedRequest, extended_request_is_well_tagged};
-pub use extended_response::{ExtendedResponse, extended_response_is_well_tagged};
-pub use filter::{Filter, each_filter_is_valid, filter_is_well_tagged};
+pub use add_request::AddRequest;
+pub use add_request::add_request_has_one_spelling;
+pub use add_request::add_request_is_well_tagged;
+pub use aliases::AbandonRequest;
+pub use aliases::AddResponse;
+pub use aliases::AssertionValue;
+pub use aliases::Attribute;
+pub use aliases::AttributeDescription;
+pub use aliases::AttributeList;
+pub use aliases::AttributeSelection;
+pub use aliases::AttributeValue;
+pub use aliases::CompareResponse;
+pub use aliases::Controls;
+pub use aliases::DelRequest;
+pub use aliases::DelResponse;
+pub use aliases::LdapString;
+pub use aliases::Ldapdn;
+pub use aliases::Ldapoid;
+pub use aliases::MatchingRuleId;
+pub use aliases::MessageId;
+pub use aliases::ModifyDnResponse;
+pub use aliases::ModifyResponse;
+pub use aliases::PartialAttributeList;
+pub use aliases::Referral;
+pub use aliases::RelativeLdapdn;
+pub use aliases::SearchResultDone;
+pub use aliases::SearchResultReference;
+pub use aliases::UnbindRequest;
+pub use aliases::Uri;
+pub use attribute_value_assertion::AttributeValueAssertion;
+pub use attribute_value_assertion::attribute_value_assertion_has_one_spelling;
+pub use attribute_value_assertion::attribute_value_assertion_is_well_tagged;
+pub use authentication_choice::AuthenticationChoice;
+pub use authentication_choice::authentication_choice_has_one_spelling;
+pub use authentication_choice::authentication_choice_is_well_tagged;
+pub use bind_request::BindRequest;
+pub use bind_request::bind_request_has_one_spelling;
+pub use bind_request::bind_request_is_well_tagged;
+pub use bind_response::BindResponse;
+pub use bind_response::bind_response_has_one_spelling;
+pub use bind_response::bind_response_is_well_tagged;
+pub use compare_request::CompareRequest;
+pub use compare_request::compare_request_has_one_spelling;
+pub use compare_request::compare_request_is_well_tagged;
+pub use control::Control;
+pub use control::control_has_one_spelling;
+pub use control::control_is_well_tagged;
+pub use extended_request::ExtendedRequest;
+pub use extended_request::extended_request_has_one_spelling;
+pub use extended_request::extended_request_is_well_tagged;
+pub use extended_response::ExtendedResponse;
+pub use extended_response::extended_response_has_one_spelling;
+pub use extended_response::extended_response_is_well_tagged;
+pub use filter::Filter;
+pub use filter::each_filter_is_valid;
+pub use filter::filter_is_well_tagged;
 pub use filter_of::FilterOf;
-pub use intermediate_response::{IntermediateResponse, intermediate_response_is_well_tagged};
-pub use ldap_message::{LdapMessage, ldap_message_is_well_tagged};
-pub use ldap_message_protocol_op::{
-    LdapMessageProtocolOp, ldap_message_protocol_op_is_well_tagged,
-};
-pub use ldap_result::{LdapResult, ldap_result_is_well_tagged};
-pub use ldap_result_result_code::{LdapResultResultCode, ldap_result_result_code_is_well_tagged};
-pub use matching_rule_assertion::{MatchingRuleAssertion, matching_rule_assertion_is_well_tagged};
-pub use modify_dn_request::{ModifyDnRequest, modify_dn_request_is_well_tagged};
-pub use modify_request::{ModifyRequest, modify_request_is_well_tagged};
-pub use modify_request_changes_element::{
-    ModifyRequestChangesElement, modify_request_changes_element_is_well_tagged,
-};
-pub use modify_request_changes_element_operation::{
-    ModifyRequestChangesElementOperation, modify_request_changes_element_operation_is_well_tagged,
-};
-pub use partial_attribute::{PartialAttribute, partial_attribute_is_well_tagged};
-pub use sasl_credentials::{SaslCredentials, sasl_credentials_is_well_tagged};
-pub use search_request::{SearchRequest, search_request_is_well_tagged};
-pub use search_request_deref_aliases::{
-    SearchRequestDerefAliases, search_request_deref_aliases_is_well_tagged,
-};
-pub use search_request_scope::{SearchRequestScope, search_request_scope_is_well_tagged};
-pub use search_result_entry::{SearchResultEntry, search_result_entry_is_well_tagged};
-pub use substring_filter::{SubstringFilter, substring_filter_is_well_tagged};
-pub use substring_filter_substrings_element::{
-    SubstringFilterSubstringsElement, substring_filter_substrings_element_is_well_tagged,
-};
+pub use intermediate_response::IntermediateResponse;
+pub use intermediate_response::intermediate_response_has_one_spelling;
+pub use intermediate_response::intermediate_response_is_well_tagged;
+pub use ldap_message::LdapMessage;
+pub use ldap_message::ldap_message_is_well_tagged;
+pub use ldap_message_protocol_op::LdapMessageProtocolOp;
+pub use ldap_message_protocol_op::ldap_message_protocol_op_is_well_tagged;
+pub use ldap_result::LdapResult;
+pub use ldap_result::ldap_result_has_one_spelling;
+pub use ldap_result::ldap_result_is_well_tagged;
+pub use ldap_result_result_code::LdapResultResultCode;
+pub use ldap_result_result_code::ldap_result_result_code_has_one_spelling;
+pub use ldap_result_result_code::ldap_result_result_code_is_well_tagged;
+pub use matching_rule_assertion::MatchingRuleAssertion;
+pub use matching_rule_assertion::matching_rule_assertion_has_one_spelling;
+pub use matching_rule_assertion::matching_rule_assertion_is_well_tagged;
+pub use modify_dn_request::ModifyDnRequest;
+pub use modify_dn_request::modify_dn_request_has_one_spelling;
+pub use modify_dn_request::modify_dn_request_is_well_tagged;
+pub use modify_request::ModifyRequest;
+pub use modify_request::modify_request_has_one_spelling;
+pub use modify_request::modify_request_is_well_tagged;
+pub use modify_request_changes_element::ModifyRequestChangesElement;
+pub use modify_request_changes_element::modify_request_changes_element_has_one_spelling;
+pub use modify_request_changes_element::modify_request_changes_element_is_well_tagged;
+pub use modify_request_changes_element_operation::ModifyRequestChangesElementOperation;
+pub use modify_request_changes_element_operation::modify_request_changes_element_operation_has_one_spelling;
+pub use modify_request_changes_element_operation::modify_request_changes_element_operation_is_well_tagged;
+pub use partial_attribute::PartialAttribute;
+pub use partial_attribute::partial_attribute_has_one_spelling;
+pub use partial_attribute::partial_attribute_is_well_tagged;
+pub use sasl_credentials::SaslCredentials;
+pub use sasl_credentials::sasl_credentials_has_one_spelling;
+pub use sasl_credentials::sasl_credentials_is_well_tagged;
+pub use search_request::SearchRequest;
+pub use search_request::search_request_is_well_tagged;
+pub use search_request_deref_aliases::SearchRequestDerefAliases;
+pub use search_request_deref_aliases::search_request_deref_aliases_has_one_spelling;
+pub use search_request_deref_aliases::search_request_deref_aliases_is_well_tagged;
+pub use search_request_scope::SearchRequestScope;
+pub use search_request_scope::search_request_scope_has_one_spelling;
+pub use search_request_scope::search_request_scope_is_well_tagged;
+pub use search_result_entry::SearchResultEntry;
+pub use search_result_entry::search_result_entry_has_one_spelling;
+pub use search_result_entry::search_result_entry_is_well_tagged;
+pub use substring_filter::SubstringFilter;
+pub use substring_filter::substring_filter_has_one_spelling;
+pub use substring_filter::substring_filter_is_well_tagged;
+pub use substring_filter_substrings_element::SubstringFilterSubstringsElement;
+pub use substring_filter_substrings_element::substring_filter_substrings_element_has_one_spelling;
+pub use substring_filter_substrings_element::substring_filter_substrings_element_is_well_tagged;

@@ -10,6 +10,8 @@
 //! ```
 ghost use Rattle.std.specs.Prelude.{[], codes, false, ◌∷◌};
 ghost use Rattle.asn1_schema.specs.Words.{IsWellTagged, constructed_agrees, constructed_type, context, default_slot, extensible_sequence_after, optional_slot, required_slot, tagged};
+ghost use Rattle.asn1_model.specs.DistinctSets.{SetsAreDistinct};
+ghost use Rattle.asn1_model.specs.WrittenAlike.{AreWrittenAlike};
 
 use crate::aliases::{AssertionValue, AttributeDescription, MatchingRuleId};
 use asn1_schema::{
@@ -119,6 +121,12 @@ impl ConstructedType for MatchingRuleAssertion {
 /// A `MatchingRuleAssertion` can be inside other types.
 pub fn matching_rule_assertion_is_well_tagged()
     ensures { IsWellTagged ⟦<MatchingRuleAssertion as AsnType>⟧.meaning }
+{}
+
+/// Equal values are written alike, and in each value the components of a SET have distinct tags: the DER of a value is its only spelling.
+pub fn matching_rule_assertion_has_one_spelling()
+    ensures alike { AreWrittenAlike ⟦<MatchingRuleAssertion as AsnType>⟧.meaning ⟦<MatchingRuleAssertion as PartialEq>⟧.eq }
+    ensures distinct { SetsAreDistinct ⟦<MatchingRuleAssertion as AsnType>⟧.meaning }
 {}
 
 impl Encode for MatchingRuleAssertion {

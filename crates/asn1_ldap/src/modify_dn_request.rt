@@ -10,6 +10,8 @@
 //! ```
 ghost use Rattle.std.specs.Prelude.{[], codes, ◌∷◌};
 ghost use Rattle.asn1_schema.specs.Words.{IsWellTagged, application, constructed_agrees, constructed_type_under, context, extensible_sequence_after, optional_slot, required_slot, tagged, untagged};
+ghost use Rattle.asn1_model.specs.DistinctSets.{SetsAreDistinct};
+ghost use Rattle.asn1_model.specs.WrittenAlike.{AreWrittenAlike};
 
 use crate::aliases::{Ldapdn, RelativeLdapdn};
 use asn1_schema::{
@@ -111,6 +113,12 @@ impl ConstructedType for ModifyDnRequest {
 /// A `ModifyDnRequest` can be inside other types.
 pub fn modify_dn_request_is_well_tagged()
     ensures { IsWellTagged ⟦<ModifyDnRequest as AsnType>⟧.meaning }
+{}
+
+/// Equal values are written alike, and in each value the components of a SET have distinct tags: the DER of a value is its only spelling.
+pub fn modify_dn_request_has_one_spelling()
+    ensures alike { AreWrittenAlike ⟦<ModifyDnRequest as AsnType>⟧.meaning ⟦<ModifyDnRequest as PartialEq>⟧.eq }
+    ensures distinct { SetsAreDistinct ⟦<ModifyDnRequest as AsnType>⟧.meaning }
 {}
 
 impl Encode for ModifyDnRequest {

@@ -8,14 +8,19 @@
 //! ```
 ghost use Rattle.std.specs.Prelude.{[], codes, ◌∷◌};
 ghost use Rattle.asn1_schema.specs.Words.{IsWellTagged, application, constructed_agrees, constructed_type_under, extensible_sequence_after, required_slot, untagged};
+ghost use Rattle.asn1_model.specs.DistinctSets.{SetsAreDistinct};
+ghost use Rattle.asn1_model.specs.WrittenAlike.{AreWrittenAlike};
 
 use crate::aliases::Ldapdn;
-use crate::modify_request_changes_element::ModifyRequestChangesElement;
+use crate::modify_request_changes_element::{
+    ModifyRequestChangesElement, modify_request_changes_element_has_one_spelling,
+};
 use asn1_schema::{
     AsnType, Constraints, ConstructedType, Decode, DecodeByIndex, DecodeError, Decoded, Decoder,
     Encode, EncodeError, EncodeFields, Encoder, Field, FieldTable, Identifier, Tag, Tagging,
     TypeTable, decode_sequence_naming_errors, required,
 };
+use asn1_spelling::{equal_lists_are_written_alike, sets_in_lists_are_distinct};
 use asn1_tags::tag;
 use std::alloc::{AllocError, Global};
 
@@ -90,6 +95,16 @@ impl ConstructedType for ModifyRequest {
 pub fn modify_request_is_well_tagged()
     ensures { IsWellTagged ⟦<ModifyRequest as AsnType>⟧.meaning }
 {}
+
+/// Equal values are written alike, and in each value the components of a SET have distinct tags: the DER of a value is its only spelling.
+pub fn modify_request_has_one_spelling()
+    ensures alike { AreWrittenAlike ⟦<ModifyRequest as AsnType>⟧.meaning ⟦<ModifyRequest as PartialEq>⟧.eq }
+    ensures distinct { SetsAreDistinct ⟦<ModifyRequest as AsnType>⟧.meaning }
+{
+    modify_request_changes_element_has_one_spelling();
+    equal_lists_are_written_alike::<ModifyRequestChangesElement>();
+    sets_in_lists_are_distinct::<ModifyRequestChangesElement>();
+}
 
 impl Encode for ModifyRequest {
     fn encode_with_tag_and_constraints<E: Encoder>(

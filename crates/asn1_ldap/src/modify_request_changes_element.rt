@@ -8,9 +8,13 @@
 //! ```
 ghost use Rattle.std.specs.Prelude.{[], codes, ◌∷◌};
 ghost use Rattle.asn1_schema.specs.Words.{IsWellTagged, constructed_agrees, constructed_type, extensible_sequence_after, required_slot, untagged};
+ghost use Rattle.asn1_model.specs.DistinctSets.{SetsAreDistinct};
+ghost use Rattle.asn1_model.specs.WrittenAlike.{AreWrittenAlike};
 
-use crate::modify_request_changes_element_operation::ModifyRequestChangesElementOperation;
-use crate::partial_attribute::PartialAttribute;
+use crate::modify_request_changes_element_operation::{
+    ModifyRequestChangesElementOperation, modify_request_changes_element_operation_has_one_spelling,
+};
+use crate::partial_attribute::{PartialAttribute, partial_attribute_has_one_spelling};
 use asn1_schema::{
     AsnType, Constraints, ConstructedType, Decode, DecodeByIndex, DecodeError, Decoded, Decoder,
     Encode, EncodeError, EncodeFields, Encoder, Field, FieldTable, Identifier, Tag, Tagging,
@@ -95,6 +99,15 @@ impl ConstructedType for ModifyRequestChangesElement {
 pub fn modify_request_changes_element_is_well_tagged()
     ensures { IsWellTagged ⟦<ModifyRequestChangesElement as AsnType>⟧.meaning }
 {}
+
+/// Equal values are written alike, and in each value the components of a SET have distinct tags: the DER of a value is its only spelling.
+pub fn modify_request_changes_element_has_one_spelling()
+    ensures alike { AreWrittenAlike ⟦<ModifyRequestChangesElement as AsnType>⟧.meaning ⟦<ModifyRequestChangesElement as PartialEq>⟧.eq }
+    ensures distinct { SetsAreDistinct ⟦<ModifyRequestChangesElement as AsnType>⟧.meaning }
+{
+    modify_request_changes_element_operation_has_one_spelling();
+    partial_attribute_has_one_spelling();
+}
 
 impl Encode for ModifyRequestChangesElement {
     fn encode_with_tag_and_constraints<E: Encoder>(

@@ -2,6 +2,8 @@
 ghost use Rattle.std.specs.Prelude.{codes, refl};
 ghost use Rattle.asn1_schema.specs.Words.{IsWellTagged, by_test, enumeration_agrees, enumeration_type, extensible_enumeration, items_of};
 ghost use Rattle.asn1_ldap.specs.declared.modify_request_changes_element_operation.ModifyRequestChangesElementOperation.TheVariants.{Add, Delete, Replace, Increment};
+ghost use Rattle.asn1_model.specs.DistinctSets.{SetsAreDistinct};
+ghost use Rattle.asn1_model.specs.WrittenAlike.{AreWrittenAlike};
 
 use asn1_schema::{
     AsnType, Constraints, Decode, DecodeError, Decoder, Encode, EncodeError, Encoder, Enumerated,
@@ -70,6 +72,12 @@ impl Enumerated for ModifyRequestChangesElementOperation {
 /// A `ModifyRequestChangesElementOperation` can be inside other types.
 pub fn modify_request_changes_element_operation_is_well_tagged()
     ensures { IsWellTagged ⟦<ModifyRequestChangesElementOperation as AsnType>⟧.meaning }
+{}
+
+/// Equal values are written alike, and in each value the components of a SET have distinct tags: the DER of a value is its only spelling.
+pub fn modify_request_changes_element_operation_has_one_spelling()
+    ensures alike { AreWrittenAlike ⟦<ModifyRequestChangesElementOperation as AsnType>⟧.meaning ⟦<ModifyRequestChangesElementOperation as PartialEq>⟧.eq }
+    ensures distinct { SetsAreDistinct ⟦<ModifyRequestChangesElementOperation as AsnType>⟧.meaning }
 {}
 
 impl Encode for ModifyRequestChangesElementOperation {

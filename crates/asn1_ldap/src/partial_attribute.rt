@@ -1,6 +1,8 @@
 //! `PartialAttribute ::= SEQUENCE { type AttributeDescription, vals SET OF value AttributeValue }`
 ghost use Rattle.std.specs.Prelude.{[], codes, ◌∷◌};
 ghost use Rattle.asn1_schema.specs.Words.{IsWellTagged, constructed_agrees, constructed_type, extensible_sequence_after, required_slot, untagged};
+ghost use Rattle.asn1_model.specs.DistinctSets.{SetsAreDistinct};
+ghost use Rattle.asn1_model.specs.WrittenAlike.{AreWrittenAlike};
 
 use crate::aliases::{AttributeDescription, AttributeValue};
 use asn1_schema::{
@@ -8,6 +10,7 @@ use asn1_schema::{
     Encode, EncodeError, EncodeFields, Encoder, Field, FieldTable, Identifier, SetOf, Tag, Tagging,
     TypeTable, decode_sequence_naming_errors, required,
 };
+use asn1_spelling::{equal_sets_of_are_written_alike, sets_in_sets_of_are_distinct};
 use std::alloc::{AllocError, Global};
 
 /// `PartialAttribute` of the module `Lightweight-Directory-Access-Protocol-V3`.
@@ -81,6 +84,15 @@ impl ConstructedType for PartialAttribute {
 pub fn partial_attribute_is_well_tagged()
     ensures { IsWellTagged ⟦<PartialAttribute as AsnType>⟧.meaning }
 {}
+
+/// Equal values are written alike, and in each value the components of a SET have distinct tags: the DER of a value is its only spelling.
+pub fn partial_attribute_has_one_spelling()
+    ensures alike { AreWrittenAlike ⟦<PartialAttribute as AsnType>⟧.meaning ⟦<PartialAttribute as PartialEq>⟧.eq }
+    ensures distinct { SetsAreDistinct ⟦<PartialAttribute as AsnType>⟧.meaning }
+{
+    equal_sets_of_are_written_alike::<AttributeValue>();
+    sets_in_sets_of_are_distinct::<AttributeValue>();
+}
 
 impl Encode for PartialAttribute {
     fn encode_with_tag_and_constraints<E: Encoder>(

@@ -1,6 +1,8 @@
 //! `SaslCredentials ::= SEQUENCE { mechanism LDAPString, credentials OCTET STRING OPTIONAL }`
 ghost use Rattle.std.specs.Prelude.{[], codes, ◌∷◌};
 ghost use Rattle.asn1_schema.specs.Words.{IsWellTagged, constructed_agrees, constructed_type, extensible_sequence_after, optional_slot, required_slot, untagged};
+ghost use Rattle.asn1_model.specs.DistinctSets.{SetsAreDistinct};
+ghost use Rattle.asn1_model.specs.WrittenAlike.{AreWrittenAlike};
 
 use crate::aliases::LdapString;
 use asn1_schema::{
@@ -80,6 +82,12 @@ impl ConstructedType for SaslCredentials {
 /// A `SaslCredentials` can be inside other types.
 pub fn sasl_credentials_is_well_tagged()
     ensures { IsWellTagged ⟦<SaslCredentials as AsnType>⟧.meaning }
+{}
+
+/// Equal values are written alike, and in each value the components of a SET have distinct tags: the DER of a value is its only spelling.
+pub fn sasl_credentials_has_one_spelling()
+    ensures alike { AreWrittenAlike ⟦<SaslCredentials as AsnType>⟧.meaning ⟦<SaslCredentials as PartialEq>⟧.eq }
+    ensures distinct { SetsAreDistinct ⟦<SaslCredentials as AsnType>⟧.meaning }
 {}
 
 impl Encode for SaslCredentials {

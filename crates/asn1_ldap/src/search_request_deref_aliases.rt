@@ -11,6 +11,8 @@
 ghost use Rattle.std.specs.Prelude.{codes, refl};
 ghost use Rattle.asn1_schema.specs.Words.{IsWellTagged, by_test, enumeration_agrees, enumeration_type, extensible_enumeration, items_of};
 ghost use Rattle.asn1_ldap.specs.declared.search_request_deref_aliases.SearchRequestDerefAliases.TheVariants.{NeverDerefAliases, DerefInSearching, DerefFindingBaseObj, DerefAlways};
+ghost use Rattle.asn1_model.specs.DistinctSets.{SetsAreDistinct};
+ghost use Rattle.asn1_model.specs.WrittenAlike.{AreWrittenAlike};
 
 use asn1_schema::{
     AsnType, Constraints, Decode, DecodeError, Decoder, Encode, EncodeError, Encoder, Enumerated,
@@ -89,6 +91,12 @@ impl Enumerated for SearchRequestDerefAliases {
 #[tactic(auto, using(asn1_schema::proofs::Trees::tree_shapes, crate::proofs::FilterTags::knot_can))]
 pub fn search_request_deref_aliases_is_well_tagged()
     ensures { IsWellTagged ⟦<SearchRequestDerefAliases as AsnType>⟧.meaning }
+{}
+
+/// Equal values are written alike, and in each value the components of a SET have distinct tags: the DER of a value is its only spelling.
+pub fn search_request_deref_aliases_has_one_spelling()
+    ensures alike { AreWrittenAlike ⟦<SearchRequestDerefAliases as AsnType>⟧.meaning ⟦<SearchRequestDerefAliases as PartialEq>⟧.eq }
+    ensures distinct { SetsAreDistinct ⟦<SearchRequestDerefAliases as AsnType>⟧.meaning }
 {}
 
 impl Encode for SearchRequestDerefAliases {

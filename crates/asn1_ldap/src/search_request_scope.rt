@@ -2,6 +2,8 @@
 ghost use Rattle.std.specs.Prelude.{codes, refl};
 ghost use Rattle.asn1_schema.specs.Words.{IsWellTagged, by_test, enumeration_agrees, enumeration_type, extensible_enumeration, items_of};
 ghost use Rattle.asn1_ldap.specs.declared.search_request_scope.SearchRequestScope.TheVariants.{BaseObject, SingleLevel, WholeSubtree, SubordinateSubtree};
+ghost use Rattle.asn1_model.specs.DistinctSets.{SetsAreDistinct};
+ghost use Rattle.asn1_model.specs.WrittenAlike.{AreWrittenAlike};
 
 use asn1_schema::{
     AsnType, Constraints, Decode, DecodeError, Decoder, Encode, EncodeError, Encoder, Enumerated,
@@ -71,6 +73,12 @@ impl Enumerated for SearchRequestScope {
 #[tactic(auto, using(asn1_schema::proofs::Trees::tree_shapes, crate::proofs::FilterTags::knot_can))]
 pub fn search_request_scope_is_well_tagged()
     ensures { IsWellTagged ⟦<SearchRequestScope as AsnType>⟧.meaning }
+{}
+
+/// Equal values are written alike, and in each value the components of a SET have distinct tags: the DER of a value is its only spelling.
+pub fn search_request_scope_has_one_spelling()
+    ensures alike { AreWrittenAlike ⟦<SearchRequestScope as AsnType>⟧.meaning ⟦<SearchRequestScope as PartialEq>⟧.eq }
+    ensures distinct { SetsAreDistinct ⟦<SearchRequestScope as AsnType>⟧.meaning }
 {}
 
 impl Encode for SearchRequestScope {

@@ -8,13 +8,17 @@
 //! ```
 ghost use Rattle.std.specs.Prelude.{[], codes, ◌∷◌};
 ghost use Rattle.asn1_schema.specs.Words.{IsWellTagged, application, constructed_agrees, constructed_type_under, extensible_sequence_after, required_slot, untagged};
+ghost use Rattle.asn1_model.specs.DistinctSets.{SetsAreDistinct};
+ghost use Rattle.asn1_model.specs.WrittenAlike.{AreWrittenAlike};
 
 use crate::aliases::{Ldapdn, PartialAttributeList};
+use crate::partial_attribute::{PartialAttribute, partial_attribute_has_one_spelling};
 use asn1_schema::{
     AsnType, Constraints, ConstructedType, Decode, DecodeByIndex, DecodeError, Decoded, Decoder,
     Encode, EncodeError, EncodeFields, Encoder, Field, FieldTable, Identifier, Tag, Tagging,
     TypeTable, decode_sequence_naming_errors, required,
 };
+use asn1_spelling::{equal_lists_are_written_alike, sets_in_lists_are_distinct};
 use asn1_tags::tag;
 use std::alloc::{AllocError, Global};
 
@@ -89,6 +93,16 @@ impl ConstructedType for SearchResultEntry {
 pub fn search_result_entry_is_well_tagged()
     ensures { IsWellTagged ⟦<SearchResultEntry as AsnType>⟧.meaning }
 {}
+
+/// Equal values are written alike, and in each value the components of a SET have distinct tags: the DER of a value is its only spelling.
+pub fn search_result_entry_has_one_spelling()
+    ensures alike { AreWrittenAlike ⟦<SearchResultEntry as AsnType>⟧.meaning ⟦<SearchResultEntry as PartialEq>⟧.eq }
+    ensures distinct { SetsAreDistinct ⟦<SearchResultEntry as AsnType>⟧.meaning }
+{
+    partial_attribute_has_one_spelling();
+    equal_lists_are_written_alike::<PartialAttribute>();
+    sets_in_lists_are_distinct::<PartialAttribute>();
+}
 
 impl Encode for SearchResultEntry {
     fn encode_with_tag_and_constraints<E: Encoder>(

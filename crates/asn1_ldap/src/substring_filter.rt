@@ -8,14 +8,19 @@
 //! ```
 ghost use Rattle.std.specs.Prelude.{[], codes, ◌∷◌};
 ghost use Rattle.asn1_schema.specs.Words.{IsWellTagged, constructed_agrees, constructed_type, extensible_sequence_after, required_slot, untagged};
+ghost use Rattle.asn1_model.specs.DistinctSets.{SetsAreDistinct};
+ghost use Rattle.asn1_model.specs.WrittenAlike.{AreWrittenAlike};
 
 use crate::aliases::AttributeDescription;
-use crate::substring_filter_substrings_element::SubstringFilterSubstringsElement;
+use crate::substring_filter_substrings_element::{
+    SubstringFilterSubstringsElement, substring_filter_substrings_element_has_one_spelling,
+};
 use asn1_schema::{
     AsnType, Constraints, ConstructedType, Decode, DecodeByIndex, DecodeError, Decoded, Decoder,
     Encode, EncodeError, EncodeFields, Encoder, Field, FieldTable, Identifier, Tag, Tagging,
     TypeTable, decode_sequence_naming_errors, required,
 };
+use asn1_spelling::{equal_lists_are_written_alike, sets_in_lists_are_distinct};
 use std::alloc::{AllocError, Global};
 
 /// `SubstringFilter` of the module `Lightweight-Directory-Access-Protocol-V3`.
@@ -95,6 +100,16 @@ impl ConstructedType for SubstringFilter {
 pub fn substring_filter_is_well_tagged()
     ensures { IsWellTagged ⟦<SubstringFilter as AsnType>⟧.meaning }
 {}
+
+/// Equal values are written alike, and in each value the components of a SET have distinct tags: the DER of a value is its only spelling.
+pub fn substring_filter_has_one_spelling()
+    ensures alike { AreWrittenAlike ⟦<SubstringFilter as AsnType>⟧.meaning ⟦<SubstringFilter as PartialEq>⟧.eq }
+    ensures distinct { SetsAreDistinct ⟦<SubstringFilter as AsnType>⟧.meaning }
+{
+    substring_filter_substrings_element_has_one_spelling();
+    equal_lists_are_written_alike::<SubstringFilterSubstringsElement>();
+    sets_in_lists_are_distinct::<SubstringFilterSubstringsElement>();
+}
 
 impl Encode for SubstringFilter {
     fn encode_with_tag_and_constraints<E: Encoder>(

@@ -10,6 +10,8 @@
 ghost use Rattle.std.specs.Prelude.{[], codes, refl, ◌∷◌};
 ghost use Rattle.asn1_schema.specs.Words.{IsWellTagged, choice_agrees, choice_of, context, extensible_choice_after, inl, inr, tagged, variant};
 ghost use Rattle.asn1_ldap.specs.declared.substring_filter_substrings_element.SubstringFilterSubstringsElement.TheVariants.{Initial, Any, Final};
+ghost use Rattle.asn1_model.specs.DistinctSets.{SetsAreDistinct};
+ghost use Rattle.asn1_model.specs.WrittenAlike.{AreWrittenAlike};
 
 use crate::aliases::AssertionValue;
 use asn1_schema::{
@@ -96,6 +98,12 @@ impl ChoiceType for SubstringFilterSubstringsElement {
 /// A `SubstringFilterSubstringsElement` can be inside other types.
 pub fn substring_filter_substrings_element_is_well_tagged()
     ensures { IsWellTagged ⟦<SubstringFilterSubstringsElement as AsnType>⟧.meaning }
+{}
+
+/// Equal values are written alike, and in each value the components of a SET have distinct tags: the DER of a value is its only spelling.
+pub fn substring_filter_substrings_element_has_one_spelling()
+    ensures alike { AreWrittenAlike ⟦<SubstringFilterSubstringsElement as AsnType>⟧.meaning ⟦<SubstringFilterSubstringsElement as PartialEq>⟧.eq }
+    ensures distinct { SetsAreDistinct ⟦<SubstringFilterSubstringsElement as AsnType>⟧.meaning }
 {}
 
 impl Encode for SubstringFilterSubstringsElement {

@@ -6,7 +6,7 @@ use crate::parameters::has_parameter;
 use crate::plan::Plan;
 use crate::types::Owner;
 use asn1_rust_components::{TypeBody, TypeFile};
-use asn1_rust_types::{Weights, proof_files, type_file};
+use asn1_rust_types::{ProofFile, Spelling, Weights, proof_files, spellings_of, type_file};
 use std::alloc::AllocError;
 
 /// Adds a file.
@@ -17,36 +17,61 @@ pub(crate) fn push_file(
     owner: Owner<'_>,
 ) -> Result<(), AllocError> {
     let file = type_file_of(plan, body, names, owner)?;
-    let exported = exported_names(plan, &file, names)?;
-    plan.add_module(names.module, false, exported)?;
-    push_source(plan, file)
-}
-
-// Adds the source of a file: that of a type with the parameter of a circle with its proofs, if it holds it.
-fn push_source(plan: &mut Plan<'_, '_>, file: TypeFile) -> Result<(), AllocError> {
-    if file.lists.is_some() {
-        let weights = Weights::new(plan.alloc);
-        let proofs = proof_files(plan.alloc, &file, &weights)?;
-        push_generic(plan, file)?;
-        push_files(plan, proofs)
-    } else {
-        let text = type_file(plan.alloc, &file)?;
-        plan.add_source(file.module.as_str(), text)?;
+    if file.lists.is_none() {
         plan.printed.push(file)?;
-        Ok(())
+        return Ok(());
     }
+    add_module_of(plan, &file)?;
+    let weights = Weights::new(plan.alloc);
+    let proofs = proof_files(plan.alloc, &file, &weights)?;
+    push_generic(plan, file)?;
+    push_files(plan, proofs)
 }
 
-/// Adds the proofs of the types without a parameter, when all of them were printed.
-pub(crate) fn push_proofs(plan: &mut Plan<'_, '_>) -> Result<(), AllocError> {
-    let weights = Weights::of(plan.alloc, plan.printed.as_slice(), plan.aliases.as_slice())?;
-    let mut proofs = Vec::new(plan.alloc);
-    for file in &plan.printed {
-        for proof in proof_files(plan.alloc, file, &weights)? {
+/// Adds the sources and the proofs of the types without a parameter, when all of them are known.
+pub(crate) fn push_types(plan: &mut Plan<'_, '_>) -> Result<(), AllocError> {
+    let laws = keep_laws(plan)?;
+    let printed = std::mem::replace(&mut plan.printed, Vec::new(plan.alloc));
+    let weights = Weights::of(plan.alloc, printed.as_slice(), plan.aliases.as_slice())?;
+    for file in &printed {
+        push_type(plan, file, &weights)?;
+    }
+    plan.printed = printed;
+    push_files(plan, laws)
+}
+
+// Keeps the laws of types with these; their proofs.
+fn keep_laws(plan: &mut Plan<'_, '_>) -> Result<Vec<ProofFile>, AllocError> {
+    let alloc = plan.alloc;
+    let spellings = spellings_of(alloc, plan.printed.as_slice(), plan.aliases.as_slice())?;
+    let mut proofs = Vec::new(alloc);
+    for (index, spelling) in spellings.into_iter().enumerate() {
+        if let (Some(spelling), Some(file)) = (spelling, plan.printed.get_mut(index)) {
+            let Spelling { law, proof } = spelling;
+            file.spelling = Some(law);
             proofs.push(proof)?;
         }
     }
+    Ok(proofs)
+}
+
+// Adds the source and the proofs of a type.
+fn push_type(
+    plan: &mut Plan<'_, '_>,
+    file: &TypeFile,
+    weights: &Weights,
+) -> Result<(), AllocError> {
+    add_module_of(plan, file)?;
+    let text = type_file(plan.alloc, file)?;
+    plan.add_source(file.module.as_str(), text)?;
+    let proofs = proof_files(plan.alloc, file, weights)?;
     push_files(plan, proofs)
+}
+
+// Adds the module of a type.
+fn add_module_of(plan: &mut Plan<'_, '_>, file: &TypeFile) -> Result<(), AllocError> {
+    let exported = exported_names(plan, file)?;
+    plan.add_module(file.module.as_str(), false, exported)
 }
 
 // A file that was not printed.
@@ -68,6 +93,7 @@ fn type_file_of(
         body,
         lists,
         knots: plan.copied_knots()?,
+        spelling: None,
     })
 }
 
@@ -97,18 +123,16 @@ fn current_name<'p>(plan: &'p Plan<'_, '_>) -> Option<&'p str> {
 }
 
 // The names that the crate passes on of a file.
-fn exported_names(
-    plan: &Plan<'_, '_>,
-    file: &TypeFile,
-    names: FileNames<'_>,
-) -> Result<Vec<String>, AllocError> {
+fn exported_names(plan: &Plan<'_, '_>, file: &TypeFile) -> Result<Vec<String>, AllocError> {
     let mut exported = Vec::new(plan.alloc);
     let name = plan.text(file.plain_name())?;
     exported.push(name)?;
+    let module = file.module.as_str();
+    if file.spelling.is_some() {
+        exported.push(format!(in plan.alloc; "{module}_has_one_spelling")?)?;
+    }
     if !is_group(&file.body) && file.lists.is_none() {
-        let module = names.module;
-        let tagging = format!(in plan.alloc; "{module}_is_well_tagged")?;
-        exported.push(tagging)?;
+        exported.push(format!(in plan.alloc; "{module}_is_well_tagged")?)?;
     }
     Ok(exported)
 }

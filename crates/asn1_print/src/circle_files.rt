@@ -79,6 +79,7 @@ fn knot_file_of(
         body: no_type(plan.alloc),
         lists: None,
         knots: plan.copied_knots()?,
+        spelling: None,
     })
 }
 

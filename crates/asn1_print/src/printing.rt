@@ -1,5 +1,5 @@
 //! A schema as the files of a crate.
-use crate::bodies::{push_file, push_proofs};
+use crate::bodies::{push_file, push_types};
 use crate::circle_files::{add_circles, add_generic_alias, keep_knot};
 use crate::circles::CurrentCircle;
 use crate::lowering::{FileNames, add_file, type_name};
@@ -32,7 +32,7 @@ pub fn print_crate(alloc: Global, request: Request<'_, '_>) -> Result<Printed, A
     for definition in &request.schema.values {
         add_value(&mut plan, definition, &mut names)?;
     }
-    push_proofs(&mut plan)?;
+    push_types(&mut plan)?;
     add_circles(&mut plan)?;
     add_aliases(&mut plan)?;
     add_markers(&mut plan)?;

@@ -146,7 +146,7 @@ impl Code {
             let next = column.saturating_add(item.len()).saturating_add(2);
             if index == 0 {
                 column = next.saturating_sub(1);
-            } else if next >= WIDTH {
+            } else if next >= packed_width(list, index) {
                 self.blank()?;
                 self.indent(inner)?;
                 column = indentation(inner)
@@ -216,6 +216,16 @@ fn joined_width(items: &[String]) -> usize {
         width = width.saturating_add(item.len()).saturating_add(separator);
     }
     width
+}
+
+// The column in front of which an item has to end that is beside others. The last of some names may end one column behind.
+fn packed_width(list: &List<'_>, index: usize) -> usize {
+    let is_last = index.saturating_add(1) == list.items.len();
+    if is_last && list.style == ListStyle::Names {
+        WIDTH.saturating_add(1)
+    } else {
+        WIDTH
+    }
 }
 
 // Whether items are side by side in more than one line.

@@ -1,6 +1,6 @@
 //! The parts that types of each kind have.
-use crate::definitions::{PARAMETER, TypeFile};
-use asn1_rust_code::{Draft, ListStyle, TypeName};
+use crate::definitions::{LawCall, PARAMETER, SpellingLaw, TypeFile};
+use asn1_rust_code::{Draft, ListStyle, TypeName, append_typed};
 use std::alloc::AllocError;
 
 /// What a type is to records: its meaning, and the code of its table.
@@ -90,8 +90,17 @@ pub fn append_agreement(
     )?)
 }
 
-/// Appends the theorem that a type is well tagged.
-pub fn append_theorem(draft: &mut Draft, file: &TypeFile) -> Result<(), AllocError> {
+/// Appends the theorems that a type is well tagged, and that it has one spelling, if it has the law.
+pub fn append_theorems(draft: &mut Draft, file: &TypeFile) -> Result<(), AllocError> {
+    append_tagging(draft, file)?;
+    match &file.spelling {
+        Some(law) => append_spelling(draft, file, law),
+        None => Ok(()),
+    }
+}
+
+// Appends the theorem that a type is well tagged.
+fn append_tagging(draft: &mut Draft, file: &TypeFile) -> Result<(), AllocError> {
     draft.use_words(&["IsWellTagged"])?;
     let name = file.name.as_str();
     let module = file.module.as_str();
@@ -107,6 +116,54 @@ pub fn append_theorem(draft: &mut Draft, file: &TypeFile) -> Result<(), AllocErr
 
 "
     )?)
+}
+
+// Appends the theorem that a type has one spelling.
+fn append_spelling(
+    draft: &mut Draft,
+    file: &TypeFile,
+    law: &SpellingLaw,
+) -> Result<(), AllocError> {
+    draft.use_ghost("ghost use Rattle.asn1_model.specs.DistinctSets.{SetsAreDistinct};")?;
+    draft.use_ghost("ghost use Rattle.asn1_model.specs.WrittenAlike.{AreWrittenAlike};")?;
+    let name = file.name.as_str();
+    let module = file.module.as_str();
+    let opening = if law.premises.is_empty() { "{}" } else { "{" };
+    draft.text(format!(in draft.alloc();
+        "\
+/// Equal values are written alike, and in each value the components of a SET have distinct tags: the DER of a value is its only spelling.
+pub fn {module}_has_one_spelling()
+    ensures alike {{ AreWrittenAlike ⟦<{name} as AsnType>⟧.meaning ⟦<{name} as PartialEq>⟧.eq }}
+    ensures distinct {{ SetsAreDistinct ⟦<{name} as AsnType>⟧.meaning }}
+{opening}
+"
+    )?)?;
+    if !law.premises.is_empty() {
+        for premise in &law.premises {
+            append_premise(draft, premise)?;
+        }
+        draft.line(0, "}")?;
+    }
+    draft.blank()
+}
+
+// Appends the call of a law.
+fn append_premise(draft: &mut Draft, premise: &LawCall) -> Result<(), AllocError> {
+    for import in &premise.imports {
+        draft.use_import(import)?;
+    }
+    let function = premise.function.as_str();
+    match &premise.argument {
+        Some(argument) => {
+            let argument = argument.as_str();
+            let call = format!(in draft.alloc(); "{function}::<{argument}>")?;
+            append_typed(draft, 1, "", call.as_str(), "();")
+        }
+        None => {
+            let call = format!(in draft.alloc(); "{function}();")?;
+            draft.line(1, call.as_str())
+        }
+    }
 }
 
 // The line that names the lemmas on the types in a type that hold themselves; no text if there are none.

@@ -1,6 +1,6 @@
 //! SEQUENCE and SET types, and groups of additions.
 use crate::common::{
-    Table, append_agreement, append_decode, append_encode, append_theorem, append_type,
+    Table, append_agreement, append_decode, append_encode, append_theorems, append_type,
 };
 use crate::definitions::{Component, Constructed, Tree, TypeFile, Usage};
 use crate::reader::append_reader;
@@ -78,7 +78,7 @@ fn append_constructed(
     append_table(draft, subject)?;
     append_meaning(draft, subject)?;
     append_agreement(draft, name, "ConstructedType", "constructed_agrees")?;
-    append_theorem(draft, subject.file)?;
+    append_theorems(draft, subject.file)?;
     append_encode(draft, name, "_constraints", encode)?;
     append_field_writer(draft, subject)?;
     append_decode(draft, name, "constraints", decode)

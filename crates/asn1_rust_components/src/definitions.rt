@@ -22,6 +22,8 @@ pub struct TypeFile {
     pub lists: Option<String>,
     /// The names of the types that hold themselves among those in it, but for that of its own circle.
     pub knots: Vec<String>,
+    /// What its law of one spelling follows from, if it has one.
+    pub spelling: Option<SpellingLaw>,
 }
 
 impl TypeFile {
@@ -30,6 +32,24 @@ impl TypeFile {
         let name = self.name.as_str();
         name.strip_suffix(PARAMETER).unwrap_or(name)
     }
+}
+
+/// The law that a type has one spelling.
+#[derive(Drop)]
+pub struct SpellingLaw {
+    /// The laws of its parts that it follows from.
+    pub premises: Vec<LawCall>,
+}
+
+/// A call of a law.
+#[derive(Drop)]
+pub struct LawCall {
+    /// The name of the function.
+    pub function: String,
+    /// Its type argument, if it has one.
+    pub argument: Option<String>,
+    /// The names that a file imports to write the call.
+    pub imports: Vec<Import>,
 }
 
 /// The parameter of a type of a circle, behind its name.

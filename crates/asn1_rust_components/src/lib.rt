@@ -11,9 +11,10 @@
 //! | [`ChoiceType`], [`Alternative`], [`Tree`] | the alternatives of a CHOICE, and tags with which they begin |
 //! | [`Enumeration`], [`Item`] | the items of an ENUMERATED |
 //! | [`RestrictedString`], [`Sizes`] | a string with constraints |
+//! | [`SpellingLaw`], [`LawCall`] | the law that a type has one spelling, and the calls that it follows from |
 //! | [`Alias`], [`NamedNumbers`], [`Marker`], [`Constant`], [`ConstantValue`] | names for types, types that name tags, and constants |
 //! | [`append_sequence`], [`append_set`], [`append_group`] | the code of a type of components |
-//! | [`append_type`], [`append_table_head`], [`append_table_tail`], [`append_agreement`], [`append_theorem`], [`append_encode`], [`append_decode`] | the parts of each type |
+//! | [`append_type`], [`append_table_head`], [`append_table_tail`], [`append_agreement`], [`append_theorems`], [`append_encode`], [`append_decode`] | the parts of each type |
 //! | [`append_trees`], [`tree_code`], [`constant_of`], [`append_entry`] | constants of trees, and lists in ghost members |
 //! | [`append_struct`], [`append_slots`], [`append_layout`], [`append_full`], [`append_table_of`] and the like | their parts |
 //! | [`impl_line`] | the first line of an `impl` |
@@ -38,14 +39,14 @@ pub use aliases::{
 };
 pub use common::{
     Table, append_agreement, append_decode, append_encode, append_table_head, append_table_tail,
-    append_theorem, append_type, identifier_code, impl_line, owned,
+    append_theorems, append_type, identifier_code, impl_line, owned,
 };
 pub use constructed::{
     Kind, Subject, append_group, append_meaning_of, append_sequence, append_set, append_struct,
 };
 pub use definitions::{
     Alternative, ChoiceType, Component, Constructed, DefaultValue, Enumeration, Held, Item,
-    ListKind, RestrictedString, Sizes, Tree, TypeBody, TypeFile, Usage,
+    LawCall, ListKind, RestrictedString, Sizes, SpellingLaw, Tree, TypeBody, TypeFile, Usage,
 };
 pub use reader::{append_full, append_plain_arm};
 pub use slots::{append_entry, append_layout, append_slots, slot_path};

@@ -3,7 +3,7 @@ use crate::variants::{same_cases, use_variants};
 use asn1_rust_code::{Draft, ListStyle, TagNumber, Tagging};
 use asn1_rust_components::{
     Alternative, ChoiceType, Table, Tree, TypeFile, append_agreement, append_decode, append_encode,
-    append_entry, append_theorem, append_trees, append_type, constant_of, identifier_code,
+    append_entry, append_theorems, append_trees, append_type, constant_of, identifier_code,
     impl_line, owned, tree_code,
 };
 use std::alloc::AllocError;
@@ -31,7 +31,7 @@ pub(crate) fn append_choice(
     append_own_trees(draft, subject)?;
     append_own_meaning(draft, subject)?;
     append_agreement(draft, name, "ChoiceType", "choice_agrees")?;
-    append_theorem(draft, subject.file)?;
+    append_theorems(draft, subject.file)?;
     append_encode(
         draft,
         name,

@@ -2,7 +2,7 @@
 use crate::variants::{same_cases, use_variants};
 use asn1_rust_code::{Draft, List, ListStyle, is_in_one_line};
 use asn1_rust_components::{
-    Enumeration, Item, Table, TypeFile, append_decode, append_encode, append_theorem, append_type,
+    Enumeration, Item, Table, TypeFile, append_decode, append_encode, append_theorems, append_type,
     owned,
 };
 use std::alloc::{AllocError, Global};
@@ -27,7 +27,7 @@ pub(crate) fn append_enumeration(
     append_items(draft, subject)?;
     append_meaning(draft, subject)?;
     append_laws(draft, subject)?;
-    append_theorem(draft, subject.file)?;
+    append_theorems(draft, subject.file)?;
     append_encode(
         draft,
         name,

@@ -6,6 +6,7 @@
 //! | [`root_file`], [`ModuleNames`] | the root file of a crate |
 //! | [`append_enum`], [`append_choice_writer`] and the like | the parts of a CHOICE |
 //! | [`proof_files`], [`knot_table_proof`], [`ProofFile`] | the proofs that the check does not find by itself |
+//! | [`spellings_of`], [`Spelling`] | the laws of types that have one spelling, with their proofs |
 //! | [`Weights`] | how many parts types have, which tells what the check finds by itself |
 //!
 //! The text is in the layout of `rt fmt`. No contract covers it: the check of the printed crate proves it. Calls fail only if
@@ -13,10 +14,15 @@
 #![tactic(auto)]
 
 mod choice;
+mod cores;
 mod enumeration;
 mod files;
 mod proofs;
 mod restricted_string;
+mod spelling_proofs;
+mod spelling_terms;
+mod spellings;
+mod uses;
 mod variants;
 mod weights;
 
@@ -26,4 +32,5 @@ pub use choice::{
 };
 pub use files::{ModuleNames, root_file, type_file};
 pub use proofs::{ProofFile, knot_table_proof, proof_files};
+pub use spellings::{Spelling, spellings_of};
 pub use weights::Weights;

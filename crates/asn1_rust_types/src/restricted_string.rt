@@ -2,7 +2,7 @@
 use asn1_rust_code::{Draft, ListStyle};
 use asn1_rust_components::{
     RestrictedString, Sizes, TypeFile, append_decode, append_encode, append_table_head,
-    append_table_tail, append_theorem, owned,
+    append_table_tail, append_theorems, owned,
 };
 use std::alloc::AllocError;
 
@@ -24,7 +24,7 @@ pub(crate) fn append_restricted_string(
     append_characters(draft, subject)?;
     append_meaning(draft, subject)?;
     append_table(draft, subject)?;
-    append_theorem(draft, subject.file)?;
+    append_theorems(draft, subject.file)?;
     append_writer(draft, subject)?;
     append_reader(draft, subject)
 }

@@ -8,6 +8,8 @@
 //! ```
 ghost use Rattle.std.specs.Prelude.{[], codes, ◌∷◌};
 ghost use Rattle.asn1_schema.specs.Words.{IsWellTagged, constructed_agrees, constructed_type, optional_slot, required_slot, sequence_of_slots, untagged};
+ghost use Rattle.asn1_model.specs.DistinctSets.{SetsAreDistinct};
+ghost use Rattle.asn1_model.specs.WrittenAlike.{AreWrittenAlike};
 
 use asn1_schema::{
     Any, AsnType, Constraints, ConstructedType, Decode, DecodeByIndex, DecodeError, Decoded,
@@ -86,6 +88,12 @@ impl ConstructedType for AlgorithmIdentifier {
 /// An `AlgorithmIdentifier` can be inside other types.
 pub fn algorithm_identifier_is_well_tagged()
     ensures { IsWellTagged ⟦<AlgorithmIdentifier as AsnType>⟧.meaning }
+{}
+
+/// Equal values are written alike, and in each value the components of a SET have distinct tags: the DER of a value is its only spelling.
+pub fn algorithm_identifier_has_one_spelling()
+    ensures alike { AreWrittenAlike ⟦<AlgorithmIdentifier as AsnType>⟧.meaning ⟦<AlgorithmIdentifier as PartialEq>⟧.eq }
+    ensures distinct { SetsAreDistinct ⟦<AlgorithmIdentifier as AsnType>⟧.meaning }
 {}
 
 impl Encode for AlgorithmIdentifier {

@@ -1,6 +1,8 @@
 //! `AttributeTypeAndValue ::= SEQUENCE { type AttributeType, value AttributeValue }`
 ghost use Rattle.std.specs.Prelude.{[], codes, ◌∷◌};
 ghost use Rattle.asn1_schema.specs.Words.{IsWellTagged, constructed_agrees, constructed_type, required_slot, sequence_of_slots, untagged};
+ghost use Rattle.asn1_model.specs.DistinctSets.{SetsAreDistinct};
+ghost use Rattle.asn1_model.specs.WrittenAlike.{AreWrittenAlike};
 
 use crate::aliases::{AttributeType, AttributeValue};
 use asn1_schema::{
@@ -80,6 +82,12 @@ impl ConstructedType for AttributeTypeAndValue {
 /// An `AttributeTypeAndValue` can be inside other types.
 pub fn attribute_type_and_value_is_well_tagged()
     ensures { IsWellTagged ⟦<AttributeTypeAndValue as AsnType>⟧.meaning }
+{}
+
+/// Equal values are written alike, and in each value the components of a SET have distinct tags: the DER of a value is its only spelling.
+pub fn attribute_type_and_value_has_one_spelling()
+    ensures alike { AreWrittenAlike ⟦<AttributeTypeAndValue as AsnType>⟧.meaning ⟦<AttributeTypeAndValue as PartialEq>⟧.eq }
+    ensures distinct { SetsAreDistinct ⟦<AttributeTypeAndValue as AsnType>⟧.meaning }
 {}
 
 impl Encode for AttributeTypeAndValue {

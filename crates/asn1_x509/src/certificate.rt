@@ -9,9 +9,11 @@
 //! ```
 ghost use Rattle.std.specs.Prelude.{[], codes, ◌∷◌};
 ghost use Rattle.asn1_schema.specs.Words.{IsWellTagged, constructed_agrees, constructed_type, required_slot, sequence_of_slots, untagged};
+ghost use Rattle.asn1_model.specs.DistinctSets.{SetsAreDistinct};
+ghost use Rattle.asn1_model.specs.WrittenAlike.{AreWrittenAlike};
 
-use crate::algorithm_identifier::AlgorithmIdentifier;
-use crate::tbs_certificate::TbsCertificate;
+use crate::algorithm_identifier::{AlgorithmIdentifier, algorithm_identifier_has_one_spelling};
+use crate::tbs_certificate::{TbsCertificate, tbs_certificate_has_one_spelling};
 use asn1_schema::{
     AsnType, BitVec, Constraints, ConstructedType, Decode, DecodeByIndex, DecodeError, Decoded,
     Decoder, Encode, EncodeError, EncodeFields, Encoder, Field, FieldTable, Identifier, Tag,
@@ -100,6 +102,15 @@ impl ConstructedType for Certificate {
 pub fn certificate_is_well_tagged()
     ensures { IsWellTagged ⟦<Certificate as AsnType>⟧.meaning }
 {}
+
+/// Equal values are written alike, and in each value the components of a SET have distinct tags: the DER of a value is its only spelling.
+pub fn certificate_has_one_spelling()
+    ensures alike { AreWrittenAlike ⟦<Certificate as AsnType>⟧.meaning ⟦<Certificate as PartialEq>⟧.eq }
+    ensures distinct { SetsAreDistinct ⟦<Certificate as AsnType>⟧.meaning }
+{
+    tbs_certificate_has_one_spelling();
+    algorithm_identifier_has_one_spelling();
+}
 
 impl Encode for Certificate {
     fn encode_with_tag_and_constraints<E: Encoder>(

@@ -12,6 +12,8 @@
 ghost use Rattle.std.specs.Prelude.{[], codes, refl, ◌∷◌};
 ghost use Rattle.asn1_schema.specs.Words.{IsWellTagged, choice_agrees, choice_of, choice_of_cases, inl, inr, untagged, variant};
 ghost use Rattle.asn1_x509.specs.declared.directory_string.DirectoryString.TheVariants.{TeletexString, PrintableString, UniversalString, Utf8String, BmpString};
+ghost use Rattle.asn1_model.specs.DistinctSets.{SetsAreDistinct};
+ghost use Rattle.asn1_model.specs.WrittenAlike.{AreWrittenAlike};
 
 use asn1_schema::{
     AsnType, BmpString, Choice, ChoiceType, Constraints, Decode, DecodeChoice, DecodeChoiceByIndex,
@@ -110,6 +112,12 @@ impl ChoiceType for DirectoryString {
 /// A `DirectoryString` can be inside other types.
 pub fn directory_string_is_well_tagged()
     ensures { IsWellTagged ⟦<DirectoryString as AsnType>⟧.meaning }
+{}
+
+/// Equal values are written alike, and in each value the components of a SET have distinct tags: the DER of a value is its only spelling.
+pub fn directory_string_has_one_spelling()
+    ensures alike { AreWrittenAlike ⟦<DirectoryString as AsnType>⟧.meaning ⟦<DirectoryString as PartialEq>⟧.eq }
+    ensures distinct { SetsAreDistinct ⟦<DirectoryString as AsnType>⟧.meaning }
 {}
 
 impl Encode for DirectoryString {

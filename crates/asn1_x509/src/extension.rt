@@ -9,6 +9,8 @@
 //! ```
 ghost use Rattle.std.specs.Prelude.{[], codes, false, ◌∷◌};
 ghost use Rattle.asn1_schema.specs.Words.{IsWellTagged, constructed_agrees, constructed_type, default_slot, required_slot, sequence_of_slots, untagged};
+ghost use Rattle.asn1_model.specs.DistinctSets.{SetsAreDistinct};
+ghost use Rattle.asn1_model.specs.WrittenAlike.{AreWrittenAlike};
 
 use asn1_schema::{
     AsnType, Constraints, ConstructedType, Decode, DecodeByIndex, DecodeError, Decoded, Decoder,
@@ -94,6 +96,12 @@ impl ConstructedType for Extension {
 /// An `Extension` can be inside other types.
 pub fn extension_is_well_tagged()
     ensures { IsWellTagged ⟦<Extension as AsnType>⟧.meaning }
+{}
+
+/// Equal values are written alike, and in each value the components of a SET have distinct tags: the DER of a value is its only spelling.
+pub fn extension_has_one_spelling()
+    ensures alike { AreWrittenAlike ⟦<Extension as AsnType>⟧.meaning ⟦<Extension as PartialEq>⟧.eq }
+    ensures distinct { SetsAreDistinct ⟦<Extension as AsnType>⟧.meaning }
 {}
 
 impl Encode for Extension {

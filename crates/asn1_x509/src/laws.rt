@@ -4,7 +4,7 @@ ghost use Rattle.asn1_model.specs.Orders.{SameRecords};
 ghost use Rattle.asn1_schema.specs.Words.{own_records};
 ghost use Rattle.asn1_x509.specs.CertificateRecords.{first_version_records};
 
-use crate::certificate::Certificate;
+use crate::certificate::{Certificate, certificate_has_one_spelling, certificate_is_well_tagged};
 use crate::tbs_certificate::TbsCertificate;
 use asn1_schema::AsnType;
 
@@ -20,4 +20,7 @@ pub fn equal_certificates_have_the_same_records()
     ensures { (one other : Certificate) → ⟦<Certificate as PartialEq>⟧.eq one other ≡ true →
         SameRecords (own_records ⟦<Certificate as AsnType>⟧.meaning one)
         (own_records ⟦<Certificate as AsnType>⟧.meaning other) }
-{}
+{
+    certificate_is_well_tagged();
+    certificate_has_one_spelling();
+}

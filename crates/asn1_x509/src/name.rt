@@ -2,12 +2,21 @@
 ghost use Rattle.std.specs.Prelude.{[], codes, refl, ◌∷◌};
 ghost use Rattle.asn1_schema.specs.Words.{IsWellTagged, choice_agrees, choice_of, choice_of_cases, inl, untagged, variant};
 ghost use Rattle.asn1_x509.specs.declared.name.Name.TheVariants.{RdnSequence};
+ghost use Rattle.asn1_model.specs.DistinctSets.{SetsAreDistinct};
+ghost use Rattle.asn1_model.specs.WrittenAlike.{AreWrittenAlike};
 
-use crate::aliases::RdnSequence;
+use crate::aliases::{RdnSequence, RelativeDistinguishedName};
+use crate::attribute_type_and_value::{
+    AttributeTypeAndValue, attribute_type_and_value_has_one_spelling,
+};
 use asn1_schema::{
     AsnType, Choice, ChoiceType, Constraints, Decode, DecodeChoice, DecodeChoiceByIndex,
     DecodeError, Decoder, Encode, EncodeChoice, EncodeError, Encoder, Identifier, Tag, TagTree,
     Tagging, TypeTable, alternative, from_tag_by_index,
+};
+use asn1_spelling::{
+    equal_lists_are_written_alike, equal_sets_of_are_written_alike, sets_in_lists_are_distinct,
+    sets_in_sets_of_are_distinct,
 };
 
 /// `Name` of the module `PKIX1Explicit88`.
@@ -83,6 +92,18 @@ impl ChoiceType for Name {
 pub fn name_is_well_tagged()
     ensures { IsWellTagged ⟦<Name as AsnType>⟧.meaning }
 {}
+
+/// Equal values are written alike, and in each value the components of a SET have distinct tags: the DER of a value is its only spelling.
+pub fn name_has_one_spelling()
+    ensures alike { AreWrittenAlike ⟦<Name as AsnType>⟧.meaning ⟦<Name as PartialEq>⟧.eq }
+    ensures distinct { SetsAreDistinct ⟦<Name as AsnType>⟧.meaning }
+{
+    attribute_type_and_value_has_one_spelling();
+    equal_sets_of_are_written_alike::<AttributeTypeAndValue>();
+    equal_lists_are_written_alike::<RelativeDistinguishedName>();
+    sets_in_sets_of_are_distinct::<AttributeTypeAndValue>();
+    sets_in_lists_are_distinct::<RelativeDistinguishedName>();
+}
 
 impl Encode for Name {
     fn encode_with_tag_and_constraints<E: Encoder>(

@@ -1,6 +1,8 @@
 //! `RSAPublicKey ::= SEQUENCE { modulus INTEGER, publicExponent INTEGER }`
 ghost use Rattle.std.specs.Prelude.{[], codes, ◌∷◌};
 ghost use Rattle.asn1_schema.specs.Words.{IsWellTagged, constructed_agrees, constructed_type, required_slot, sequence_of_slots, untagged};
+ghost use Rattle.asn1_model.specs.DistinctSets.{SetsAreDistinct};
+ghost use Rattle.asn1_model.specs.WrittenAlike.{AreWrittenAlike};
 
 use asn1_schema::{
     AsnType, Constraints, ConstructedType, Decode, DecodeByIndex, DecodeError, Decoded, Decoder,
@@ -79,6 +81,12 @@ impl ConstructedType for RsaPublicKey {
 /// A `RsaPublicKey` can be inside other types.
 pub fn rsa_public_key_is_well_tagged()
     ensures { IsWellTagged ⟦<RsaPublicKey as AsnType>⟧.meaning }
+{}
+
+/// Equal values are written alike, and in each value the components of a SET have distinct tags: the DER of a value is its only spelling.
+pub fn rsa_public_key_has_one_spelling()
+    ensures alike { AreWrittenAlike ⟦<RsaPublicKey as AsnType>⟧.meaning ⟦<RsaPublicKey as PartialEq>⟧.eq }
+    ensures distinct { SetsAreDistinct ⟦<RsaPublicKey as AsnType>⟧.meaning }
 {}
 
 impl Encode for RsaPublicKey {

@@ -1,8 +1,10 @@
 //! `SubjectPublicKeyInfo ::= SEQUENCE { algorithm AlgorithmIdentifier, subjectPublicKey BIT STRING }`
 ghost use Rattle.std.specs.Prelude.{[], codes, ◌∷◌};
 ghost use Rattle.asn1_schema.specs.Words.{IsWellTagged, constructed_agrees, constructed_type, required_slot, sequence_of_slots, untagged};
+ghost use Rattle.asn1_model.specs.DistinctSets.{SetsAreDistinct};
+ghost use Rattle.asn1_model.specs.WrittenAlike.{AreWrittenAlike};
 
-use crate::algorithm_identifier::AlgorithmIdentifier;
+use crate::algorithm_identifier::{AlgorithmIdentifier, algorithm_identifier_has_one_spelling};
 use asn1_schema::{
     AsnType, BitVec, Constraints, ConstructedType, Decode, DecodeByIndex, DecodeError, Decoded,
     Decoder, Encode, EncodeError, EncodeFields, Encoder, Field, FieldTable, Identifier, Tag,
@@ -81,6 +83,14 @@ impl ConstructedType for SubjectPublicKeyInfo {
 pub fn subject_public_key_info_is_well_tagged()
     ensures { IsWellTagged ⟦<SubjectPublicKeyInfo as AsnType>⟧.meaning }
 {}
+
+/// Equal values are written alike, and in each value the components of a SET have distinct tags: the DER of a value is its only spelling.
+pub fn subject_public_key_info_has_one_spelling()
+    ensures alike { AreWrittenAlike ⟦<SubjectPublicKeyInfo as AsnType>⟧.meaning ⟦<SubjectPublicKeyInfo as PartialEq>⟧.eq }
+    ensures distinct { SetsAreDistinct ⟦<SubjectPublicKeyInfo as AsnType>⟧.meaning }
+{
+    algorithm_identifier_has_one_spelling();
+}
 
 impl Encode for SubjectPublicKeyInfo {
     fn encode_with_tag_and_constraints<E: Encoder>(

@@ -16,18 +16,24 @@
 //! ```
 ghost use Rattle.std.specs.Prelude.{[], codes, pos, ◌∷◌};
 ghost use Rattle.asn1_schema.specs.Words.{IsWellTagged, constructed_agrees, constructed_type, context, default_slot, explicitly_tagged, optional_slot, required_slot, sequence_of_slots, tagged, untagged};
+ghost use Rattle.asn1_model.specs.DistinctSets.{SetsAreDistinct};
+ghost use Rattle.asn1_model.specs.WrittenAlike.{AreWrittenAlike};
 
-use crate::algorithm_identifier::AlgorithmIdentifier;
+use crate::algorithm_identifier::{AlgorithmIdentifier, algorithm_identifier_has_one_spelling};
 use crate::aliases::{CertificateSerialNumber, Extensions, UniqueIdentifier, Version};
-use crate::name::Name;
-use crate::subject_public_key_info::SubjectPublicKeyInfo;
-use crate::validity::Validity;
+use crate::extension::{Extension, extension_has_one_spelling};
+use crate::name::{Name, name_has_one_spelling};
+use crate::subject_public_key_info::{
+    SubjectPublicKeyInfo, subject_public_key_info_has_one_spelling,
+};
+use crate::validity::{Validity, validity_has_one_spelling};
 use asn1_schema::{
     AsnType, Constraints, ConstructedType, Decode, DecodeByIndex, DecodeError, Decoded, Decoder,
     Encode, EncodeError, EncodeFields, Encoder, Field, FieldTable, Identifier, Tag, Tagging,
     TypeTable, decode_sequence_naming_errors, encode_explicit_optional, optional, or_default,
     required,
 };
+use asn1_spelling::{equal_lists_are_written_alike, sets_in_lists_are_distinct};
 use asn1_tags::tag;
 use std::alloc::{AllocError, Global};
 
@@ -169,6 +175,20 @@ impl ConstructedType for TbsCertificate {
 pub fn tbs_certificate_is_well_tagged()
     ensures { IsWellTagged ⟦<TbsCertificate as AsnType>⟧.meaning }
 {}
+
+/// Equal values are written alike, and in each value the components of a SET have distinct tags: the DER of a value is its only spelling.
+pub fn tbs_certificate_has_one_spelling()
+    ensures alike { AreWrittenAlike ⟦<TbsCertificate as AsnType>⟧.meaning ⟦<TbsCertificate as PartialEq>⟧.eq }
+    ensures distinct { SetsAreDistinct ⟦<TbsCertificate as AsnType>⟧.meaning }
+{
+    algorithm_identifier_has_one_spelling();
+    name_has_one_spelling();
+    validity_has_one_spelling();
+    subject_public_key_info_has_one_spelling();
+    extension_has_one_spelling();
+    equal_lists_are_written_alike::<Extension>();
+    sets_in_lists_are_distinct::<Extension>();
+}
 
 impl Encode for TbsCertificate {
     fn encode_with_tag_and_constraints<E: Encoder>(

@@ -2,6 +2,8 @@
 ghost use Rattle.std.specs.Prelude.{[], codes, refl, ◌∷◌};
 ghost use Rattle.asn1_schema.specs.Words.{IsWellTagged, choice_agrees, choice_of, choice_of_cases, inl, inr, untagged, variant};
 ghost use Rattle.asn1_x509.specs.declared.time.Time.TheVariants.{UtcTime, GeneralTime};
+ghost use Rattle.asn1_model.specs.DistinctSets.{SetsAreDistinct};
+ghost use Rattle.asn1_model.specs.WrittenAlike.{AreWrittenAlike};
 
 use asn1_schema::{
     AsnType, Choice, ChoiceType, Constraints, Decode, DecodeChoice, DecodeChoiceByIndex,
@@ -78,6 +80,12 @@ impl ChoiceType for Time {
 /// A `Time` can be inside other types.
 pub fn time_is_well_tagged()
     ensures { IsWellTagged ⟦<Time as AsnType>⟧.meaning }
+{}
+
+/// Equal values are written alike, and in each value the components of a SET have distinct tags: the DER of a value is its only spelling.
+pub fn time_has_one_spelling()
+    ensures alike { AreWrittenAlike ⟦<Time as AsnType>⟧.meaning ⟦<Time as PartialEq>⟧.eq }
+    ensures distinct { SetsAreDistinct ⟦<Time as AsnType>⟧.meaning }
 {}
 
 impl Encode for Time {

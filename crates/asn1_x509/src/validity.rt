@@ -1,8 +1,10 @@
 //! `Validity ::= SEQUENCE { notBefore Time, notAfter Time }`
 ghost use Rattle.std.specs.Prelude.{[], codes, ◌∷◌};
 ghost use Rattle.asn1_schema.specs.Words.{IsWellTagged, constructed_agrees, constructed_type, required_slot, sequence_of_slots, untagged};
+ghost use Rattle.asn1_model.specs.DistinctSets.{SetsAreDistinct};
+ghost use Rattle.asn1_model.specs.WrittenAlike.{AreWrittenAlike};
 
-use crate::time::Time;
+use crate::time::{Time, time_has_one_spelling};
 use asn1_schema::{
     AsnType, Constraints, ConstructedType, Decode, DecodeByIndex, DecodeError, Decoded, Decoder,
     Encode, EncodeError, EncodeFields, Encoder, Field, FieldTable, Identifier, Tag, Tagging,
@@ -81,6 +83,14 @@ impl ConstructedType for Validity {
 pub fn validity_is_well_tagged()
     ensures { IsWellTagged ⟦<Validity as AsnType>⟧.meaning }
 {}
+
+/// Equal values are written alike, and in each value the components of a SET have distinct tags: the DER of a value is its only spelling.
+pub fn validity_has_one_spelling()
+    ensures alike { AreWrittenAlike ⟦<Validity as AsnType>⟧.meaning ⟦<Validity as PartialEq>⟧.eq }
+    ensures distinct { SetsAreDistinct ⟦<Validity as AsnType>⟧.meaning }
+{
+    time_has_one_spelling();
+}
 
 impl Encode for Validity {
     fn encode_with_tag_and_constraints<E: Encoder>(

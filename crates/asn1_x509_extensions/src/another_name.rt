@@ -1,6 +1,8 @@
 //! `AnotherName ::= SEQUENCE { type-id OBJECT IDENTIFIER, value [0] EXPLICIT ANY DEFINED BY type-id }`
 ghost use Rattle.std.specs.Prelude.{[], codes, ◌∷◌};
 ghost use Rattle.asn1_schema.specs.Words.{IsWellTagged, constructed_agrees, constructed_type, context, explicitly_tagged, required_slot, sequence_of_slots, untagged};
+ghost use Rattle.asn1_model.specs.DistinctSets.{SetsAreDistinct};
+ghost use Rattle.asn1_model.specs.WrittenAlike.{AreWrittenAlike};
 
 use asn1_schema::{
     Any, AsnType, Constraints, ConstructedType, Decode, DecodeByIndex, DecodeError, Decoded,
@@ -80,6 +82,12 @@ impl ConstructedType for AnotherName {
 /// An `AnotherName` can be inside other types.
 pub fn another_name_is_well_tagged()
     ensures { IsWellTagged ⟦<AnotherName as AsnType>⟧.meaning }
+{}
+
+/// Equal values are written alike, and in each value the components of a SET have distinct tags: the DER of a value is its only spelling.
+pub fn another_name_has_one_spelling()
+    ensures alike { AreWrittenAlike ⟦<AnotherName as AsnType>⟧.meaning ⟦<AnotherName as PartialEq>⟧.eq }
+    ensures distinct { SetsAreDistinct ⟦<AnotherName as AsnType>⟧.meaning }
 {}
 
 impl Encode for AnotherName {

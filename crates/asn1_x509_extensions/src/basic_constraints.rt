@@ -8,6 +8,8 @@
 //! ```
 ghost use Rattle.std.specs.Prelude.{[], codes, false, ◌∷◌};
 ghost use Rattle.asn1_schema.specs.Words.{IsWellTagged, constructed_agrees, constructed_type, default_slot, optional_slot, sequence_of_slots, untagged};
+ghost use Rattle.asn1_model.specs.DistinctSets.{SetsAreDistinct};
+ghost use Rattle.asn1_model.specs.WrittenAlike.{AreWrittenAlike};
 
 use asn1_schema::{
     AsnType, Constraints, ConstructedType, Decode, DecodeByIndex, DecodeError, Decoded, Decoder,
@@ -86,6 +88,12 @@ impl ConstructedType for BasicConstraints {
 /// A `BasicConstraints` can be inside other types.
 pub fn basic_constraints_is_well_tagged()
     ensures { IsWellTagged ⟦<BasicConstraints as AsnType>⟧.meaning }
+{}
+
+/// Equal values are written alike, and in each value the components of a SET have distinct tags: the DER of a value is its only spelling.
+pub fn basic_constraints_has_one_spelling()
+    ensures alike { AreWrittenAlike ⟦<BasicConstraints as AsnType>⟧.meaning ⟦<BasicConstraints as PartialEq>⟧.eq }
+    ensures distinct { SetsAreDistinct ⟦<BasicConstraints as AsnType>⟧.meaning }
 {}
 
 impl Encode for BasicConstraints {

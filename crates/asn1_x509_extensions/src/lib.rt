@@ -41,11 +41,13 @@ pub use aliases::{
     ExtKeyUsageSyntax, GeneralNames, IssuerAltName, KeyIdentifier, KeyPurposeId, KeyUsage,
     KeyUsageNames, OrAddress, SubjectAltName, SubjectKeyIdentifier,
 };
-pub use another_name::{AnotherName, another_name_is_well_tagged};
+pub use another_name::{AnotherName, another_name_has_one_spelling, another_name_is_well_tagged};
 pub use authority_key_identifier::{
     AuthorityKeyIdentifier, authority_key_identifier_is_well_tagged,
 };
-pub use basic_constraints::{BasicConstraints, basic_constraints_is_well_tagged};
+pub use basic_constraints::{
+    BasicConstraints, basic_constraints_has_one_spelling, basic_constraints_is_well_tagged,
+};
 pub use edi_party_name::{EdiPartyName, edi_party_name_is_well_tagged};
 pub use general_name::{GeneralName, general_name_is_well_tagged};
 pub use laws::key_extensions_are_well_tagged;

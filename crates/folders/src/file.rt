@@ -9,6 +9,8 @@
 //! ```
 ghost use Rattle.std.specs.Prelude.{[], codes, ◌∷◌};
 ghost use Rattle.asn1_schema.specs.Words.{IsWellTagged, constructed_agrees, constructed_type, context, optional_slot, required_slot, sequence_of_slots, tagged};
+ghost use Rattle.asn1_model.specs.DistinctSets.{SetsAreDistinct};
+ghost use Rattle.asn1_model.specs.WrittenAlike.{AreWrittenAlike};
 
 use asn1_schema::{
     AsnType, Constraints, ConstructedType, Decode, DecodeByIndex, DecodeError, Decoded, Decoder,
@@ -98,6 +100,12 @@ impl ConstructedType for File {
 /// A `File` can be inside other types.
 pub fn file_is_well_tagged()
     ensures { IsWellTagged ⟦<File as AsnType>⟧.meaning }
+{}
+
+/// Equal values are written alike, and in each value the components of a SET have distinct tags: the DER of a value is its only spelling.
+pub fn file_has_one_spelling()
+    ensures alike { AreWrittenAlike ⟦<File as AsnType>⟧.meaning ⟦<File as PartialEq>⟧.eq }
+    ensures distinct { SetsAreDistinct ⟦<File as AsnType>⟧.meaning }
 {}
 
 impl Encode for File {

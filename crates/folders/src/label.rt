@@ -1,12 +1,15 @@
 //! `Label ::= SEQUENCE { key UTF8String, values SET OF UTF8String }`
 ghost use Rattle.std.specs.Prelude.{[], codes, ◌∷◌};
 ghost use Rattle.asn1_schema.specs.Words.{IsWellTagged, constructed_agrees, constructed_type, context, required_slot, sequence_of_slots, tagged};
+ghost use Rattle.asn1_model.specs.DistinctSets.{SetsAreDistinct};
+ghost use Rattle.asn1_model.specs.WrittenAlike.{AreWrittenAlike};
 
 use asn1_schema::{
     AsnType, Constraints, ConstructedType, Decode, DecodeByIndex, DecodeError, Decoded, Decoder,
     Encode, EncodeError, EncodeFields, Encoder, Field, FieldTable, Identifier, SetOf, Tag, Tagging,
     TypeTable, Utf8String, decode_sequence_naming_errors, required,
 };
+use asn1_spelling::{equal_sets_of_are_written_alike, sets_in_sets_of_are_distinct};
 use asn1_tags::tag;
 use std::alloc::{AllocError, Global};
 
@@ -85,6 +88,15 @@ impl ConstructedType for Label {
 pub fn label_is_well_tagged()
     ensures { IsWellTagged ⟦<Label as AsnType>⟧.meaning }
 {}
+
+/// Equal values are written alike, and in each value the components of a SET have distinct tags: the DER of a value is its only spelling.
+pub fn label_has_one_spelling()
+    ensures alike { AreWrittenAlike ⟦<Label as AsnType>⟧.meaning ⟦<Label as PartialEq>⟧.eq }
+    ensures distinct { SetsAreDistinct ⟦<Label as AsnType>⟧.meaning }
+{
+    equal_sets_of_are_written_alike::<Utf8String>();
+    sets_in_sets_of_are_distinct::<Utf8String>();
+}
 
 impl Encode for Label {
     fn encode_with_tag_and_constraints<E: Encoder>(

@@ -15,8 +15,8 @@ mod link;
 
 pub use aliases::Link;
 pub use archive::{Archive, archive_is_well_tagged};
-pub use file::{File, file_is_well_tagged};
+pub use file::{File, file_has_one_spelling, file_is_well_tagged};
 pub use folder::{Folder, each_folder_is_valid, each_link_is_valid, folder_is_well_tagged};
 pub use folder_of::FolderOf;
-pub use label::{Label, label_is_well_tagged};
+pub use label::{Label, label_has_one_spelling, label_is_well_tagged};
 pub use link::LinkOf;

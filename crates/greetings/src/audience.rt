@@ -2,6 +2,8 @@
 ghost use Rattle.std.specs.Prelude.{[], codes, refl, ◌∷◌};
 ghost use Rattle.asn1_schema.specs.Words.{IsWellTagged, choice_agrees, choice_of, context, extensible_choice_after, inl, inr, tagged, variant};
 ghost use Rattle.greetings.specs.declared.audience.Audience.TheVariants.{Everybody, Person, Group};
+ghost use Rattle.asn1_model.specs.DistinctSets.{SetsAreDistinct};
+ghost use Rattle.asn1_model.specs.WrittenAlike.{AreWrittenAlike};
 
 use asn1_schema::{
     AsnType, Choice, ChoiceType, Constraints, Decode, DecodeChoice, DecodeChoiceByIndex,
@@ -84,6 +86,12 @@ impl ChoiceType for Audience {
 /// An `Audience` can be inside other types.
 pub fn audience_is_well_tagged()
     ensures { IsWellTagged ⟦<Audience as AsnType>⟧.meaning }
+{}
+
+/// Equal values are written alike, and in each value the components of a SET have distinct tags: the DER of a value is its only spelling.
+pub fn audience_has_one_spelling()
+    ensures alike { AreWrittenAlike ⟦<Audience as AsnType>⟧.meaning ⟦<Audience as PartialEq>⟧.eq }
+    ensures distinct { SetsAreDistinct ⟦<Audience as AsnType>⟧.meaning }
 {}
 
 impl Encode for Audience {

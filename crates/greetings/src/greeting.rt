@@ -1,8 +1,10 @@
 //! `Greeting ::= SEQUENCE { text UTF8String, times INTEGER (0..255) DEFAULT 1, to Audience OPTIONAL }`
 ghost use Rattle.std.specs.Prelude.{[], codes, ◌∷◌};
 ghost use Rattle.asn1_schema.specs.Words.{IsWellTagged, constructed_agrees, constructed_type, context, default_slot, explicitly_tagged, optional_slot, required_slot, sequence_of_slots, tagged};
+ghost use Rattle.asn1_model.specs.DistinctSets.{SetsAreDistinct};
+ghost use Rattle.asn1_model.specs.WrittenAlike.{AreWrittenAlike};
 
-use crate::audience::Audience;
+use crate::audience::{Audience, audience_has_one_spelling};
 use asn1_schema::{
     AsnType, Constraints, ConstructedType, Decode, DecodeByIndex, DecodeError, Decoded, Decoder,
     Encode, EncodeError, EncodeFields, Encoder, Field, FieldTable, Identifier, Tag, Tagging,
@@ -89,6 +91,14 @@ impl ConstructedType for Greeting {
 pub fn greeting_is_well_tagged()
     ensures { IsWellTagged ⟦<Greeting as AsnType>⟧.meaning }
 {}
+
+/// Equal values are written alike, and in each value the components of a SET have distinct tags: the DER of a value is its only spelling.
+pub fn greeting_has_one_spelling()
+    ensures alike { AreWrittenAlike ⟦<Greeting as AsnType>⟧.meaning ⟦<Greeting as PartialEq>⟧.eq }
+    ensures distinct { SetsAreDistinct ⟦<Greeting as AsnType>⟧.meaning }
+{
+    audience_has_one_spelling();
+}
 
 impl Encode for Greeting {
     fn encode_with_tag_and_constraints<E: Encoder>(

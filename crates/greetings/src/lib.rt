@@ -6,5 +6,5 @@
 mod audience;
 mod greeting;
 
-pub use audience::{Audience, audience_is_well_tagged};
-pub use greeting::{Greeting, greeting_is_well_tagged};
+pub use audience::{Audience, audience_has_one_spelling, audience_is_well_tagged};
+pub use greeting::{Greeting, greeting_has_one_spelling, greeting_is_well_tagged};

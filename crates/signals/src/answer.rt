@@ -1,13 +1,17 @@
 //! `Answer ::= SEQUENCE { parts [0] Parts {{AnswerParts}}, others [1] Parts {{NoParts}} OPTIONAL, ... }`
 ghost use Rattle.std.specs.Prelude.{[], codes, ◌∷◌};
 ghost use Rattle.asn1_schema.specs.Words.{IsWellTagged, constructed_agrees, constructed_type, context, extensible_sequence_after, optional_slot, required_slot, tagged};
+ghost use Rattle.asn1_model.specs.DistinctSets.{SetsAreDistinct};
+ghost use Rattle.asn1_model.specs.WrittenAlike.{AreWrittenAlike};
 
 use crate::aliases::Parts;
+use crate::part::{Part, part_has_one_spelling};
 use asn1_schema::{
     AsnType, Constraints, ConstructedType, Decode, DecodeByIndex, DecodeError, Decoded, Decoder,
     Encode, EncodeError, EncodeFields, Encoder, Field, FieldTable, Identifier, Tag, Tagging,
     TypeTable, decode_sequence_naming_errors, optional, required,
 };
+use asn1_spelling::{equal_lists_are_written_alike, sets_in_lists_are_distinct};
 use asn1_tags::tag;
 use std::alloc::{AllocError, Global};
 
@@ -82,6 +86,16 @@ impl ConstructedType for Answer {
 pub fn answer_is_well_tagged()
     ensures { IsWellTagged ⟦<Answer as AsnType>⟧.meaning }
 {}
+
+/// Equal values are written alike, and in each value the components of a SET have distinct tags: the DER of a value is its only spelling.
+pub fn answer_has_one_spelling()
+    ensures alike { AreWrittenAlike ⟦<Answer as AsnType>⟧.meaning ⟦<Answer as PartialEq>⟧.eq }
+    ensures distinct { SetsAreDistinct ⟦<Answer as AsnType>⟧.meaning }
+{
+    part_has_one_spelling();
+    equal_lists_are_written_alike::<Part>();
+    sets_in_lists_are_distinct::<Part>();
+}
 
 impl Encode for Answer {
     fn encode_with_tag_and_constraints<E: Encoder>(

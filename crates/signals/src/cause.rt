@@ -2,6 +2,8 @@
 ghost use Rattle.std.specs.Prelude.{codes, refl};
 ghost use Rattle.asn1_schema.specs.Words.{IsWellTagged, by_test, enumeration_agrees, enumeration_type, extensible_enumeration, items_of};
 ghost use Rattle.signals.specs.declared.cause.Cause.TheVariants.{Other, Overload};
+ghost use Rattle.asn1_model.specs.DistinctSets.{SetsAreDistinct};
+ghost use Rattle.asn1_model.specs.WrittenAlike.{AreWrittenAlike};
 
 use asn1_schema::{
     AsnType, Constraints, Decode, DecodeError, Decoder, Encode, EncodeError, Encoder, Enumerated,
@@ -61,6 +63,12 @@ impl Enumerated for Cause {
 /// A `Cause` can be inside other types.
 pub fn cause_is_well_tagged()
     ensures { IsWellTagged ⟦<Cause as AsnType>⟧.meaning }
+{}
+
+/// Equal values are written alike, and in each value the components of a SET have distinct tags: the DER of a value is its only spelling.
+pub fn cause_has_one_spelling()
+    ensures alike { AreWrittenAlike ⟦<Cause as AsnType>⟧.meaning ⟦<Cause as PartialEq>⟧.eq }
+    ensures distinct { SetsAreDistinct ⟦<Cause as AsnType>⟧.meaning }
 {}
 
 impl Encode for Cause {

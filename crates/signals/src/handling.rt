@@ -2,6 +2,8 @@
 ghost use Rattle.std.specs.Prelude.{codes, refl};
 ghost use Rattle.asn1_schema.specs.Words.{IsWellTagged, by_test, closed_enumeration, enumeration_agrees, enumeration_type, items_of};
 ghost use Rattle.signals.specs.declared.handling.Handling.TheVariants.{Refuse, Pass, Report};
+ghost use Rattle.asn1_model.specs.DistinctSets.{SetsAreDistinct};
+ghost use Rattle.asn1_model.specs.WrittenAlike.{AreWrittenAlike};
 
 use asn1_schema::{
     AsnType, Constraints, Decode, DecodeError, Decoder, Encode, EncodeError, Encoder, Enumerated,
@@ -62,6 +64,12 @@ impl Enumerated for Handling {
 /// A `Handling` can be inside other types.
 pub fn handling_is_well_tagged()
     ensures { IsWellTagged ⟦<Handling as AsnType>⟧.meaning }
+{}
+
+/// Equal values are written alike, and in each value the components of a SET have distinct tags: the DER of a value is its only spelling.
+pub fn handling_has_one_spelling()
+    ensures alike { AreWrittenAlike ⟦<Handling as AsnType>⟧.meaning ⟦<Handling as PartialEq>⟧.eq }
+    ensures distinct { SetsAreDistinct ⟦<Handling as AsnType>⟧.meaning }
 {}
 
 impl Encode for Handling {

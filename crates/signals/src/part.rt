@@ -9,8 +9,10 @@
 //! ```
 ghost use Rattle.std.specs.Prelude.{[], codes, ◌∷◌};
 ghost use Rattle.asn1_schema.specs.Words.{IsWellTagged, constructed_agrees, constructed_type, context, explicitly_tagged, required_slot, sequence_of_slots, tagged};
+ghost use Rattle.asn1_model.specs.DistinctSets.{SetsAreDistinct};
+ghost use Rattle.asn1_model.specs.WrittenAlike.{AreWrittenAlike};
 
-use crate::handling::Handling;
+use crate::handling::{Handling, handling_has_one_spelling};
 use asn1_schema::{
     Any, AsnType, Constraints, ConstructedType, Decode, DecodeByIndex, DecodeError, Decoded,
     Decoder, Encode, EncodeError, EncodeFields, Encoder, Field, FieldTable, Identifier, Tag,
@@ -100,6 +102,14 @@ impl ConstructedType for Part {
 pub fn part_is_well_tagged()
     ensures { IsWellTagged ⟦<Part as AsnType>⟧.meaning }
 {}
+
+/// Equal values are written alike, and in each value the components of a SET have distinct tags: the DER of a value is its only spelling.
+pub fn part_has_one_spelling()
+    ensures alike { AreWrittenAlike ⟦<Part as AsnType>⟧.meaning ⟦<Part as PartialEq>⟧.eq }
+    ensures distinct { SetsAreDistinct ⟦<Part as AsnType>⟧.meaning }
+{
+    handling_has_one_spelling();
+}
 
 impl Encode for Part {
     fn encode_with_tag_and_constraints<E: Encoder>(

@@ -1,13 +1,17 @@
 //! `Request ::= SEQUENCE { parts [0] Parts {{RequestParts}}, ... }`
 ghost use Rattle.std.specs.Prelude.{[], codes, ◌∷◌};
 ghost use Rattle.asn1_schema.specs.Words.{IsWellTagged, constructed_agrees, constructed_type, context, extensible_sequence_after, required_slot, tagged};
+ghost use Rattle.asn1_model.specs.DistinctSets.{SetsAreDistinct};
+ghost use Rattle.asn1_model.specs.WrittenAlike.{AreWrittenAlike};
 
 use crate::aliases::Parts;
+use crate::part::{Part, part_has_one_spelling};
 use asn1_schema::{
     AsnType, Constraints, ConstructedType, Decode, DecodeByIndex, DecodeError, Decoded, Decoder,
     Encode, EncodeError, EncodeFields, Encoder, Field, FieldTable, Identifier, Tag, Tagging,
     TypeTable, decode_sequence_naming_errors, required,
 };
+use asn1_spelling::{equal_lists_are_written_alike, sets_in_lists_are_distinct};
 use asn1_tags::tag;
 use std::alloc::{AllocError, Global};
 
@@ -76,6 +80,16 @@ impl ConstructedType for Request {
 pub fn request_is_well_tagged()
     ensures { IsWellTagged ⟦<Request as AsnType>⟧.meaning }
 {}
+
+/// Equal values are written alike, and in each value the components of a SET have distinct tags: the DER of a value is its only spelling.
+pub fn request_has_one_spelling()
+    ensures alike { AreWrittenAlike ⟦<Request as AsnType>⟧.meaning ⟦<Request as PartialEq>⟧.eq }
+    ensures distinct { SetsAreDistinct ⟦<Request as AsnType>⟧.meaning }
+{
+    part_has_one_spelling();
+    equal_lists_are_written_alike::<Part>();
+    sets_in_lists_are_distinct::<Part>();
+}
 
 impl Encode for Request {
     fn encode_with_tag_and_constraints<E: Encoder>(

@@ -1,6 +1,8 @@
 //! `{ PART 12 IF UNKNOWN pass HOLDS SEQUENCE { from UTF8String, until [0] INTEGER OPTIONAL } }`
 ghost use Rattle.std.specs.Prelude.{[], codes, ◌∷◌};
 ghost use Rattle.asn1_schema.specs.Words.{IsWellTagged, constructed_agrees, constructed_type, context, optional_slot, required_slot, sequence_of_slots, tagged, untagged};
+ghost use Rattle.asn1_model.specs.DistinctSets.{SetsAreDistinct};
+ghost use Rattle.asn1_model.specs.WrittenAlike.{AreWrittenAlike};
 
 use asn1_schema::{
     AsnType, Constraints, ConstructedType, Decode, DecodeByIndex, DecodeError, Decoded, Decoder,
@@ -80,6 +82,12 @@ impl ConstructedType for RequestPartsObject3 {
 /// A `RequestPartsObject3` can be inside other types.
 pub fn request_parts_object3_is_well_tagged()
     ensures { IsWellTagged ⟦<RequestPartsObject3 as AsnType>⟧.meaning }
+{}
+
+/// Equal values are written alike, and in each value the components of a SET have distinct tags: the DER of a value is its only spelling.
+pub fn request_parts_object3_has_one_spelling()
+    ensures alike { AreWrittenAlike ⟦<RequestPartsObject3 as AsnType>⟧.meaning ⟦<RequestPartsObject3 as PartialEq>⟧.eq }
+    ensures distinct { SetsAreDistinct ⟦<RequestPartsObject3 as AsnType>⟧.meaning }
 {}
 
 impl Encode for RequestPartsObject3 {

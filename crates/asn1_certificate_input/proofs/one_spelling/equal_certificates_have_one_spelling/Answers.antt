@@ -1,16 +1,12 @@
-use Rattle.asn1_der.proofs.OneOutput.{equal_spelling, have_distinct_sets, only_spelling}
-use Rattle.asn1_model.specs.Meaning.{own_records}
-use Rattle.asn1_model.specs.Records.{held}
-use Rattle.asn1_x509.proofs.EqualCertificates.{certificates_same}
-use Rattle.asn1_x509.specs.contracts.certificate.CertificateAsnType.TheImpl.{ghosts as types}
-use Rattle.asn1_x509.specs.contracts.certificate.CertificatePartialEq.TheImpl.{ghosts as equality}
-use Rattle.asn1_certificate_input.proofs.CertificateSets.{certificate_free}
+use Rattle.asn1_x509.specs.contracts.certificate.CertificateAsnType.TheImpl.{ghosts as type}
 use Rattle.asn1_certificate_input.proofs.one_spelling.equal_certificates_have_one_spelling.Goals as goal
 
 pub returns-clause-equal : goal.returns-clause-equal
 returns-clause-equal c = λ one other.
-    equal_spelling types.meaning equality.eq certificates_same one other (have_distinct_sets (held (own_records types.meaning one)) (certificate_free one))
+    c.equal_values_have_one_spelling.ensures.equal c.equal_certificates_have_the_same_records.ensures one other
+    (c.certificate_has_one_spelling.ensures.distinct type.meaning.tag type.meaning.constraints type.meaning.name c.certificate_is_well_tagged.ensures.1 one)
 
 pub returns-clause-only : goal.returns-clause-only
-returns-clause-only c = λ output certificate octets.
-    only_spelling types.meaning equality.eq certificates_same output certificate octets (have_distinct_sets (held (own_records types.meaning certificate)) (certificate_free certificate))
+returns-clause-only c =
+    c.well_tagged_types_have_one_spelling.ensures
+    c.certificate_has_one_spelling.ensures.alike c.certificate_has_one_spelling.ensures.distinct c.certificate_is_well_tagged.ensures

@@ -1,0 +1,28 @@
+-- Equal values are written alike, and in each value the components of a SET have distinct tags.
+use Rattle.asn1_ldap.specs.contracts.modify_request_changes_element.ModifyRequestChangesElementAsnType.TheImpl.{ghosts as type}
+use Rattle.asn1_ldap.specs.contracts.modify_request_changes_element.ModifyRequestChangesElementPartialEq.TheImpl.{ghosts as equality}
+use Rattle.asn1_ldap.specs.contracts.modify_request_changes_element.ModifyRequestChangesElementDecodeByIndex.TheImpl.{ghosts as reader}
+use Rattle.asn1_ldap.specs.contracts.modify_request_changes_element.ModifyRequestChangesElementFieldTable.TheImpl.{ghosts as table}
+use Rattle.asn1_slots.proofs.WrittenAlike.{type_alike}
+use Rattle.asn1_slots.proofs.DistinctSets.{type_distinct}
+use Rattle.asn1_schema.specs.Words.{constructed_agrees}
+use Rattle.std.proofs.Common.{refl}
+use Rattle.asn1_model.proofs.WrittenAlike.{tagged_alike}
+use Rattle.asn1_model.proofs.DistinctSets.{tagged_distinct}
+use Rattle.asn1_ldap.proofs.modify_request_changes_element.modify_request_changes_element_has_one_spelling.Goals as goal
+
+pub returns-clause-alike : goal.returns-clause-alike
+returns-clause-alike c =
+    type_alike table.components reader.layout type.meaning equality.eq (λ are. are) constructed_agrees (
+      search (tagged_alike, c.modify_request_changes_element_operation_has_one_spelling.ensures.alike),
+      (search (tagged_alike, c.partial_attribute_has_one_spelling.ensures.alike), tt),
+    )
+    (λ v w. refl)
+
+pub returns-clause-distinct : goal.returns-clause-distinct
+returns-clause-distinct c =
+    type_distinct table.components reader.layout type.meaning (λ are. are) constructed_agrees (
+      search (tagged_distinct, c.modify_request_changes_element_operation_has_one_spelling.ensures.distinct),
+      (search (tagged_distinct, c.partial_attribute_has_one_spelling.ensures.distinct), tt),
+    )
+    (λ kind. cc)

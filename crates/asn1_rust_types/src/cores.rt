@@ -1,0 +1,258 @@
+//! What types are below their lists and their other names.
+use asn1_rust_code::{Import, TypeName};
+use asn1_rust_components::{Alias, ListKind, TypeFile};
+use std::alloc::{AllocError, Global};
+use std::collections::HashMap;
+
+/// The types of the language and of the libraries whose equal values are one value.
+const SINGLE: &[&str] = &[
+    "Any",
+    "BmpString",
+    "GeneralString",
+    "GeneralizedTime",
+    "GraphicString",
+    "Ia5String",
+    "Integer",
+    "NumericString",
+    "ObjectDescriptor",
+    "ObjectIdentifier",
+    "OctetString",
+    "PrintableString",
+    "TeletexString",
+    "UtcTime",
+    "VisibleString",
+    "asn1_contents::Date",
+    "asn1_contents::DateTime",
+    "asn1_contents::Real",
+    "asn1_contents::RelativeOid",
+    "asn1_contents::TimeOfDay",
+    "bool",
+    "i16",
+    "i32",
+    "i64",
+    "i8",
+    "u16",
+    "u32",
+    "u64",
+    "u8",
+];
+
+/// Those of bits.
+const BITS: &[&str] = &["BitString", "BitVec", "NamedBitString"];
+
+/// How deep types are below tags and other names at most.
+const DEEPEST: usize = 100;
+
+/// A type without parts, by what equal values have in common.
+#[derive(Clone, Copy)]
+pub(crate) enum Leaf {
+    /// NULL, of which records name no value.
+    Null,
+    /// The value.
+    Value,
+    /// The value, which is bits.
+    Bits,
+    /// The octets of a text, which is inside so many wrappers.
+    Text(usize),
+}
+
+/// What is below lists and other names.
+#[derive(Clone, Copy)]
+pub(crate) enum Core<'a> {
+    /// A type without parts.
+    Leaf(Leaf),
+    /// A type of the crate.
+    Type(&'a TypeFile),
+}
+
+/// A list, with the type of its elements.
+#[derive(Drop)]
+pub(crate) struct ListOf {
+    pub(crate) kind: ListKind,
+    pub(crate) element: TypeName,
+}
+
+/// A type that is known: lists, the outermost first, and what is below them.
+#[derive(Drop)]
+pub(crate) struct Known<'a> {
+    pub(crate) lists: Vec<ListOf>,
+    pub(crate) core: Core<'a>,
+}
+
+// What a name stands for.
+#[derive(Clone, Copy)]
+enum Named<'a> {
+    Type(&'a TypeFile),
+    Alias(&'a TypeName),
+}
+
+/// The types of a crate, by their names.
+#[derive(Drop)]
+pub(crate) struct Names<'a> {
+    names: HashMap<String, Named<'a>>,
+}
+
+impl<'a> Names<'a> {
+    /// The names of these types, and these names for types.
+    pub(crate) fn of(
+        alloc: Global,
+        files: &'a [TypeFile],
+        aliases: &'a [Alias],
+    ) -> Result<Names<'a>, AllocError> {
+        let mut names = HashMap::new(alloc);
+        for file in files {
+            let name = String::from_str(alloc, file.name.as_str())?;
+            names.insert(name, Named::Type(file))?;
+        }
+        for alias in aliases {
+            let name = String::from_str(alloc, alias.name.as_str())?;
+            names.insert(name, Named::Alias(&alias.definition))?;
+        }
+        Ok(Names { names })
+    }
+
+    /// What a type is, if it is known.
+    pub(crate) fn known(
+        &self,
+        alloc: Global,
+        definition: &'a TypeName,
+    ) -> Result<Option<Known<'a>>, AllocError> {
+        let mut lists = Vec::new(alloc);
+        let mut definition = definition;
+        for _ in 0..DEEPEST {
+            let text = below_lists(alloc, definition, &mut lists)?;
+            match self.names.get(text) {
+                Some(Named::Alias(next)) => definition = *next,
+                Some(Named::Type(file)) => {
+                    let core = Core::Type(*file);
+                    return Ok(Some(Known { lists, core }));
+                }
+                None => {
+                    return Ok(match self.leaf(text) {
+                        Some(leaf) => Some(Known {
+                            lists,
+                            core: Core::Leaf(leaf),
+                        }),
+                        None => None,
+                    });
+                }
+            }
+        }
+        Ok(None)
+    }
+
+    /// The type of the crate that has this name, if there is one.
+    pub(crate) fn file(&self, name: &str) -> Option<&'a TypeFile> {
+        match self.names.get(name) {
+            Some(Named::Type(file)) => Some(*file),
+            _ => None,
+        }
+    }
+
+    // A type without parts, below tags and other names.
+    fn leaf(&self, text: &str) -> Option<Leaf> {
+        let mut inner = text;
+        let mut depth: usize = 0;
+        for _ in 0..DEEPEST {
+            if let Some(content) = below_tag(inner) {
+                depth = depth.saturating_add(1);
+                inner = content;
+            } else {
+                match self.names.get(inner) {
+                    Some(Named::Alias(next)) => inner = next.text.as_str(),
+                    Some(Named::Type(_)) => return None,
+                    None => return leaf_at(inner, depth),
+                }
+            }
+        }
+        None
+    }
+}
+
+// The type of this name, if it has no parts, inside so many wrappers.
+fn leaf_at(text: &str, depth: usize) -> Option<Leaf> {
+    if text == "()" {
+        Some(Leaf::Null)
+    } else if text == "Utf8String" {
+        Some(Leaf::Text(depth))
+    } else if text == "UniversalString" {
+        Some(Leaf::Text(depth.saturating_add(1)))
+    } else if BITS.contains(&text) {
+        Some(Leaf::Bits)
+    } else if SINGLE.contains(&text) || text.starts_with("ConstrainedInteger<") {
+        Some(Leaf::Value)
+    } else {
+        None
+    }
+}
+
+// The type under a tag of its own.
+fn below_tag(text: &str) -> Option<&str> {
+    let arguments = match text.strip_prefix("Implicit<") {
+        Some(arguments) => arguments,
+        None => text.strip_prefix("Explicit<")?,
+    };
+    let (_, content) = arguments.split_once(", ")?;
+    content.strip_suffix(">")
+}
+
+// The type below lists, which are added.
+fn below_lists<'n>(
+    alloc: Global,
+    definition: &'n TypeName,
+    lists: &mut Vec<ListOf>,
+) -> Result<&'n str, AllocError> {
+    let mut text = definition.text.as_str();
+    for _ in 0..definition.text.len() {
+        match list_of(text) {
+            Some((kind, element)) => {
+                let element_type = element_name(alloc, definition, element)?;
+                lists.push(ListOf {
+                    kind,
+                    element: element_type,
+                })?;
+                text = element;
+            }
+            None => break,
+        }
+    }
+    Ok(text)
+}
+
+// A list, and the name of the type of its elements.
+fn list_of(text: &str) -> Option<(ListKind, &str)> {
+    match text.strip_prefix("Vec<") {
+        Some(rest) => Some((ListKind::SequenceOf, rest.strip_suffix(">")?)),
+        None => {
+            let rest = text.strip_prefix("SetOf<")?;
+            Some((ListKind::SetOf, rest.strip_suffix(">")?))
+        }
+    }
+}
+
+// A type inside another, with the imports that its name needs.
+fn element_name(alloc: Global, whole: &TypeName, element: &str) -> Result<TypeName, AllocError> {
+    let mut imports: Vec<Import> = Vec::new(alloc);
+    for import in &whole.imports {
+        if has_word(element, import.name.as_str()) {
+            imports.push(import.copy(alloc)?)?;
+        }
+    }
+    Ok(TypeName {
+        text: String::from_str(alloc, element)?,
+        imports,
+        is_explicit: false,
+    })
+}
+
+// Whether a word is among those of a type.
+fn has_word(text: &str, word: &str) -> bool {
+    for part in text.split('<') {
+        for argument in part.split(", ") {
+            if argument.trim_end_matches('>') == word {
+                return true;
+            }
+        }
+    }
+    false
+}

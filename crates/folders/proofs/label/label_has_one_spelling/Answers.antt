@@ -1,0 +1,29 @@
+-- Equal values are written alike, and in each value the components of a SET have distinct tags.
+use Rattle.folders.specs.contracts.label.LabelAsnType.TheImpl.{ghosts as type}
+use Rattle.folders.specs.contracts.label.LabelPartialEq.TheImpl.{ghosts as equality}
+use Rattle.folders.specs.contracts.label.LabelDecodeByIndex.TheImpl.{ghosts as reader}
+use Rattle.folders.specs.contracts.label.LabelFieldTable.TheImpl.{ghosts as table}
+use Rattle.asn1_slots.proofs.WrittenAlike.{type_alike}
+use Rattle.asn1_slots.proofs.DistinctSets.{type_distinct}
+use Rattle.asn1_schema.specs.Words.{constructed_agrees}
+use Rattle.std.proofs.Common.{refl, rules, ◌≡◌}
+use Rattle.asn1_model.proofs.SameUpToOrder.{SameAll-refl}
+use Rattle.asn1_model.proofs.WrittenAlike.{tagged_alike}
+use Rattle.asn1_model.proofs.DistinctSets.{tagged_distinct}
+use Rattle.folders.proofs.label.label_has_one_spelling.Goals as goal
+
+pub returns-clause-alike : goal.returns-clause-alike
+returns-clause-alike c =
+    type_alike table.components reader.layout type.meaning equality.eq (λ are. are) constructed_agrees (
+      (λ can v w same. (let one : v.bytes.items ≡ w.bytes.items = search rules in rw one (SameAll-refl _))),
+      (search (tagged_alike, (c.equal_sets_of_are_written_alike.ensures (λ t c n can v w same. (let one : v.bytes.items ≡ w.bytes.items = search rules in rw one (SameAll-refl _))))), tt),
+    )
+    (λ v w. refl)
+
+pub returns-clause-distinct : goal.returns-clause-distinct
+returns-clause-distinct c =
+    type_distinct table.components reader.layout type.meaning (λ are. are) constructed_agrees (
+      search rules,
+      (search (tagged_distinct, (c.sets_in_sets_of_are_distinct.ensures (search rules))), tt),
+    )
+    (λ kind. cc)

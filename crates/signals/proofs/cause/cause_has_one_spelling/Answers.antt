@@ -1,0 +1,13 @@
+-- Equal values are written alike, and in each value the components of a SET have distinct tags.
+use Rattle.signals.specs.contracts.cause.CauseAsnType.TheImpl.{ghosts as type}
+use Rattle.asn1_model.proofs.WrittenAlike.{alike_if_one}
+use Rattle.std.proofs.Common.{rules}
+use Rattle.signals.proofs.cause.cause_has_one_spelling.Goals as goal
+
+pub returns-clause-alike : goal.returns-clause-alike
+returns-clause-alike c =
+    alike_if_one type.meaning (λ v w same. search rules)
+
+pub returns-clause-distinct : goal.returns-clause-distinct
+returns-clause-distinct c =
+    search rules

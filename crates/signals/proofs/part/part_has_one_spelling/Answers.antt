@@ -1,0 +1,35 @@
+-- Equal values are written alike, and in each value the components of a SET have distinct tags.
+use Rattle.signals.specs.contracts.part.PartAsnType.TheImpl.{ghosts as type}
+use Rattle.signals.specs.contracts.part.PartPartialEq.TheImpl.{ghosts as equality}
+use Rattle.signals.specs.contracts.part.PartDecodeByIndex.TheImpl.{ghosts as reader}
+use Rattle.signals.specs.contracts.part.PartFieldTable.TheImpl.{ghosts as table}
+use Rattle.asn1_slots.proofs.WrittenAlike.{type_alike}
+use Rattle.asn1_slots.proofs.DistinctSets.{type_distinct}
+use Rattle.asn1_schema.specs.Words.{constructed_agrees}
+use Rattle.std.proofs.Common.{refl, rules, ◌≡◌}
+use Rattle.asn1_model.proofs.SameUpToOrder.{SameAll-refl}
+use Rattle.asn1_model.proofs.WrittenAlike.{tagged_alike}
+use Rattle.asn1_model.proofs.DistinctSets.{tagged_distinct}
+use Rattle.signals.proofs.part.part_has_one_spelling.Goals as goal
+
+pub returns-clause-alike : goal.returns-clause-alike
+returns-clause-alike c =
+    type_alike table.components reader.layout type.meaning equality.eq (λ are. are) constructed_agrees (
+      (λ can v w same. (let one : v ≡ w = search rules in rw one (SameAll-refl _))),
+      (
+        search (tagged_alike, c.handling_has_one_spelling.ensures.alike),
+        ((λ can v w same. (let one : v ≡ w = search rules in rw one (SameAll-refl _))), tt),
+      ),
+    )
+    (λ v w. refl)
+
+pub returns-clause-distinct : goal.returns-clause-distinct
+returns-clause-distinct c =
+    type_distinct table.components reader.layout type.meaning (λ are. are) constructed_agrees (
+      search rules,
+      (
+        search (tagged_distinct, c.handling_has_one_spelling.ensures.distinct),
+        (search rules, tt),
+      ),
+    )
+    (λ kind. cc)
