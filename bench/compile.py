@@ -526,7 +526,8 @@ def try_arguments():
     expect("145 additions", run(["x"], many), ("", "-:2:23: a type of more than 144 components is not supported\n", 1))
     unnamed = "M DEFINITIONS ::= BEGIN\nA ::= SEQUENCE OF SEQUENCE { a NULL }\nB ::= [1] CHOICE { a NULL }\nEND\n"
     expect("types without a name", sorted(files_of(run(["x"], unnamed)[0])),
-           ["src/a_element.rt", "src/aliases.rt", "src/b_content.rt", "src/lib.rt", "src/tags.rt"])
+           ["proofs/a_element/a_element_has_one_spelling/Answers.antt", "proofs/b_content/b_content_has_one_spelling/Answers.antt",
+            "src/a_element.rt", "src/aliases.rt", "src/b_content.rt", "src/lib.rt", "src/tags.rt"])
     completed = ("M DEFINITIONS ::= BEGIN\nT {A} ::= SEQUENCE { inner SEQUENCE { a A } }\n"
                  "X ::= SEQUENCE { COMPONENTS OF T {INTEGER} }\nY ::= SEQUENCE { COMPONENTS OF T {NULL} }\nEND\n")
     files = files_of(run(["x"], completed)[0])
@@ -541,7 +542,7 @@ def try_arguments():
     expect("a circle through a group", (written, told.split(": ", 2)[-1].split(" is ")[0], status), ("", "a group of additions", 1))
     written, told, status = run(["x"], TABLES)
     expect("tables of object sets", (sorted(files_of(written)), [line.split(" warning: ")[-1] for line in told.splitlines()], status),
-           (["proofs/same/Same/read/Answers.antt", "src/a.rt", "src/lib.rt", "src/same.rt"],
+           (["proofs/a/a_has_one_spelling/Answers.antt", "proofs/same/Same/read/Answers.antt", "src/a.rt", "src/lib.rt", "src/same.rt"],
             ["object set 'Less' has no table: it has EXCEPT", "objects 'a' and 'b' have the same &id"], 0))
     expect("extensible CHOICEs of a SET in an object", run(["x"], CHOICES),
            ("", "-:4:29: a SET has at most one extensible CHOICE without a tag; give this one a tag\n", 1))

@@ -141,12 +141,14 @@ impl Code {
         let inner = depth.saturating_add(1);
         self.indent(inner)?;
         let mut column = indentation(inner);
+        let mut is_one_line = true;
         for (index, item) in list.items.iter().enumerate() {
             // The item, the space in front and the comma behind.
             let next = column.saturating_add(item.len()).saturating_add(2);
             if index == 0 {
                 column = next.saturating_sub(1);
-            } else if next >= packed_width(list, index) {
+            } else if next >= packed_width(list, index, is_one_line) {
+                is_one_line = false;
                 self.blank()?;
                 self.indent(inner)?;
                 column = indentation(inner)
@@ -218,10 +220,10 @@ fn joined_width(items: &[String]) -> usize {
     width
 }
 
-// The column in front of which an item has to end that is beside others. The last of some names may end one column behind.
-fn packed_width(list: &List<'_>, index: usize) -> usize {
+// The column in front of which an item has to end that is beside others. The last name may end one column behind, if all are in one line.
+fn packed_width(list: &List<'_>, index: usize, is_one_line: bool) -> usize {
     let is_last = index.saturating_add(1) == list.items.len();
-    if is_last && list.style == ListStyle::Names {
+    if is_last && is_one_line && list.style == ListStyle::Names {
         WIDTH.saturating_add(1)
     } else {
         WIDTH

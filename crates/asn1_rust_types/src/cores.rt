@@ -65,17 +65,21 @@ pub(crate) enum Core<'a> {
     Type(&'a TypeFile),
 }
 
-/// A list, with the type of its elements.
+/// What is around a type.
 #[derive(Drop)]
-pub(crate) struct ListOf {
-    pub(crate) kind: ListKind,
-    pub(crate) element: TypeName,
+pub(crate) enum Layer {
+    /// A list, with the type of its elements.
+    List(ListKind, TypeName),
+    /// A tag of its own, in the place of that of the type.
+    Implicit,
+    /// One in front of it.
+    Explicit,
 }
 
-/// A type that is known: lists, the outermost first, and what is below them.
+/// A type that is known: what is around its core, the outermost first.
 #[derive(Drop)]
 pub(crate) struct Known<'a> {
-    pub(crate) lists: Vec<ListOf>,
+    pub(crate) layers: Vec<Layer>,
     pub(crate) core: Core<'a>,
 }
 
@@ -111,30 +115,38 @@ impl<'a> Names<'a> {
         Ok(Names { names })
     }
 
-    /// What a type is, if it is known.
+    /// What a type is, if it is known: two tags of definitions, one right in the other, are not.
     pub(crate) fn known(
         &self,
         alloc: Global,
         definition: &'a TypeName,
     ) -> Result<Option<Known<'a>>, AllocError> {
-        let mut lists = Vec::new(alloc);
-        let mut definition = definition;
+        let mut layers = Vec::new(alloc);
+        // The type whose name the text is in.
+        let mut owner = definition;
+        let mut text = definition.text.as_str();
         for _ in 0..DEEPEST {
-            let text = below_lists(alloc, definition, &mut lists)?;
-            match self.names.get(text) {
-                Some(Named::Alias(next)) => definition = *next,
-                Some(Named::Type(file)) => {
-                    let core = Core::Type(*file);
-                    return Ok(Some(Known { lists, core }));
+            if let Some(leaf) = self.leaf(text) {
+                let core = Core::Leaf(leaf);
+                return Ok(Some(Known { layers, core }));
+            }
+            if let Some((layer, inner)) = outer_layer(alloc, owner, text)? {
+                if is_tag(&layer) && layers.last().is_some_and(is_tag) {
+                    return Ok(None);
                 }
-                None => {
-                    return Ok(match self.leaf(text) {
-                        Some(leaf) => Some(Known {
-                            lists,
-                            core: Core::Leaf(leaf),
-                        }),
-                        None => None,
-                    });
+                layers.push(layer)?;
+                text = inner;
+            } else {
+                match self.names.get(text) {
+                    Some(Named::Alias(next)) => {
+                        owner = *next;
+                        text = owner.text.as_str();
+                    }
+                    Some(Named::Type(file)) => {
+                        let core = Core::Type(*file);
+                        return Ok(Some(Known { layers, core }));
+                    }
+                    None => return Ok(None),
                 }
             }
         }
@@ -154,7 +166,7 @@ impl<'a> Names<'a> {
         let mut inner = text;
         let mut depth: usize = 0;
         for _ in 0..DEEPEST {
-            if let Some(content) = below_tag(inner) {
+            if let Some((_, content)) = below_tag(inner) {
                 depth = depth.saturating_add(1);
                 inner = content;
             } else {
@@ -186,37 +198,36 @@ fn leaf_at(text: &str, depth: usize) -> Option<Leaf> {
     }
 }
 
-// The type under a tag of its own.
-fn below_tag(text: &str) -> Option<&str> {
-    let arguments = match text.strip_prefix("Implicit<") {
-        Some(arguments) => arguments,
-        None => text.strip_prefix("Explicit<")?,
-    };
-    let (_, content) = arguments.split_once(", ")?;
-    content.strip_suffix(">")
+// Whether a layer is a tag.
+fn is_tag(layer: &Layer) -> bool {
+    matches!(layer, Layer::Implicit | Layer::Explicit)
 }
 
-// The type below lists, which are added.
-fn below_lists<'n>(
+// The outermost layer of a type, and the type in it.
+fn outer_layer<'n>(
     alloc: Global,
-    definition: &'n TypeName,
-    lists: &mut Vec<ListOf>,
-) -> Result<&'n str, AllocError> {
-    let mut text = definition.text.as_str();
-    for _ in 0..definition.text.len() {
-        match list_of(text) {
-            Some((kind, element)) => {
-                let element_type = element_name(alloc, definition, element)?;
-                lists.push(ListOf {
-                    kind,
-                    element: element_type,
-                })?;
-                text = element;
-            }
-            None => break,
-        }
+    owner: &TypeName,
+    text: &'n str,
+) -> Result<Option<(Layer, &'n str)>, AllocError> {
+    if let Some((kind, element)) = list_of(text) {
+        let name = element_name(alloc, owner, element)?;
+        return Ok(Some((Layer::List(kind, name), element)));
     }
-    Ok(text)
+    Ok(match below_tag(text) {
+        Some((true, content)) => Some((Layer::Explicit, content)),
+        Some((false, content)) => Some((Layer::Implicit, content)),
+        None => None,
+    })
+}
+
+// Whether the tag of its own that a type is under is explicit, and the type.
+fn below_tag(text: &str) -> Option<(bool, &str)> {
+    let (is_explicit, arguments) = match text.strip_prefix("Implicit<") {
+        Some(arguments) => (false, arguments),
+        None => (true, text.strip_prefix("Explicit<")?),
+    };
+    let (_, content) = arguments.split_once(", ")?;
+    Some((is_explicit, content.strip_suffix(">")?))
 }
 
 // A list, and the name of the type of its elements.

@@ -1,5 +1,5 @@
 //! The terms of the proof that a type has one spelling.
-use crate::cores::{Core, Known, Leaf, ListOf, Names};
+use crate::cores::{Core, Known, Layer, Leaf, Names};
 use crate::uses::Uses;
 use asn1_rust_code::{Import, Tagging, TypeName};
 use asn1_rust_components::{
@@ -30,10 +30,10 @@ pub(crate) struct Terms<'n, 'a> {
     pub(crate) has_empty_list: bool,
 }
 
-// A law of lists.
+// A law of what is around types.
 #[derive(Clone, Copy)]
-enum ListLaw {
-    // Equal lists are written alike.
+enum LayerLaw {
+    // Equal values are written alike.
     Alike,
     // SETs in them have distinct tags.
     Distinct,
@@ -160,7 +160,7 @@ impl<'n, 'a> Terms<'n, 'a> {
         tagging: Tagging,
     ) -> Result<PartTerms, AllocError> {
         match self.names.known(self.alloc, definition)? {
-            Some(known) => match (known.core, known.lists.is_empty()) {
+            Some(known) => match (known.core, known.layers.is_empty()) {
                 (Core::Leaf(leaf), true) => Ok(PartTerms {
                     alike: self.leaf(leaf, "can")?,
                     distinct: self.search()?,
@@ -177,84 +177,106 @@ impl<'n, 'a> Terms<'n, 'a> {
 
     // The terms for a part of a type that has laws.
     fn under_tag(&mut self, known: &Known<'a>, tagging: Tagging) -> Result<PartTerms, AllocError> {
-        let alloc = self.alloc;
-        let front = match tagging {
-            Tagging::Explicit(_) => "after_tag",
-            _ => "tagged",
-        };
-        let alike_lemma = format!(in alloc; "{front}_alike")?;
-        let alike_lemma = alike_lemma.as_str();
-        let distinct_lemma = format!(in alloc; "{front}_distinct")?;
-        let distinct_lemma = distinct_lemma.as_str();
-        self.uses
-            .add("asn1_model.proofs.WrittenAlike", &[alike_lemma])?;
-        self.uses
-            .add("asn1_model.proofs.DistinctSets", &[distinct_lemma])?;
-        let alike = self.alike(known)?;
-        let alike = alike.as_str();
-        let distinct = self.distinct(known)?;
-        let distinct = distinct.as_str();
         Ok(PartTerms {
-            alike: format!(in alloc; "search ({alike_lemma}, {alike})")?,
-            distinct: format!(in alloc; "search ({distinct_lemma}, {distinct})")?,
+            alike: self.law_under_tag(known, tagging, LayerLaw::Alike)?,
+            distinct: self.law_under_tag(known, tagging, LayerLaw::Distinct)?,
         })
     }
 
-    // That equal values of a type are written alike.
-    fn alike(&mut self, known: &Known<'a>) -> Result<String, AllocError> {
-        let core = match known.core {
-            Core::Leaf(leaf) => self.leaf(leaf, "t c n can")?,
-            Core::Type(file) => self.law(file, "alike")?,
-        };
-        self.in_lists(core, known.lists.as_slice(), ListLaw::Alike)
-    }
-
-    // That in values of a type the components of SETs have distinct tags.
-    fn distinct(&mut self, known: &Known<'a>) -> Result<String, AllocError> {
-        let core = match known.core {
-            Core::Leaf(_) => {
-                let search = self.search()?;
-                let search = search.as_str();
-                format!(in self.alloc; "({search})")?
-            }
-            Core::Type(file) => self.law(file, "distinct")?,
-        };
-        self.in_lists(core, known.lists.as_slice(), ListLaw::Distinct)
-    }
-
-    // The law of lists of what this term is of.
-    fn in_lists(
+    // The law of a part of such a type.
+    fn law_under_tag(
         &mut self,
-        core: String,
-        lists: &[ListOf],
-        law: ListLaw,
+        known: &Known<'a>,
+        tagging: Tagging,
+        law: LayerLaw,
     ) -> Result<String, AllocError> {
-        let mut term = core;
-        for list in lists.iter().rev() {
-            let clause = self.list_law(list, law)?;
-            let clause = clause.as_str();
+        let alloc = self.alloc;
+        let lemma = tagging_lemma(tagging, law);
+        self.uses.add(lemma_path(law), &[lemma])?;
+        let mut lemmas = String::from_str(alloc, lemma)?;
+        let tags = count_tags(known.layers.as_slice());
+        for layer in known.layers.iter().take(tags) {
+            let lemma = self.layer_lemma(layer, law)?;
+            lemmas.push_str(", ")?;
+            lemmas.push_str(lemma)?;
+        }
+        let term = self.in_layers(known, tags, law)?;
+        let lemmas = lemmas.as_str();
+        let term = term.as_str();
+        format!(in alloc; "search ({lemmas}, {term})")
+    }
+
+    // The law of a type without so many of its layers.
+    fn in_layers(
+        &mut self,
+        known: &Known<'a>,
+        count: usize,
+        law: LayerLaw,
+    ) -> Result<String, AllocError> {
+        let mut term = self.core(known.core, law)?;
+        for layer in known.layers.iter().skip(count).rev() {
+            let front = match layer {
+                Layer::List(kind, element) => self.list_law(*kind, element, law)?,
+                _ => String::from_str(self.alloc, self.layer_lemma(layer, law)?)?,
+            };
+            let front = front.as_str();
             let inner = term.as_str();
-            term = format!(in self.alloc; "({clause} {inner})")?;
+            term = match layer {
+                Layer::List(_, _) => format!(in self.alloc; "({front} {inner})")?,
+                _ => format!(in self.alloc; "(search ({front}, {inner}))")?,
+            };
         }
         Ok(term)
     }
 
+    // The law of a type without layers.
+    fn core(&mut self, core: Core<'a>, law: LayerLaw) -> Result<String, AllocError> {
+        match (core, law) {
+            (Core::Leaf(leaf), LayerLaw::Alike) => self.leaf(leaf, "t c n can"),
+            (Core::Leaf(_), LayerLaw::Distinct) => {
+                let search = self.search()?;
+                let search = search.as_str();
+                format!(in self.alloc; "({search})")
+            }
+            (Core::Type(file), LayerLaw::Alike) => self.law(file, "alike"),
+            (Core::Type(file), LayerLaw::Distinct) => self.law(file, "distinct"),
+        }
+    }
+
+    // The lemma on a layer that is a tag, which the proof brings in.
+    fn layer_lemma(&mut self, layer: &Layer, law: LayerLaw) -> Result<&'static str, AllocError> {
+        let (path, lemma) = match (layer, law) {
+            (Layer::Explicit, LayerLaw::Alike) => ("WrittenAlike", "explicit_alike"),
+            (Layer::Explicit, LayerLaw::Distinct) => ("DistinctSets", "explicit_distinct"),
+            (_, LayerLaw::Alike) => ("WrittenAlike", "implicit_alike"),
+            (_, LayerLaw::Distinct) => ("DistinctSets", "implicit_distinct"),
+        };
+        let path = format!(in self.alloc; "asn1_schema.proofs.type_lemmas.{path}")?;
+        self.uses.add(path.as_str(), &[lemma])?;
+        Ok(lemma)
+    }
+
     // The clause of the law of a list.
-    fn list_law(&mut self, list: &ListOf, law: ListLaw) -> Result<String, AllocError> {
+    fn list_law(
+        &mut self,
+        kind: ListKind,
+        element: &TypeName,
+        law: LayerLaw,
+    ) -> Result<String, AllocError> {
         let alloc = self.alloc;
-        let function = list_function(list.kind, law);
+        let function = list_function(kind, law);
         let mut imports = Vec::new(alloc);
         imports.push(Import {
             is_foreign: true,
             path: String::from_str(alloc, LAWS)?,
             name: String::from_str(alloc, function)?,
         })?;
-        for import in &list.element.imports {
+        for import in &element.imports {
             imports.push(import.copy(alloc)?)?;
         }
         self.premise(LawCall {
             function: String::from_str(alloc, function)?,
-            argument: Some(String::from_str(alloc, list.element.text.as_str())?),
+            argument: Some(String::from_str(alloc, element.text.as_str())?),
             imports,
         })
     }
@@ -374,13 +396,43 @@ fn constructed_of(file: &TypeFile) -> Option<&Constructed> {
     }
 }
 
+// The module of the lemmas on parts under tags.
+fn lemma_path(law: LayerLaw) -> &'static str {
+    match law {
+        LayerLaw::Alike => "asn1_model.proofs.WrittenAlike",
+        LayerLaw::Distinct => "asn1_model.proofs.DistinctSets",
+    }
+}
+
+// The lemma on a part under this tag.
+fn tagging_lemma(tagging: Tagging, law: LayerLaw) -> &'static str {
+    match (tagging, law) {
+        (Tagging::Explicit(_), LayerLaw::Alike) => "after_tag_alike",
+        (Tagging::Explicit(_), LayerLaw::Distinct) => "after_tag_distinct",
+        (_, LayerLaw::Alike) => "tagged_alike",
+        (_, LayerLaw::Distinct) => "tagged_distinct",
+    }
+}
+
+// The number of layers that are tags, in front of the first that is a list.
+fn count_tags(layers: &[Layer]) -> usize {
+    let mut count: usize = 0;
+    for layer in layers {
+        if matches!(layer, Layer::List(_, _)) {
+            break;
+        }
+        count = count.saturating_add(1);
+    }
+    count
+}
+
 // The law of a kind of list.
-fn list_function(kind: ListKind, law: ListLaw) -> &'static str {
+fn list_function(kind: ListKind, law: LayerLaw) -> &'static str {
     match (kind, law) {
-        (ListKind::SequenceOf, ListLaw::Alike) => "equal_lists_are_written_alike",
-        (ListKind::SequenceOf, ListLaw::Distinct) => "sets_in_lists_are_distinct",
-        (ListKind::SetOf, ListLaw::Alike) => "equal_sets_of_are_written_alike",
-        (ListKind::SetOf, ListLaw::Distinct) => "sets_in_sets_of_are_distinct",
+        (ListKind::SequenceOf, LayerLaw::Alike) => "equal_lists_are_written_alike",
+        (ListKind::SequenceOf, LayerLaw::Distinct) => "sets_in_lists_are_distinct",
+        (ListKind::SetOf, LayerLaw::Alike) => "equal_sets_of_are_written_alike",
+        (ListKind::SetOf, LayerLaw::Distinct) => "sets_in_sets_of_are_distinct",
     }
 }
 
