@@ -7,8 +7,8 @@ use std::alloc::AllocError;
 use std::fmt::Write;
 use std::fs;
 
-// What a file has that names a library, with the library: the types whose values are kept as their contents octets, the values of open
-// types, and what the laws of one spelling are of.
+// The words by which a file names a library, each with the library: of the types whose values are kept as their contents octets, of the
+// values of open types, and of the laws of one spelling.
 const LIBRARIES: &[(&str, &str)] = &[
     ("asn1_contents::", "asn1_contents"),
     ("asn1_tables::", "asn1_tables"),

@@ -89,7 +89,8 @@ pub fn add_request_is_well_tagged()
 
 /// Equal values are written alike, and in each value the components of a SET have distinct tags: the DER of a value is its only spelling.
 pub fn add_request_has_one_spelling()
-    ensures alike { AreWrittenAlike ⟦<AddRequest as AsnType>⟧.meaning ⟦<AddRequest as PartialEq>⟧.eq }
+    ensures alike { AreWrittenAlike ⟦<AddRequest as AsnType>⟧.meaning
+        ⟦<AddRequest as PartialEq>⟧.eq }
     ensures distinct { SetsAreDistinct ⟦<AddRequest as AsnType>⟧.meaning }
 {
     partial_attribute_has_one_spelling();

@@ -93,7 +93,8 @@ pub fn attribute_value_assertion_is_well_tagged()
 
 /// Equal values are written alike, and in each value the components of a SET have distinct tags: the DER of a value is its only spelling.
 pub fn attribute_value_assertion_has_one_spelling()
-    ensures alike { AreWrittenAlike ⟦<AttributeValueAssertion as AsnType>⟧.meaning ⟦<AttributeValueAssertion as PartialEq>⟧.eq }
+    ensures alike { AreWrittenAlike ⟦<AttributeValueAssertion as AsnType>⟧.meaning
+        ⟦<AttributeValueAssertion as PartialEq>⟧.eq }
     ensures distinct { SetsAreDistinct ⟦<AttributeValueAssertion as AsnType>⟧.meaning }
 {}
 

@@ -89,7 +89,8 @@ pub fn authentication_choice_is_well_tagged()
 
 /// Equal values are written alike, and in each value the components of a SET have distinct tags: the DER of a value is its only spelling.
 pub fn authentication_choice_has_one_spelling()
-    ensures alike { AreWrittenAlike ⟦<AuthenticationChoice as AsnType>⟧.meaning ⟦<AuthenticationChoice as PartialEq>⟧.eq }
+    ensures alike { AreWrittenAlike ⟦<AuthenticationChoice as AsnType>⟧.meaning
+        ⟦<AuthenticationChoice as PartialEq>⟧.eq }
     ensures distinct { SetsAreDistinct ⟦<AuthenticationChoice as AsnType>⟧.meaning }
 {
     sasl_credentials_has_one_spelling();

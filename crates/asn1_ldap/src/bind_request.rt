@@ -106,7 +106,8 @@ pub fn bind_request_is_well_tagged()
 
 /// Equal values are written alike, and in each value the components of a SET have distinct tags: the DER of a value is its only spelling.
 pub fn bind_request_has_one_spelling()
-    ensures alike { AreWrittenAlike ⟦<BindRequest as AsnType>⟧.meaning ⟦<BindRequest as PartialEq>⟧.eq }
+    ensures alike { AreWrittenAlike ⟦<BindRequest as AsnType>⟧.meaning
+        ⟦<BindRequest as PartialEq>⟧.eq }
     ensures distinct { SetsAreDistinct ⟦<BindRequest as AsnType>⟧.meaning }
 {
     authentication_choice_has_one_spelling();

@@ -130,7 +130,8 @@ pub fn bind_response_is_well_tagged()
 
 /// Equal values are written alike, and in each value the components of a SET have distinct tags: the DER of a value is its only spelling.
 pub fn bind_response_has_one_spelling()
-    ensures alike { AreWrittenAlike ⟦<BindResponse as AsnType>⟧.meaning ⟦<BindResponse as PartialEq>⟧.eq }
+    ensures alike { AreWrittenAlike ⟦<BindResponse as AsnType>⟧.meaning
+        ⟦<BindResponse as PartialEq>⟧.eq }
     ensures distinct { SetsAreDistinct ⟦<BindResponse as AsnType>⟧.meaning }
 {
     ldap_result_result_code_has_one_spelling();

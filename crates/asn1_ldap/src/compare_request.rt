@@ -90,7 +90,8 @@ pub fn compare_request_is_well_tagged()
 
 /// Equal values are written alike, and in each value the components of a SET have distinct tags: the DER of a value is its only spelling.
 pub fn compare_request_has_one_spelling()
-    ensures alike { AreWrittenAlike ⟦<CompareRequest as AsnType>⟧.meaning ⟦<CompareRequest as PartialEq>⟧.eq }
+    ensures alike { AreWrittenAlike ⟦<CompareRequest as AsnType>⟧.meaning
+        ⟦<CompareRequest as PartialEq>⟧.eq }
     ensures distinct { SetsAreDistinct ⟦<CompareRequest as AsnType>⟧.meaning }
 {
     attribute_value_assertion_has_one_spelling();

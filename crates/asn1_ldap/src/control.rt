@@ -100,7 +100,8 @@ pub fn control_is_well_tagged()
 
 /// Equal values are written alike, and in each value the components of a SET have distinct tags: the DER of a value is its only spelling.
 pub fn control_has_one_spelling()
-    ensures alike { AreWrittenAlike ⟦<Control as AsnType>⟧.meaning ⟦<Control as PartialEq>⟧.eq }
+    ensures alike { AreWrittenAlike ⟦<Control as AsnType>⟧.meaning
+        ⟦<Control as PartialEq>⟧.eq }
     ensures distinct { SetsAreDistinct ⟦<Control as AsnType>⟧.meaning }
 {}
 

@@ -102,7 +102,8 @@ pub fn extended_request_is_well_tagged()
 
 /// Equal values are written alike, and in each value the components of a SET have distinct tags: the DER of a value is its only spelling.
 pub fn extended_request_has_one_spelling()
-    ensures alike { AreWrittenAlike ⟦<ExtendedRequest as AsnType>⟧.meaning ⟦<ExtendedRequest as PartialEq>⟧.eq }
+    ensures alike { AreWrittenAlike ⟦<ExtendedRequest as AsnType>⟧.meaning
+        ⟦<ExtendedRequest as PartialEq>⟧.eq }
     ensures distinct { SetsAreDistinct ⟦<ExtendedRequest as AsnType>⟧.meaning }
 {}
 

@@ -142,7 +142,8 @@ pub fn extended_response_is_well_tagged()
 
 /// Equal values are written alike, and in each value the components of a SET have distinct tags: the DER of a value is its only spelling.
 pub fn extended_response_has_one_spelling()
-    ensures alike { AreWrittenAlike ⟦<ExtendedResponse as AsnType>⟧.meaning ⟦<ExtendedResponse as PartialEq>⟧.eq }
+    ensures alike { AreWrittenAlike ⟦<ExtendedResponse as AsnType>⟧.meaning
+        ⟦<ExtendedResponse as PartialEq>⟧.eq }
     ensures distinct { SetsAreDistinct ⟦<ExtendedResponse as AsnType>⟧.meaning }
 {
     ldap_result_result_code_has_one_spelling();

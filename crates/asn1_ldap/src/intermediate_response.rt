@@ -105,7 +105,8 @@ pub fn intermediate_response_is_well_tagged()
 
 /// Equal values are written alike, and in each value the components of a SET have distinct tags: the DER of a value is its only spelling.
 pub fn intermediate_response_has_one_spelling()
-    ensures alike { AreWrittenAlike ⟦<IntermediateResponse as AsnType>⟧.meaning ⟦<IntermediateResponse as PartialEq>⟧.eq }
+    ensures alike { AreWrittenAlike ⟦<IntermediateResponse as AsnType>⟧.meaning
+        ⟦<IntermediateResponse as PartialEq>⟧.eq }
     ensures distinct { SetsAreDistinct ⟦<IntermediateResponse as AsnType>⟧.meaning }
 {}
 

@@ -121,7 +121,8 @@ pub fn ldap_result_is_well_tagged()
 
 /// Equal values are written alike, and in each value the components of a SET have distinct tags: the DER of a value is its only spelling.
 pub fn ldap_result_has_one_spelling()
-    ensures alike { AreWrittenAlike ⟦<LdapResult as AsnType>⟧.meaning ⟦<LdapResult as PartialEq>⟧.eq }
+    ensures alike { AreWrittenAlike ⟦<LdapResult as AsnType>⟧.meaning
+        ⟦<LdapResult as PartialEq>⟧.eq }
     ensures distinct { SetsAreDistinct ⟦<LdapResult as AsnType>⟧.meaning }
 {
     ldap_result_result_code_has_one_spelling();

@@ -125,7 +125,8 @@ pub fn matching_rule_assertion_is_well_tagged()
 
 /// Equal values are written alike, and in each value the components of a SET have distinct tags: the DER of a value is its only spelling.
 pub fn matching_rule_assertion_has_one_spelling()
-    ensures alike { AreWrittenAlike ⟦<MatchingRuleAssertion as AsnType>⟧.meaning ⟦<MatchingRuleAssertion as PartialEq>⟧.eq }
+    ensures alike { AreWrittenAlike ⟦<MatchingRuleAssertion as AsnType>⟧.meaning
+        ⟦<MatchingRuleAssertion as PartialEq>⟧.eq }
     ensures distinct { SetsAreDistinct ⟦<MatchingRuleAssertion as AsnType>⟧.meaning }
 {}
 

@@ -117,7 +117,8 @@ pub fn modify_dn_request_is_well_tagged()
 
 /// Equal values are written alike, and in each value the components of a SET have distinct tags: the DER of a value is its only spelling.
 pub fn modify_dn_request_has_one_spelling()
-    ensures alike { AreWrittenAlike ⟦<ModifyDnRequest as AsnType>⟧.meaning ⟦<ModifyDnRequest as PartialEq>⟧.eq }
+    ensures alike { AreWrittenAlike ⟦<ModifyDnRequest as AsnType>⟧.meaning
+        ⟦<ModifyDnRequest as PartialEq>⟧.eq }
     ensures distinct { SetsAreDistinct ⟦<ModifyDnRequest as AsnType>⟧.meaning }
 {}
 

@@ -98,7 +98,8 @@ pub fn modify_request_is_well_tagged()
 
 /// Equal values are written alike, and in each value the components of a SET have distinct tags: the DER of a value is its only spelling.
 pub fn modify_request_has_one_spelling()
-    ensures alike { AreWrittenAlike ⟦<ModifyRequest as AsnType>⟧.meaning ⟦<ModifyRequest as PartialEq>⟧.eq }
+    ensures alike { AreWrittenAlike ⟦<ModifyRequest as AsnType>⟧.meaning
+        ⟦<ModifyRequest as PartialEq>⟧.eq }
     ensures distinct { SetsAreDistinct ⟦<ModifyRequest as AsnType>⟧.meaning }
 {
     modify_request_changes_element_has_one_spelling();

@@ -76,7 +76,8 @@ pub fn modify_request_changes_element_operation_is_well_tagged()
 
 /// Equal values are written alike, and in each value the components of a SET have distinct tags: the DER of a value is its only spelling.
 pub fn modify_request_changes_element_operation_has_one_spelling()
-    ensures alike { AreWrittenAlike ⟦<ModifyRequestChangesElementOperation as AsnType>⟧.meaning ⟦<ModifyRequestChangesElementOperation as PartialEq>⟧.eq }
+    ensures alike { AreWrittenAlike ⟦<ModifyRequestChangesElementOperation as AsnType>⟧.meaning
+        ⟦<ModifyRequestChangesElementOperation as PartialEq>⟧.eq }
     ensures distinct { SetsAreDistinct ⟦<ModifyRequestChangesElementOperation as AsnType>⟧.meaning }
 {}
 

@@ -87,7 +87,8 @@ pub fn partial_attribute_is_well_tagged()
 
 /// Equal values are written alike, and in each value the components of a SET have distinct tags: the DER of a value is its only spelling.
 pub fn partial_attribute_has_one_spelling()
-    ensures alike { AreWrittenAlike ⟦<PartialAttribute as AsnType>⟧.meaning ⟦<PartialAttribute as PartialEq>⟧.eq }
+    ensures alike { AreWrittenAlike ⟦<PartialAttribute as AsnType>⟧.meaning
+        ⟦<PartialAttribute as PartialEq>⟧.eq }
     ensures distinct { SetsAreDistinct ⟦<PartialAttribute as AsnType>⟧.meaning }
 {
     equal_sets_of_are_written_alike::<AttributeValue>();

@@ -86,7 +86,8 @@ pub fn sasl_credentials_is_well_tagged()
 
 /// Equal values are written alike, and in each value the components of a SET have distinct tags: the DER of a value is its only spelling.
 pub fn sasl_credentials_has_one_spelling()
-    ensures alike { AreWrittenAlike ⟦<SaslCredentials as AsnType>⟧.meaning ⟦<SaslCredentials as PartialEq>⟧.eq }
+    ensures alike { AreWrittenAlike ⟦<SaslCredentials as AsnType>⟧.meaning
+        ⟦<SaslCredentials as PartialEq>⟧.eq }
     ensures distinct { SetsAreDistinct ⟦<SaslCredentials as AsnType>⟧.meaning }
 {}
 

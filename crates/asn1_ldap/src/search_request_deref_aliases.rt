@@ -95,7 +95,8 @@ pub fn search_request_deref_aliases_is_well_tagged()
 
 /// Equal values are written alike, and in each value the components of a SET have distinct tags: the DER of a value is its only spelling.
 pub fn search_request_deref_aliases_has_one_spelling()
-    ensures alike { AreWrittenAlike ⟦<SearchRequestDerefAliases as AsnType>⟧.meaning ⟦<SearchRequestDerefAliases as PartialEq>⟧.eq }
+    ensures alike { AreWrittenAlike ⟦<SearchRequestDerefAliases as AsnType>⟧.meaning
+        ⟦<SearchRequestDerefAliases as PartialEq>⟧.eq }
     ensures distinct { SetsAreDistinct ⟦<SearchRequestDerefAliases as AsnType>⟧.meaning }
 {}
 

@@ -77,7 +77,8 @@ pub fn search_request_scope_is_well_tagged()
 
 /// Equal values are written alike, and in each value the components of a SET have distinct tags: the DER of a value is its only spelling.
 pub fn search_request_scope_has_one_spelling()
-    ensures alike { AreWrittenAlike ⟦<SearchRequestScope as AsnType>⟧.meaning ⟦<SearchRequestScope as PartialEq>⟧.eq }
+    ensures alike { AreWrittenAlike ⟦<SearchRequestScope as AsnType>⟧.meaning
+        ⟦<SearchRequestScope as PartialEq>⟧.eq }
     ensures distinct { SetsAreDistinct ⟦<SearchRequestScope as AsnType>⟧.meaning }
 {}
 

@@ -96,7 +96,8 @@ pub fn search_result_entry_is_well_tagged()
 
 /// Equal values are written alike, and in each value the components of a SET have distinct tags: the DER of a value is its only spelling.
 pub fn search_result_entry_has_one_spelling()
-    ensures alike { AreWrittenAlike ⟦<SearchResultEntry as AsnType>⟧.meaning ⟦<SearchResultEntry as PartialEq>⟧.eq }
+    ensures alike { AreWrittenAlike ⟦<SearchResultEntry as AsnType>⟧.meaning
+        ⟦<SearchResultEntry as PartialEq>⟧.eq }
     ensures distinct { SetsAreDistinct ⟦<SearchResultEntry as AsnType>⟧.meaning }
 {
     partial_attribute_has_one_spelling();

@@ -103,7 +103,8 @@ pub fn substring_filter_is_well_tagged()
 
 /// Equal values are written alike, and in each value the components of a SET have distinct tags: the DER of a value is its only spelling.
 pub fn substring_filter_has_one_spelling()
-    ensures alike { AreWrittenAlike ⟦<SubstringFilter as AsnType>⟧.meaning ⟦<SubstringFilter as PartialEq>⟧.eq }
+    ensures alike { AreWrittenAlike ⟦<SubstringFilter as AsnType>⟧.meaning
+        ⟦<SubstringFilter as PartialEq>⟧.eq }
     ensures distinct { SetsAreDistinct ⟦<SubstringFilter as AsnType>⟧.meaning }
 {
     substring_filter_substrings_element_has_one_spelling();

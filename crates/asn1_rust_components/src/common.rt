@@ -133,7 +133,8 @@ fn append_spelling(
         "\
 /// Equal values are written alike, and in each value the components of a SET have distinct tags: the DER of a value is its only spelling.
 pub fn {module}_has_one_spelling()
-    ensures alike {{ AreWrittenAlike ⟦<{name} as AsnType>⟧.meaning ⟦<{name} as PartialEq>⟧.eq }}
+    ensures alike {{ AreWrittenAlike ⟦<{name} as AsnType>⟧.meaning
+        ⟦<{name} as PartialEq>⟧.eq }}
     ensures distinct {{ SetsAreDistinct ⟦<{name} as AsnType>⟧.meaning }}
 {opening}
 "

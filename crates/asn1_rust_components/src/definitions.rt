@@ -22,7 +22,7 @@ pub struct TypeFile {
     pub lists: Option<String>,
     /// The names of the types that hold themselves among those in it, but for that of its own circle.
     pub knots: Vec<String>,
-    /// What its law of one spelling follows from, if it has one.
+    /// Its law of one spelling, if it has one, by the laws that it follows from.
     pub spelling: Option<SpellingLaw>,
 }
 

@@ -1,4 +1,4 @@
-//! What types are below their lists and their other names.
+//! Types below their lists and their other names.
 use asn1_rust_code::{Import, TypeName};
 use asn1_rust_components::{Alias, ListKind, TypeFile};
 use std::alloc::{AllocError, Global};
@@ -40,7 +40,7 @@ const SINGLE: &[&str] = &[
 /// Those of bits.
 const BITS: &[&str] = &["BitString", "BitVec", "NamedBitString"];
 
-/// How deep types are below tags and other names at most.
+/// The greatest number of tags and other names around a type.
 const DEEPEST: usize = 100;
 
 /// A type without parts, by what equal values have in common.
@@ -52,11 +52,11 @@ pub(crate) enum Leaf {
     Value,
     /// The value, which is bits.
     Bits,
-    /// The octets of a text, which is inside so many wrappers.
+    /// The octets of a text inside this number of wrappers.
     Text(usize),
 }
 
-/// What is below lists and other names.
+/// A type below lists and other names.
 #[derive(Clone, Copy)]
 pub(crate) enum Core<'a> {
     /// A type without parts.
@@ -65,7 +65,7 @@ pub(crate) enum Core<'a> {
     Type(&'a TypeFile),
 }
 
-/// What is around a type.
+/// A layer around a type.
 #[derive(Drop)]
 pub(crate) enum Layer {
     /// A list, with the type of its elements.
@@ -83,7 +83,7 @@ pub(crate) struct Known<'a> {
     pub(crate) core: Core<'a>,
 }
 
-// What a name stands for.
+// The type or the alias of a name.
 #[derive(Clone, Copy)]
 enum Named<'a> {
     Type(&'a TypeFile),
@@ -115,7 +115,7 @@ impl<'a> Names<'a> {
         Ok(Names { names })
     }
 
-    /// What a type is, if it is known: two tags of definitions, one right in the other, are not.
+    /// A type below its layers, if it is known: two tags of definitions, one right in the other, are not.
     pub(crate) fn known(
         &self,
         alloc: Global,
@@ -181,7 +181,7 @@ impl<'a> Names<'a> {
     }
 }
 
-// The type of this name, if it has no parts, inside so many wrappers.
+// The type of this name, if it has no parts, inside a number of wrappers.
 fn leaf_at(text: &str, depth: usize) -> Option<Leaf> {
     if text == "()" {
         Some(Leaf::Null)

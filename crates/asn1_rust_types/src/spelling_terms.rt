@@ -17,7 +17,7 @@ pub(crate) struct PartTerms {
     pub(crate) distinct: String,
 }
 
-/// What the terms of a proof are made of.
+/// The parts of a proof's terms.
 #[derive(Drop)]
 pub(crate) struct Terms<'n, 'a> {
     pub(crate) alloc: Global,
@@ -206,7 +206,7 @@ impl<'n, 'a> Terms<'n, 'a> {
         format!(in alloc; "search ({lemmas}, {term})")
     }
 
-    // The law of a type without so many of its layers.
+    // The law of a type without some of its outer layers.
     fn in_layers(
         &mut self,
         known: &Known<'a>,
@@ -300,7 +300,7 @@ impl<'n, 'a> Terms<'n, 'a> {
         format!(in alloc; "{law}.{clause}")
     }
 
-    // What a call of a law ensures, as the proof names it. The call is added, unless it is there.
+    // The promise of a call of a law, as the proof names it. The call is added, unless it is there.
     fn premise(&mut self, call: LawCall) -> Result<String, AllocError> {
         let mut earlier: usize = 0;
         for known in &self.premises {
@@ -320,7 +320,7 @@ impl<'n, 'a> Terms<'n, 'a> {
         Ok(clause)
     }
 
-    /// That equal strings in the only field of a struct are written alike.
+    /// The term for equal strings in the only field of a struct.
     pub(crate) fn content(&mut self, definition: &'a TypeName) -> Result<String, AllocError> {
         match self.names.known(self.alloc, definition)? {
             Some(
@@ -334,7 +334,7 @@ impl<'n, 'a> Terms<'n, 'a> {
         }
     }
 
-    // That equal values of a type without parts are written alike, behind these names.
+    // The term for equal values of a type without parts, behind these names.
     fn leaf(&mut self, leaf: Leaf, front: &str) -> Result<String, AllocError> {
         self.leaf_at(leaf, front, "")
     }
@@ -436,7 +436,7 @@ fn list_function(kind: ListKind, law: LayerLaw) -> &'static str {
     }
 }
 
-// What a call ensures, which is so many among those of its function.
+// The promise of a call, by its place among those of its function.
 fn clause_of_call(alloc: Global, function: &str, place: usize) -> Result<String, AllocError> {
     if place <= 1 {
         format!(in alloc; "c.{function}.ensures")
@@ -445,7 +445,7 @@ fn clause_of_call(alloc: Global, function: &str, place: usize) -> Result<String,
     }
 }
 
-// Where the octets of a text are that is inside so many wrappers.
+// The path to the octets of a text inside a number of wrappers.
 fn text_path(alloc: Global, depth: usize) -> Result<String, AllocError> {
     let mut path = String::new(alloc);
     for _ in 0..depth {
@@ -467,7 +467,7 @@ pub(crate) fn impl_path(
     format!(in alloc; "{crate_name}.specs.contracts.{module}.{name}{trait_name}.TheImpl")
 }
 
-/// How a tuple is laid out.
+/// The layout of a tuple.
 #[derive(Clone, Copy, Debug, PartialEq, Eq)]
 pub(crate) enum TupleStyle {
     /// In one line.
@@ -489,7 +489,7 @@ pub(crate) fn alike_tuple(
     tuple(alloc, terms.as_slice(), style)
 }
 
-/// That of the second ones.
+/// The term of the second ones.
 pub(crate) fn distinct_tuple(
     alloc: Global,
     parts: &[PartTerms],
@@ -554,7 +554,7 @@ fn block_tuple(alloc: Global, terms: &[&str]) -> Result<String, AllocError> {
     Ok(text)
 }
 
-// Appends the spaces in front of a term inside so many tuples beside the outermost.
+// Appends the spaces in front of a term, by the number of tuples around it beside the outermost.
 fn push_indent(text: &mut String, depth: usize) -> Result<(), AllocError> {
     text.push_str("      ")?;
     for _ in 0..depth {

@@ -1,4 +1,4 @@
-//! Which types have the law of one spelling.
+//! The types that have the law of one spelling.
 use crate::cores::{Core, Names};
 use crate::proofs::ProofFile;
 use crate::spelling_proofs::spelling_of;
@@ -10,7 +10,7 @@ use std::collections::HashMap;
 /// The law that a type has one spelling, with its proof.
 #[derive(Drop)]
 pub struct Spelling {
-    /// What the law follows from.
+    /// The laws that it follows from.
     pub law: SpellingLaw,
     /// The proof.
     pub proof: ProofFile,

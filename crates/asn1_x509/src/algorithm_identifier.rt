@@ -92,7 +92,8 @@ pub fn algorithm_identifier_is_well_tagged()
 
 /// Equal values are written alike, and in each value the components of a SET have distinct tags: the DER of a value is its only spelling.
 pub fn algorithm_identifier_has_one_spelling()
-    ensures alike { AreWrittenAlike ⟦<AlgorithmIdentifier as AsnType>⟧.meaning ⟦<AlgorithmIdentifier as PartialEq>⟧.eq }
+    ensures alike { AreWrittenAlike ⟦<AlgorithmIdentifier as AsnType>⟧.meaning
+        ⟦<AlgorithmIdentifier as PartialEq>⟧.eq }
     ensures distinct { SetsAreDistinct ⟦<AlgorithmIdentifier as AsnType>⟧.meaning }
 {}
 

@@ -86,7 +86,8 @@ pub fn attribute_type_and_value_is_well_tagged()
 
 /// Equal values are written alike, and in each value the components of a SET have distinct tags: the DER of a value is its only spelling.
 pub fn attribute_type_and_value_has_one_spelling()
-    ensures alike { AreWrittenAlike ⟦<AttributeTypeAndValue as AsnType>⟧.meaning ⟦<AttributeTypeAndValue as PartialEq>⟧.eq }
+    ensures alike { AreWrittenAlike ⟦<AttributeTypeAndValue as AsnType>⟧.meaning
+        ⟦<AttributeTypeAndValue as PartialEq>⟧.eq }
     ensures distinct { SetsAreDistinct ⟦<AttributeTypeAndValue as AsnType>⟧.meaning }
 {}
 

@@ -105,7 +105,8 @@ pub fn certificate_is_well_tagged()
 
 /// Equal values are written alike, and in each value the components of a SET have distinct tags: the DER of a value is its only spelling.
 pub fn certificate_has_one_spelling()
-    ensures alike { AreWrittenAlike ⟦<Certificate as AsnType>⟧.meaning ⟦<Certificate as PartialEq>⟧.eq }
+    ensures alike { AreWrittenAlike ⟦<Certificate as AsnType>⟧.meaning
+        ⟦<Certificate as PartialEq>⟧.eq }
     ensures distinct { SetsAreDistinct ⟦<Certificate as AsnType>⟧.meaning }
 {
     tbs_certificate_has_one_spelling();

@@ -116,7 +116,8 @@ pub fn directory_string_is_well_tagged()
 
 /// Equal values are written alike, and in each value the components of a SET have distinct tags: the DER of a value is its only spelling.
 pub fn directory_string_has_one_spelling()
-    ensures alike { AreWrittenAlike ⟦<DirectoryString as AsnType>⟧.meaning ⟦<DirectoryString as PartialEq>⟧.eq }
+    ensures alike { AreWrittenAlike ⟦<DirectoryString as AsnType>⟧.meaning
+        ⟦<DirectoryString as PartialEq>⟧.eq }
     ensures distinct { SetsAreDistinct ⟦<DirectoryString as AsnType>⟧.meaning }
 {}
 

@@ -100,7 +100,8 @@ pub fn extension_is_well_tagged()
 
 /// Equal values are written alike, and in each value the components of a SET have distinct tags: the DER of a value is its only spelling.
 pub fn extension_has_one_spelling()
-    ensures alike { AreWrittenAlike ⟦<Extension as AsnType>⟧.meaning ⟦<Extension as PartialEq>⟧.eq }
+    ensures alike { AreWrittenAlike ⟦<Extension as AsnType>⟧.meaning
+        ⟦<Extension as PartialEq>⟧.eq }
     ensures distinct { SetsAreDistinct ⟦<Extension as AsnType>⟧.meaning }
 {}
 

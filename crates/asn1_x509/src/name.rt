@@ -95,7 +95,8 @@ pub fn name_is_well_tagged()
 
 /// Equal values are written alike, and in each value the components of a SET have distinct tags: the DER of a value is its only spelling.
 pub fn name_has_one_spelling()
-    ensures alike { AreWrittenAlike ⟦<Name as AsnType>⟧.meaning ⟦<Name as PartialEq>⟧.eq }
+    ensures alike { AreWrittenAlike ⟦<Name as AsnType>⟧.meaning
+        ⟦<Name as PartialEq>⟧.eq }
     ensures distinct { SetsAreDistinct ⟦<Name as AsnType>⟧.meaning }
 {
     attribute_type_and_value_has_one_spelling();

@@ -85,7 +85,8 @@ pub fn rsa_public_key_is_well_tagged()
 
 /// Equal values are written alike, and in each value the components of a SET have distinct tags: the DER of a value is its only spelling.
 pub fn rsa_public_key_has_one_spelling()
-    ensures alike { AreWrittenAlike ⟦<RsaPublicKey as AsnType>⟧.meaning ⟦<RsaPublicKey as PartialEq>⟧.eq }
+    ensures alike { AreWrittenAlike ⟦<RsaPublicKey as AsnType>⟧.meaning
+        ⟦<RsaPublicKey as PartialEq>⟧.eq }
     ensures distinct { SetsAreDistinct ⟦<RsaPublicKey as AsnType>⟧.meaning }
 {}
 

@@ -86,7 +86,8 @@ pub fn subject_public_key_info_is_well_tagged()
 
 /// Equal values are written alike, and in each value the components of a SET have distinct tags: the DER of a value is its only spelling.
 pub fn subject_public_key_info_has_one_spelling()
-    ensures alike { AreWrittenAlike ⟦<SubjectPublicKeyInfo as AsnType>⟧.meaning ⟦<SubjectPublicKeyInfo as PartialEq>⟧.eq }
+    ensures alike { AreWrittenAlike ⟦<SubjectPublicKeyInfo as AsnType>⟧.meaning
+        ⟦<SubjectPublicKeyInfo as PartialEq>⟧.eq }
     ensures distinct { SetsAreDistinct ⟦<SubjectPublicKeyInfo as AsnType>⟧.meaning }
 {
     algorithm_identifier_has_one_spelling();

@@ -178,7 +178,8 @@ pub fn tbs_certificate_is_well_tagged()
 
 /// Equal values are written alike, and in each value the components of a SET have distinct tags: the DER of a value is its only spelling.
 pub fn tbs_certificate_has_one_spelling()
-    ensures alike { AreWrittenAlike ⟦<TbsCertificate as AsnType>⟧.meaning ⟦<TbsCertificate as PartialEq>⟧.eq }
+    ensures alike { AreWrittenAlike ⟦<TbsCertificate as AsnType>⟧.meaning
+        ⟦<TbsCertificate as PartialEq>⟧.eq }
     ensures distinct { SetsAreDistinct ⟦<TbsCertificate as AsnType>⟧.meaning }
 {
     algorithm_identifier_has_one_spelling();

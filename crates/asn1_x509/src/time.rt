@@ -84,7 +84,8 @@ pub fn time_is_well_tagged()
 
 /// Equal values are written alike, and in each value the components of a SET have distinct tags: the DER of a value is its only spelling.
 pub fn time_has_one_spelling()
-    ensures alike { AreWrittenAlike ⟦<Time as AsnType>⟧.meaning ⟦<Time as PartialEq>⟧.eq }
+    ensures alike { AreWrittenAlike ⟦<Time as AsnType>⟧.meaning
+        ⟦<Time as PartialEq>⟧.eq }
     ensures distinct { SetsAreDistinct ⟦<Time as AsnType>⟧.meaning }
 {}
 

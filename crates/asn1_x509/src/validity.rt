@@ -86,7 +86,8 @@ pub fn validity_is_well_tagged()
 
 /// Equal values are written alike, and in each value the components of a SET have distinct tags: the DER of a value is its only spelling.
 pub fn validity_has_one_spelling()
-    ensures alike { AreWrittenAlike ⟦<Validity as AsnType>⟧.meaning ⟦<Validity as PartialEq>⟧.eq }
+    ensures alike { AreWrittenAlike ⟦<Validity as AsnType>⟧.meaning
+        ⟦<Validity as PartialEq>⟧.eq }
     ensures distinct { SetsAreDistinct ⟦<Validity as AsnType>⟧.meaning }
 {
     time_has_one_spelling();

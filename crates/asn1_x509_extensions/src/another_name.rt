@@ -86,7 +86,8 @@ pub fn another_name_is_well_tagged()
 
 /// Equal values are written alike, and in each value the components of a SET have distinct tags: the DER of a value is its only spelling.
 pub fn another_name_has_one_spelling()
-    ensures alike { AreWrittenAlike ⟦<AnotherName as AsnType>⟧.meaning ⟦<AnotherName as PartialEq>⟧.eq }
+    ensures alike { AreWrittenAlike ⟦<AnotherName as AsnType>⟧.meaning
+        ⟦<AnotherName as PartialEq>⟧.eq }
     ensures distinct { SetsAreDistinct ⟦<AnotherName as AsnType>⟧.meaning }
 {}
 

@@ -92,7 +92,8 @@ pub fn basic_constraints_is_well_tagged()
 
 /// Equal values are written alike, and in each value the components of a SET have distinct tags: the DER of a value is its only spelling.
 pub fn basic_constraints_has_one_spelling()
-    ensures alike { AreWrittenAlike ⟦<BasicConstraints as AsnType>⟧.meaning ⟦<BasicConstraints as PartialEq>⟧.eq }
+    ensures alike { AreWrittenAlike ⟦<BasicConstraints as AsnType>⟧.meaning
+        ⟦<BasicConstraints as PartialEq>⟧.eq }
     ensures distinct { SetsAreDistinct ⟦<BasicConstraints as AsnType>⟧.meaning }
 {}
 

@@ -104,7 +104,8 @@ pub fn file_is_well_tagged()
 
 /// Equal values are written alike, and in each value the components of a SET have distinct tags: the DER of a value is its only spelling.
 pub fn file_has_one_spelling()
-    ensures alike { AreWrittenAlike ⟦<File as AsnType>⟧.meaning ⟦<File as PartialEq>⟧.eq }
+    ensures alike { AreWrittenAlike ⟦<File as AsnType>⟧.meaning
+        ⟦<File as PartialEq>⟧.eq }
     ensures distinct { SetsAreDistinct ⟦<File as AsnType>⟧.meaning }
 {}
 

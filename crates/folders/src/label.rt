@@ -91,7 +91,8 @@ pub fn label_is_well_tagged()
 
 /// Equal values are written alike, and in each value the components of a SET have distinct tags: the DER of a value is its only spelling.
 pub fn label_has_one_spelling()
-    ensures alike { AreWrittenAlike ⟦<Label as AsnType>⟧.meaning ⟦<Label as PartialEq>⟧.eq }
+    ensures alike { AreWrittenAlike ⟦<Label as AsnType>⟧.meaning
+        ⟦<Label as PartialEq>⟧.eq }
     ensures distinct { SetsAreDistinct ⟦<Label as AsnType>⟧.meaning }
 {
     equal_sets_of_are_written_alike::<Utf8String>();

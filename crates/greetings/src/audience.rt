@@ -90,7 +90,8 @@ pub fn audience_is_well_tagged()
 
 /// Equal values are written alike, and in each value the components of a SET have distinct tags: the DER of a value is its only spelling.
 pub fn audience_has_one_spelling()
-    ensures alike { AreWrittenAlike ⟦<Audience as AsnType>⟧.meaning ⟦<Audience as PartialEq>⟧.eq }
+    ensures alike { AreWrittenAlike ⟦<Audience as AsnType>⟧.meaning
+        ⟦<Audience as PartialEq>⟧.eq }
     ensures distinct { SetsAreDistinct ⟦<Audience as AsnType>⟧.meaning }
 {}
 

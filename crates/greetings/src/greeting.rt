@@ -94,7 +94,8 @@ pub fn greeting_is_well_tagged()
 
 /// Equal values are written alike, and in each value the components of a SET have distinct tags: the DER of a value is its only spelling.
 pub fn greeting_has_one_spelling()
-    ensures alike { AreWrittenAlike ⟦<Greeting as AsnType>⟧.meaning ⟦<Greeting as PartialEq>⟧.eq }
+    ensures alike { AreWrittenAlike ⟦<Greeting as AsnType>⟧.meaning
+        ⟦<Greeting as PartialEq>⟧.eq }
     ensures distinct { SetsAreDistinct ⟦<Greeting as AsnType>⟧.meaning }
 {
     audience_has_one_spelling();

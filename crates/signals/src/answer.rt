@@ -89,7 +89,8 @@ pub fn answer_is_well_tagged()
 
 /// Equal values are written alike, and in each value the components of a SET have distinct tags: the DER of a value is its only spelling.
 pub fn answer_has_one_spelling()
-    ensures alike { AreWrittenAlike ⟦<Answer as AsnType>⟧.meaning ⟦<Answer as PartialEq>⟧.eq }
+    ensures alike { AreWrittenAlike ⟦<Answer as AsnType>⟧.meaning
+        ⟦<Answer as PartialEq>⟧.eq }
     ensures distinct { SetsAreDistinct ⟦<Answer as AsnType>⟧.meaning }
 {
     part_has_one_spelling();

@@ -67,7 +67,8 @@ pub fn cause_is_well_tagged()
 
 /// Equal values are written alike, and in each value the components of a SET have distinct tags: the DER of a value is its only spelling.
 pub fn cause_has_one_spelling()
-    ensures alike { AreWrittenAlike ⟦<Cause as AsnType>⟧.meaning ⟦<Cause as PartialEq>⟧.eq }
+    ensures alike { AreWrittenAlike ⟦<Cause as AsnType>⟧.meaning
+        ⟦<Cause as PartialEq>⟧.eq }
     ensures distinct { SetsAreDistinct ⟦<Cause as AsnType>⟧.meaning }
 {}
 

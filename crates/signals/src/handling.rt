@@ -68,7 +68,8 @@ pub fn handling_is_well_tagged()
 
 /// Equal values are written alike, and in each value the components of a SET have distinct tags: the DER of a value is its only spelling.
 pub fn handling_has_one_spelling()
-    ensures alike { AreWrittenAlike ⟦<Handling as AsnType>⟧.meaning ⟦<Handling as PartialEq>⟧.eq }
+    ensures alike { AreWrittenAlike ⟦<Handling as AsnType>⟧.meaning
+        ⟦<Handling as PartialEq>⟧.eq }
     ensures distinct { SetsAreDistinct ⟦<Handling as AsnType>⟧.meaning }
 {}
 

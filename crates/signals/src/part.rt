@@ -105,7 +105,8 @@ pub fn part_is_well_tagged()
 
 /// Equal values are written alike, and in each value the components of a SET have distinct tags: the DER of a value is its only spelling.
 pub fn part_has_one_spelling()
-    ensures alike { AreWrittenAlike ⟦<Part as AsnType>⟧.meaning ⟦<Part as PartialEq>⟧.eq }
+    ensures alike { AreWrittenAlike ⟦<Part as AsnType>⟧.meaning
+        ⟦<Part as PartialEq>⟧.eq }
     ensures distinct { SetsAreDistinct ⟦<Part as AsnType>⟧.meaning }
 {
     handling_has_one_spelling();

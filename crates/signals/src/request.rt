@@ -83,7 +83,8 @@ pub fn request_is_well_tagged()
 
 /// Equal values are written alike, and in each value the components of a SET have distinct tags: the DER of a value is its only spelling.
 pub fn request_has_one_spelling()
-    ensures alike { AreWrittenAlike ⟦<Request as AsnType>⟧.meaning ⟦<Request as PartialEq>⟧.eq }
+    ensures alike { AreWrittenAlike ⟦<Request as AsnType>⟧.meaning
+        ⟦<Request as PartialEq>⟧.eq }
     ensures distinct { SetsAreDistinct ⟦<Request as AsnType>⟧.meaning }
 {
     part_has_one_spelling();

@@ -86,7 +86,8 @@ pub fn request_parts_object3_is_well_tagged()
 
 /// Equal values are written alike, and in each value the components of a SET have distinct tags: the DER of a value is its only spelling.
 pub fn request_parts_object3_has_one_spelling()
-    ensures alike { AreWrittenAlike ⟦<RequestPartsObject3 as AsnType>⟧.meaning ⟦<RequestPartsObject3 as PartialEq>⟧.eq }
+    ensures alike { AreWrittenAlike ⟦<RequestPartsObject3 as AsnType>⟧.meaning
+        ⟦<RequestPartsObject3 as PartialEq>⟧.eq }
     ensures distinct { SetsAreDistinct ⟦<RequestPartsObject3 as AsnType>⟧.meaning }
 {}
 
