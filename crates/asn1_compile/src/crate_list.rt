@@ -7,16 +7,19 @@ use std::alloc::AllocError;
 use std::fmt::Write;
 use std::fs;
 
-// The words by which a file names a library, each with the library: of the types whose values are kept as their contents octets, of the
-// values of open types, and of the laws of one spelling.
+// Words of a file, and a library that the crate needs then: for types whose values are kept as their contents octets, for values of open
+// types, and for laws of one spelling.
 const LIBRARIES: &[(&str, &str)] = &[
     ("asn1_contents::", "asn1_contents"),
     ("asn1_tables::", "asn1_tables"),
-    ("Rattle.asn1_model.", "asn1_model"),
-    ("Rattle.asn1_slots.", "asn1_slots"),
-    ("Rattle.asn1_spelling.", "asn1_spelling"),
-    ("asn1_spelling::", "asn1_spelling"),
+    (LAW, "asn1_model"),
+    (LAW, "asn1_slots"),
+    (LAW, "asn1_spelling"),
 ];
+
+// A file with a law of one spelling names the first of the libraries for these. The others are listed with it, since a module that grows
+// needs them.
+const LAW: &str = "Rattle.asn1_model.";
 
 // The library of the types that hold themselves.
 const CIRCLES: &str = "asn1_circles";

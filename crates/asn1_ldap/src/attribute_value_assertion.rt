@@ -91,7 +91,8 @@ pub fn attribute_value_assertion_is_well_tagged()
     ensures { IsWellTagged ⟦<AttributeValueAssertion as AsnType>⟧.meaning }
 {}
 
-/// Equal values are written alike, and in each value the components of a SET have distinct tags: the DER of a value is its only spelling.
+/// Equal values are written alike, and in each value the components of a SET have distinct tags. With `attribute_value_assertion_is_well_tagged`
+/// it follows that the DER of a value is its only spelling (`well_tagged_types_have_one_spelling` of `asn1_der`).
 pub fn attribute_value_assertion_has_one_spelling()
     ensures alike { AreWrittenAlike ⟦<AttributeValueAssertion as AsnType>⟧.meaning
         ⟦<AttributeValueAssertion as PartialEq>⟧.eq }

@@ -87,7 +87,8 @@ pub fn authentication_choice_is_well_tagged()
     ensures { IsWellTagged ⟦<AuthenticationChoice as AsnType>⟧.meaning }
 {}
 
-/// Equal values are written alike, and in each value the components of a SET have distinct tags: the DER of a value is its only spelling.
+/// Equal values are written alike, and in each value the components of a SET have distinct tags. With `authentication_choice_is_well_tagged`
+/// it follows that the DER of a value is its only spelling (`well_tagged_types_have_one_spelling` of `asn1_der`).
 pub fn authentication_choice_has_one_spelling()
     ensures alike { AreWrittenAlike ⟦<AuthenticationChoice as AsnType>⟧.meaning
         ⟦<AuthenticationChoice as PartialEq>⟧.eq }

@@ -104,7 +104,8 @@ pub fn bind_request_is_well_tagged()
     ensures { IsWellTagged ⟦<BindRequest as AsnType>⟧.meaning }
 {}
 
-/// Equal values are written alike, and in each value the components of a SET have distinct tags: the DER of a value is its only spelling.
+/// Equal values are written alike, and in each value the components of a SET have distinct tags. With `bind_request_is_well_tagged`
+/// it follows that the DER of a value is its only spelling (`well_tagged_types_have_one_spelling` of `asn1_der`).
 pub fn bind_request_has_one_spelling()
     ensures alike { AreWrittenAlike ⟦<BindRequest as AsnType>⟧.meaning
         ⟦<BindRequest as PartialEq>⟧.eq }

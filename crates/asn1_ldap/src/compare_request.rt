@@ -88,7 +88,8 @@ pub fn compare_request_is_well_tagged()
     ensures { IsWellTagged ⟦<CompareRequest as AsnType>⟧.meaning }
 {}
 
-/// Equal values are written alike, and in each value the components of a SET have distinct tags: the DER of a value is its only spelling.
+/// Equal values are written alike, and in each value the components of a SET have distinct tags. With `compare_request_is_well_tagged`
+/// it follows that the DER of a value is its only spelling (`well_tagged_types_have_one_spelling` of `asn1_der`).
 pub fn compare_request_has_one_spelling()
     ensures alike { AreWrittenAlike ⟦<CompareRequest as AsnType>⟧.meaning
         ⟦<CompareRequest as PartialEq>⟧.eq }

@@ -98,7 +98,8 @@ pub fn control_is_well_tagged()
     ensures { IsWellTagged ⟦<Control as AsnType>⟧.meaning }
 {}
 
-/// Equal values are written alike, and in each value the components of a SET have distinct tags: the DER of a value is its only spelling.
+/// Equal values are written alike, and in each value the components of a SET have distinct tags. With `control_is_well_tagged`
+/// it follows that the DER of a value is its only spelling (`well_tagged_types_have_one_spelling` of `asn1_der`).
 pub fn control_has_one_spelling()
     ensures alike { AreWrittenAlike ⟦<Control as AsnType>⟧.meaning
         ⟦<Control as PartialEq>⟧.eq }

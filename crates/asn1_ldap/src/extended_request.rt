@@ -100,7 +100,8 @@ pub fn extended_request_is_well_tagged()
     ensures { IsWellTagged ⟦<ExtendedRequest as AsnType>⟧.meaning }
 {}
 
-/// Equal values are written alike, and in each value the components of a SET have distinct tags: the DER of a value is its only spelling.
+/// Equal values are written alike, and in each value the components of a SET have distinct tags. With `extended_request_is_well_tagged`
+/// it follows that the DER of a value is its only spelling (`well_tagged_types_have_one_spelling` of `asn1_der`).
 pub fn extended_request_has_one_spelling()
     ensures alike { AreWrittenAlike ⟦<ExtendedRequest as AsnType>⟧.meaning
         ⟦<ExtendedRequest as PartialEq>⟧.eq }

@@ -140,7 +140,8 @@ pub fn extended_response_is_well_tagged()
     ensures { IsWellTagged ⟦<ExtendedResponse as AsnType>⟧.meaning }
 {}
 
-/// Equal values are written alike, and in each value the components of a SET have distinct tags: the DER of a value is its only spelling.
+/// Equal values are written alike, and in each value the components of a SET have distinct tags. With `extended_response_is_well_tagged`
+/// it follows that the DER of a value is its only spelling (`well_tagged_types_have_one_spelling` of `asn1_der`).
 pub fn extended_response_has_one_spelling()
     ensures alike { AreWrittenAlike ⟦<ExtendedResponse as AsnType>⟧.meaning
         ⟦<ExtendedResponse as PartialEq>⟧.eq }

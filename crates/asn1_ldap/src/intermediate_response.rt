@@ -103,7 +103,8 @@ pub fn intermediate_response_is_well_tagged()
     ensures { IsWellTagged ⟦<IntermediateResponse as AsnType>⟧.meaning }
 {}
 
-/// Equal values are written alike, and in each value the components of a SET have distinct tags: the DER of a value is its only spelling.
+/// Equal values are written alike, and in each value the components of a SET have distinct tags. With `intermediate_response_is_well_tagged`
+/// it follows that the DER of a value is its only spelling (`well_tagged_types_have_one_spelling` of `asn1_der`).
 pub fn intermediate_response_has_one_spelling()
     ensures alike { AreWrittenAlike ⟦<IntermediateResponse as AsnType>⟧.meaning
         ⟦<IntermediateResponse as PartialEq>⟧.eq }

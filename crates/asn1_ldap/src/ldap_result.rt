@@ -119,7 +119,8 @@ pub fn ldap_result_is_well_tagged()
     ensures { IsWellTagged ⟦<LdapResult as AsnType>⟧.meaning }
 {}
 
-/// Equal values are written alike, and in each value the components of a SET have distinct tags: the DER of a value is its only spelling.
+/// Equal values are written alike, and in each value the components of a SET have distinct tags. With `ldap_result_is_well_tagged`
+/// it follows that the DER of a value is its only spelling (`well_tagged_types_have_one_spelling` of `asn1_der`).
 pub fn ldap_result_has_one_spelling()
     ensures alike { AreWrittenAlike ⟦<LdapResult as AsnType>⟧.meaning
         ⟦<LdapResult as PartialEq>⟧.eq }

@@ -402,7 +402,8 @@ pub fn ldap_result_result_code_is_well_tagged()
     ensures { IsWellTagged ⟦<LdapResultResultCode as AsnType>⟧.meaning }
 {}
 
-/// Equal values are written alike, and in each value the components of a SET have distinct tags: the DER of a value is its only spelling.
+/// Equal values are written alike, and in each value the components of a SET have distinct tags. With `ldap_result_result_code_is_well_tagged`
+/// it follows that the DER of a value is its only spelling (`well_tagged_types_have_one_spelling` of `asn1_der`).
 pub fn ldap_result_result_code_has_one_spelling()
     ensures alike { AreWrittenAlike ⟦<LdapResultResultCode as AsnType>⟧.meaning
         ⟦<LdapResultResultCode as PartialEq>⟧.eq }

@@ -123,7 +123,8 @@ pub fn matching_rule_assertion_is_well_tagged()
     ensures { IsWellTagged ⟦<MatchingRuleAssertion as AsnType>⟧.meaning }
 {}
 
-/// Equal values are written alike, and in each value the components of a SET have distinct tags: the DER of a value is its only spelling.
+/// Equal values are written alike, and in each value the components of a SET have distinct tags. With `matching_rule_assertion_is_well_tagged`
+/// it follows that the DER of a value is its only spelling (`well_tagged_types_have_one_spelling` of `asn1_der`).
 pub fn matching_rule_assertion_has_one_spelling()
     ensures alike { AreWrittenAlike ⟦<MatchingRuleAssertion as AsnType>⟧.meaning
         ⟦<MatchingRuleAssertion as PartialEq>⟧.eq }

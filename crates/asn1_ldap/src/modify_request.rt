@@ -96,7 +96,8 @@ pub fn modify_request_is_well_tagged()
     ensures { IsWellTagged ⟦<ModifyRequest as AsnType>⟧.meaning }
 {}
 
-/// Equal values are written alike, and in each value the components of a SET have distinct tags: the DER of a value is its only spelling.
+/// Equal values are written alike, and in each value the components of a SET have distinct tags. With `modify_request_is_well_tagged`
+/// it follows that the DER of a value is its only spelling (`well_tagged_types_have_one_spelling` of `asn1_der`).
 pub fn modify_request_has_one_spelling()
     ensures alike { AreWrittenAlike ⟦<ModifyRequest as AsnType>⟧.meaning
         ⟦<ModifyRequest as PartialEq>⟧.eq }

@@ -74,7 +74,8 @@ pub fn modify_request_changes_element_operation_is_well_tagged()
     ensures { IsWellTagged ⟦<ModifyRequestChangesElementOperation as AsnType>⟧.meaning }
 {}
 
-/// Equal values are written alike, and in each value the components of a SET have distinct tags: the DER of a value is its only spelling.
+/// Equal values are written alike, and in each value the components of a SET have distinct tags. With `modify_request_changes_element_operation_is_well_tagged`
+/// it follows that the DER of a value is its only spelling (`well_tagged_types_have_one_spelling` of `asn1_der`).
 pub fn modify_request_changes_element_operation_has_one_spelling()
     ensures alike { AreWrittenAlike ⟦<ModifyRequestChangesElementOperation as AsnType>⟧.meaning
         ⟦<ModifyRequestChangesElementOperation as PartialEq>⟧.eq }

@@ -85,7 +85,8 @@ pub fn partial_attribute_is_well_tagged()
     ensures { IsWellTagged ⟦<PartialAttribute as AsnType>⟧.meaning }
 {}
 
-/// Equal values are written alike, and in each value the components of a SET have distinct tags: the DER of a value is its only spelling.
+/// Equal values are written alike, and in each value the components of a SET have distinct tags. With `partial_attribute_is_well_tagged`
+/// it follows that the DER of a value is its only spelling (`well_tagged_types_have_one_spelling` of `asn1_der`).
 pub fn partial_attribute_has_one_spelling()
     ensures alike { AreWrittenAlike ⟦<PartialAttribute as AsnType>⟧.meaning
         ⟦<PartialAttribute as PartialEq>⟧.eq }

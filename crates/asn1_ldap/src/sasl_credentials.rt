@@ -84,7 +84,8 @@ pub fn sasl_credentials_is_well_tagged()
     ensures { IsWellTagged ⟦<SaslCredentials as AsnType>⟧.meaning }
 {}
 
-/// Equal values are written alike, and in each value the components of a SET have distinct tags: the DER of a value is its only spelling.
+/// Equal values are written alike, and in each value the components of a SET have distinct tags. With `sasl_credentials_is_well_tagged`
+/// it follows that the DER of a value is its only spelling (`well_tagged_types_have_one_spelling` of `asn1_der`).
 pub fn sasl_credentials_has_one_spelling()
     ensures alike { AreWrittenAlike ⟦<SaslCredentials as AsnType>⟧.meaning
         ⟦<SaslCredentials as PartialEq>⟧.eq }

@@ -93,7 +93,8 @@ pub fn search_request_deref_aliases_is_well_tagged()
     ensures { IsWellTagged ⟦<SearchRequestDerefAliases as AsnType>⟧.meaning }
 {}
 
-/// Equal values are written alike, and in each value the components of a SET have distinct tags: the DER of a value is its only spelling.
+/// Equal values are written alike, and in each value the components of a SET have distinct tags. With `search_request_deref_aliases_is_well_tagged`
+/// it follows that the DER of a value is its only spelling (`well_tagged_types_have_one_spelling` of `asn1_der`).
 pub fn search_request_deref_aliases_has_one_spelling()
     ensures alike { AreWrittenAlike ⟦<SearchRequestDerefAliases as AsnType>⟧.meaning
         ⟦<SearchRequestDerefAliases as PartialEq>⟧.eq }

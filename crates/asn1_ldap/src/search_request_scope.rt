@@ -75,7 +75,8 @@ pub fn search_request_scope_is_well_tagged()
     ensures { IsWellTagged ⟦<SearchRequestScope as AsnType>⟧.meaning }
 {}
 
-/// Equal values are written alike, and in each value the components of a SET have distinct tags: the DER of a value is its only spelling.
+/// Equal values are written alike, and in each value the components of a SET have distinct tags. With `search_request_scope_is_well_tagged`
+/// it follows that the DER of a value is its only spelling (`well_tagged_types_have_one_spelling` of `asn1_der`).
 pub fn search_request_scope_has_one_spelling()
     ensures alike { AreWrittenAlike ⟦<SearchRequestScope as AsnType>⟧.meaning
         ⟦<SearchRequestScope as PartialEq>⟧.eq }

@@ -94,7 +94,8 @@ pub fn search_result_entry_is_well_tagged()
     ensures { IsWellTagged ⟦<SearchResultEntry as AsnType>⟧.meaning }
 {}
 
-/// Equal values are written alike, and in each value the components of a SET have distinct tags: the DER of a value is its only spelling.
+/// Equal values are written alike, and in each value the components of a SET have distinct tags. With `search_result_entry_is_well_tagged`
+/// it follows that the DER of a value is its only spelling (`well_tagged_types_have_one_spelling` of `asn1_der`).
 pub fn search_result_entry_has_one_spelling()
     ensures alike { AreWrittenAlike ⟦<SearchResultEntry as AsnType>⟧.meaning
         ⟦<SearchResultEntry as PartialEq>⟧.eq }

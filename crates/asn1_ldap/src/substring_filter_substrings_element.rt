@@ -100,7 +100,8 @@ pub fn substring_filter_substrings_element_is_well_tagged()
     ensures { IsWellTagged ⟦<SubstringFilterSubstringsElement as AsnType>⟧.meaning }
 {}
 
-/// Equal values are written alike, and in each value the components of a SET have distinct tags: the DER of a value is its only spelling.
+/// Equal values are written alike, and in each value the components of a SET have distinct tags. With `substring_filter_substrings_element_is_well_tagged`
+/// it follows that the DER of a value is its only spelling (`well_tagged_types_have_one_spelling` of `asn1_der`).
 pub fn substring_filter_substrings_element_has_one_spelling()
     ensures alike { AreWrittenAlike ⟦<SubstringFilterSubstringsElement as AsnType>⟧.meaning
         ⟦<SubstringFilterSubstringsElement as PartialEq>⟧.eq }

@@ -131,7 +131,8 @@ fn append_spelling(
     let opening = if law.premises.is_empty() { "{}" } else { "{" };
     draft.text(format!(in draft.alloc();
         "\
-/// Equal values are written alike, and in each value the components of a SET have distinct tags: the DER of a value is its only spelling.
+/// Equal values are written alike, and in each value the components of a SET have distinct tags. With `{module}_is_well_tagged`
+/// it follows that the DER of a value is its only spelling (`well_tagged_types_have_one_spelling` of `asn1_der`).
 pub fn {module}_has_one_spelling()
     ensures alike {{ AreWrittenAlike ⟦<{name} as AsnType>⟧.meaning
         ⟦<{name} as PartialEq>⟧.eq }}

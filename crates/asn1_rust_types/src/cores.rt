@@ -1,4 +1,5 @@
 //! Types below their lists and their other names.
+use crate::weights::is_of_other_crate;
 use asn1_rust_code::{Import, TypeName};
 use asn1_rust_components::{Alias, ListKind, TypeFile};
 use std::alloc::{AllocError, Global};
@@ -126,7 +127,7 @@ impl<'a> Names<'a> {
         let mut owner = definition;
         let mut text = definition.text.as_str();
         for _ in 0..DEEPEST {
-            if let Some(leaf) = self.leaf(text) {
+            if let Some(leaf) = self.leaf(owner, text) {
                 let core = Core::Leaf(leaf);
                 return Ok(Some(Known { layers, core }));
             }
@@ -161,8 +162,10 @@ impl<'a> Names<'a> {
         }
     }
 
-    // A type without parts, below tags and other names.
-    fn leaf(&self, text: &str) -> Option<Leaf> {
+    // A type without parts, below tags and other names, whose text is in the name of its owner. A type of another crate is none, whatever
+    // its name.
+    fn leaf(&self, owner: &TypeName, text: &str) -> Option<Leaf> {
+        let mut owner = owner;
         let mut inner = text;
         let mut depth: usize = 0;
         for _ in 0..DEEPEST {
@@ -171,8 +174,12 @@ impl<'a> Names<'a> {
                 inner = content;
             } else {
                 match self.names.get(inner) {
-                    Some(Named::Alias(next)) => inner = next.text.as_str(),
+                    Some(Named::Alias(next)) => {
+                        owner = *next;
+                        inner = owner.text.as_str();
+                    }
                     Some(Named::Type(_)) => return None,
+                    None if is_of_other_crate(owner) => return None,
                     None => return leaf_at(inner, depth),
                 }
             }

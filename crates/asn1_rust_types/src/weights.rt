@@ -100,8 +100,8 @@ impl Weights {
     }
 }
 
-// Whether a type is one that another crate has, beside those of the library of types and of contents.
-fn is_of_other_crate(definition: &TypeName) -> bool {
+/// Whether a type is one that another crate has, beside those of the library of types and of contents.
+pub(crate) fn is_of_other_crate(definition: &TypeName) -> bool {
     for import in &definition.imports {
         let path = import.path.as_str();
         if import.is_foreign && path != "asn1_schema" && path != "asn1_contents" {

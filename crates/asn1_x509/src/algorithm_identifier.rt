@@ -90,7 +90,8 @@ pub fn algorithm_identifier_is_well_tagged()
     ensures { IsWellTagged ⟦<AlgorithmIdentifier as AsnType>⟧.meaning }
 {}
 
-/// Equal values are written alike, and in each value the components of a SET have distinct tags: the DER of a value is its only spelling.
+/// Equal values are written alike, and in each value the components of a SET have distinct tags. With `algorithm_identifier_is_well_tagged`
+/// it follows that the DER of a value is its only spelling (`well_tagged_types_have_one_spelling` of `asn1_der`).
 pub fn algorithm_identifier_has_one_spelling()
     ensures alike { AreWrittenAlike ⟦<AlgorithmIdentifier as AsnType>⟧.meaning
         ⟦<AlgorithmIdentifier as PartialEq>⟧.eq }

@@ -84,7 +84,8 @@ pub fn attribute_type_and_value_is_well_tagged()
     ensures { IsWellTagged ⟦<AttributeTypeAndValue as AsnType>⟧.meaning }
 {}
 
-/// Equal values are written alike, and in each value the components of a SET have distinct tags: the DER of a value is its only spelling.
+/// Equal values are written alike, and in each value the components of a SET have distinct tags. With `attribute_type_and_value_is_well_tagged`
+/// it follows that the DER of a value is its only spelling (`well_tagged_types_have_one_spelling` of `asn1_der`).
 pub fn attribute_type_and_value_has_one_spelling()
     ensures alike { AreWrittenAlike ⟦<AttributeTypeAndValue as AsnType>⟧.meaning
         ⟦<AttributeTypeAndValue as PartialEq>⟧.eq }

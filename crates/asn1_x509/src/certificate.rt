@@ -103,7 +103,8 @@ pub fn certificate_is_well_tagged()
     ensures { IsWellTagged ⟦<Certificate as AsnType>⟧.meaning }
 {}
 
-/// Equal values are written alike, and in each value the components of a SET have distinct tags: the DER of a value is its only spelling.
+/// Equal values are written alike, and in each value the components of a SET have distinct tags. With `certificate_is_well_tagged`
+/// it follows that the DER of a value is its only spelling (`well_tagged_types_have_one_spelling` of `asn1_der`).
 pub fn certificate_has_one_spelling()
     ensures alike { AreWrittenAlike ⟦<Certificate as AsnType>⟧.meaning
         ⟦<Certificate as PartialEq>⟧.eq }

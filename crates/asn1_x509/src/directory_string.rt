@@ -114,7 +114,8 @@ pub fn directory_string_is_well_tagged()
     ensures { IsWellTagged ⟦<DirectoryString as AsnType>⟧.meaning }
 {}
 
-/// Equal values are written alike, and in each value the components of a SET have distinct tags: the DER of a value is its only spelling.
+/// Equal values are written alike, and in each value the components of a SET have distinct tags. With `directory_string_is_well_tagged`
+/// it follows that the DER of a value is its only spelling (`well_tagged_types_have_one_spelling` of `asn1_der`).
 pub fn directory_string_has_one_spelling()
     ensures alike { AreWrittenAlike ⟦<DirectoryString as AsnType>⟧.meaning
         ⟦<DirectoryString as PartialEq>⟧.eq }

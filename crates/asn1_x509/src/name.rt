@@ -93,7 +93,8 @@ pub fn name_is_well_tagged()
     ensures { IsWellTagged ⟦<Name as AsnType>⟧.meaning }
 {}
 
-/// Equal values are written alike, and in each value the components of a SET have distinct tags: the DER of a value is its only spelling.
+/// Equal values are written alike, and in each value the components of a SET have distinct tags. With `name_is_well_tagged`
+/// it follows that the DER of a value is its only spelling (`well_tagged_types_have_one_spelling` of `asn1_der`).
 pub fn name_has_one_spelling()
     ensures alike { AreWrittenAlike ⟦<Name as AsnType>⟧.meaning
         ⟦<Name as PartialEq>⟧.eq }

@@ -83,7 +83,8 @@ pub fn rsa_public_key_is_well_tagged()
     ensures { IsWellTagged ⟦<RsaPublicKey as AsnType>⟧.meaning }
 {}
 
-/// Equal values are written alike, and in each value the components of a SET have distinct tags: the DER of a value is its only spelling.
+/// Equal values are written alike, and in each value the components of a SET have distinct tags. With `rsa_public_key_is_well_tagged`
+/// it follows that the DER of a value is its only spelling (`well_tagged_types_have_one_spelling` of `asn1_der`).
 pub fn rsa_public_key_has_one_spelling()
     ensures alike { AreWrittenAlike ⟦<RsaPublicKey as AsnType>⟧.meaning
         ⟦<RsaPublicKey as PartialEq>⟧.eq }

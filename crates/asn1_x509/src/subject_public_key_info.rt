@@ -84,7 +84,8 @@ pub fn subject_public_key_info_is_well_tagged()
     ensures { IsWellTagged ⟦<SubjectPublicKeyInfo as AsnType>⟧.meaning }
 {}
 
-/// Equal values are written alike, and in each value the components of a SET have distinct tags: the DER of a value is its only spelling.
+/// Equal values are written alike, and in each value the components of a SET have distinct tags. With `subject_public_key_info_is_well_tagged`
+/// it follows that the DER of a value is its only spelling (`well_tagged_types_have_one_spelling` of `asn1_der`).
 pub fn subject_public_key_info_has_one_spelling()
     ensures alike { AreWrittenAlike ⟦<SubjectPublicKeyInfo as AsnType>⟧.meaning
         ⟦<SubjectPublicKeyInfo as PartialEq>⟧.eq }

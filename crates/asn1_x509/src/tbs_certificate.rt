@@ -176,7 +176,8 @@ pub fn tbs_certificate_is_well_tagged()
     ensures { IsWellTagged ⟦<TbsCertificate as AsnType>⟧.meaning }
 {}
 
-/// Equal values are written alike, and in each value the components of a SET have distinct tags: the DER of a value is its only spelling.
+/// Equal values are written alike, and in each value the components of a SET have distinct tags. With `tbs_certificate_is_well_tagged`
+/// it follows that the DER of a value is its only spelling (`well_tagged_types_have_one_spelling` of `asn1_der`).
 pub fn tbs_certificate_has_one_spelling()
     ensures alike { AreWrittenAlike ⟦<TbsCertificate as AsnType>⟧.meaning
         ⟦<TbsCertificate as PartialEq>⟧.eq }

@@ -82,7 +82,8 @@ pub fn time_is_well_tagged()
     ensures { IsWellTagged ⟦<Time as AsnType>⟧.meaning }
 {}
 
-/// Equal values are written alike, and in each value the components of a SET have distinct tags: the DER of a value is its only spelling.
+/// Equal values are written alike, and in each value the components of a SET have distinct tags. With `time_is_well_tagged`
+/// it follows that the DER of a value is its only spelling (`well_tagged_types_have_one_spelling` of `asn1_der`).
 pub fn time_has_one_spelling()
     ensures alike { AreWrittenAlike ⟦<Time as AsnType>⟧.meaning
         ⟦<Time as PartialEq>⟧.eq }

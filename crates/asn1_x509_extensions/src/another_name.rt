@@ -84,7 +84,8 @@ pub fn another_name_is_well_tagged()
     ensures { IsWellTagged ⟦<AnotherName as AsnType>⟧.meaning }
 {}
 
-/// Equal values are written alike, and in each value the components of a SET have distinct tags: the DER of a value is its only spelling.
+/// Equal values are written alike, and in each value the components of a SET have distinct tags. With `another_name_is_well_tagged`
+/// it follows that the DER of a value is its only spelling (`well_tagged_types_have_one_spelling` of `asn1_der`).
 pub fn another_name_has_one_spelling()
     ensures alike { AreWrittenAlike ⟦<AnotherName as AsnType>⟧.meaning
         ⟦<AnotherName as PartialEq>⟧.eq }

@@ -90,7 +90,8 @@ pub fn basic_constraints_is_well_tagged()
     ensures { IsWellTagged ⟦<BasicConstraints as AsnType>⟧.meaning }
 {}
 
-/// Equal values are written alike, and in each value the components of a SET have distinct tags: the DER of a value is its only spelling.
+/// Equal values are written alike, and in each value the components of a SET have distinct tags. With `basic_constraints_is_well_tagged`
+/// it follows that the DER of a value is its only spelling (`well_tagged_types_have_one_spelling` of `asn1_der`).
 pub fn basic_constraints_has_one_spelling()
     ensures alike { AreWrittenAlike ⟦<BasicConstraints as AsnType>⟧.meaning
         ⟦<BasicConstraints as PartialEq>⟧.eq }

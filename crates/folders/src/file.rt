@@ -102,7 +102,8 @@ pub fn file_is_well_tagged()
     ensures { IsWellTagged ⟦<File as AsnType>⟧.meaning }
 {}
 
-/// Equal values are written alike, and in each value the components of a SET have distinct tags: the DER of a value is its only spelling.
+/// Equal values are written alike, and in each value the components of a SET have distinct tags. With `file_is_well_tagged`
+/// it follows that the DER of a value is its only spelling (`well_tagged_types_have_one_spelling` of `asn1_der`).
 pub fn file_has_one_spelling()
     ensures alike { AreWrittenAlike ⟦<File as AsnType>⟧.meaning
         ⟦<File as PartialEq>⟧.eq }

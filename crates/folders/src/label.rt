@@ -89,7 +89,8 @@ pub fn label_is_well_tagged()
     ensures { IsWellTagged ⟦<Label as AsnType>⟧.meaning }
 {}
 
-/// Equal values are written alike, and in each value the components of a SET have distinct tags: the DER of a value is its only spelling.
+/// Equal values are written alike, and in each value the components of a SET have distinct tags. With `label_is_well_tagged`
+/// it follows that the DER of a value is its only spelling (`well_tagged_types_have_one_spelling` of `asn1_der`).
 pub fn label_has_one_spelling()
     ensures alike { AreWrittenAlike ⟦<Label as AsnType>⟧.meaning
         ⟦<Label as PartialEq>⟧.eq }

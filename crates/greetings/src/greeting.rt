@@ -92,7 +92,8 @@ pub fn greeting_is_well_tagged()
     ensures { IsWellTagged ⟦<Greeting as AsnType>⟧.meaning }
 {}
 
-/// Equal values are written alike, and in each value the components of a SET have distinct tags: the DER of a value is its only spelling.
+/// Equal values are written alike, and in each value the components of a SET have distinct tags. With `greeting_is_well_tagged`
+/// it follows that the DER of a value is its only spelling (`well_tagged_types_have_one_spelling` of `asn1_der`).
 pub fn greeting_has_one_spelling()
     ensures alike { AreWrittenAlike ⟦<Greeting as AsnType>⟧.meaning
         ⟦<Greeting as PartialEq>⟧.eq }

@@ -87,7 +87,8 @@ pub fn answer_is_well_tagged()
     ensures { IsWellTagged ⟦<Answer as AsnType>⟧.meaning }
 {}
 
-/// Equal values are written alike, and in each value the components of a SET have distinct tags: the DER of a value is its only spelling.
+/// Equal values are written alike, and in each value the components of a SET have distinct tags. With `answer_is_well_tagged`
+/// it follows that the DER of a value is its only spelling (`well_tagged_types_have_one_spelling` of `asn1_der`).
 pub fn answer_has_one_spelling()
     ensures alike { AreWrittenAlike ⟦<Answer as AsnType>⟧.meaning
         ⟦<Answer as PartialEq>⟧.eq }

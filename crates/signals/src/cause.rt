@@ -65,7 +65,8 @@ pub fn cause_is_well_tagged()
     ensures { IsWellTagged ⟦<Cause as AsnType>⟧.meaning }
 {}
 
-/// Equal values are written alike, and in each value the components of a SET have distinct tags: the DER of a value is its only spelling.
+/// Equal values are written alike, and in each value the components of a SET have distinct tags. With `cause_is_well_tagged`
+/// it follows that the DER of a value is its only spelling (`well_tagged_types_have_one_spelling` of `asn1_der`).
 pub fn cause_has_one_spelling()
     ensures alike { AreWrittenAlike ⟦<Cause as AsnType>⟧.meaning
         ⟦<Cause as PartialEq>⟧.eq }

@@ -66,7 +66,8 @@ pub fn handling_is_well_tagged()
     ensures { IsWellTagged ⟦<Handling as AsnType>⟧.meaning }
 {}
 
-/// Equal values are written alike, and in each value the components of a SET have distinct tags: the DER of a value is its only spelling.
+/// Equal values are written alike, and in each value the components of a SET have distinct tags. With `handling_is_well_tagged`
+/// it follows that the DER of a value is its only spelling (`well_tagged_types_have_one_spelling` of `asn1_der`).
 pub fn handling_has_one_spelling()
     ensures alike { AreWrittenAlike ⟦<Handling as AsnType>⟧.meaning
         ⟦<Handling as PartialEq>⟧.eq }

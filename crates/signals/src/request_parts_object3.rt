@@ -84,7 +84,8 @@ pub fn request_parts_object3_is_well_tagged()
     ensures { IsWellTagged ⟦<RequestPartsObject3 as AsnType>⟧.meaning }
 {}
 
-/// Equal values are written alike, and in each value the components of a SET have distinct tags: the DER of a value is its only spelling.
+/// Equal values are written alike, and in each value the components of a SET have distinct tags. With `request_parts_object3_is_well_tagged`
+/// it follows that the DER of a value is its only spelling (`well_tagged_types_have_one_spelling` of `asn1_der`).
 pub fn request_parts_object3_has_one_spelling()
     ensures alike { AreWrittenAlike ⟦<RequestPartsObject3 as AsnType>⟧.meaning
         ⟦<RequestPartsObject3 as PartialEq>⟧.eq }
