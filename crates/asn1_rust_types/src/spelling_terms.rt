@@ -93,7 +93,7 @@ impl<'n, 'a> Terms<'n, 'a> {
                 self.use_one()?;
                 let alike = alike.as_str();
                 format!(in alloc;
-                    "((λ v w same. (let one : v ≡ w = search rules in rw one refl)), {alike})"
+                    "((λ v w same. (let one : v ≡ w = search rules in cc)), {alike})"
                 )?
             }
             Usage::EmptyList(_) => {

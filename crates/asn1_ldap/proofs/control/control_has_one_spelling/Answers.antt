@@ -15,7 +15,7 @@ returns-clause-alike c =
     type_alike table.components reader.layout type.meaning equality.eq (λ are. are) constructed_agrees (
       (λ can v w same. (let one : v ≡ w = search rules in rw one (SameAll-refl _))),
       (
-        ((λ v w same. (let one : v ≡ w = search rules in rw one refl)), (λ can v w same. (let one : v ≡ w = search rules in rw one (SameAll-refl _)))),
+        ((λ v w same. (let one : v ≡ w = search rules in cc)), (λ can v w same. (let one : v ≡ w = search rules in rw one (SameAll-refl _)))),
         ((λ can v w same. (let one : v ≡ w = search rules in rw one (SameAll-refl _))), tt),
       ),
     )

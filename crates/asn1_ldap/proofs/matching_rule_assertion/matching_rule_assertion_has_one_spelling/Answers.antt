@@ -18,7 +18,7 @@ returns-clause-alike c =
         (λ can v w same. (let one : v ≡ w = search rules in rw one (SameAll-refl _))),
         (
           (λ can v w same. (let one : v ≡ w = search rules in rw one (SameAll-refl _))),
-          (((λ v w same. (let one : v ≡ w = search rules in rw one refl)), (λ can v w same. (let one : v ≡ w = search rules in rw one (SameAll-refl _)))), tt),
+          (((λ v w same. (let one : v ≡ w = search rules in cc)), (λ can v w same. (let one : v ≡ w = search rules in rw one (SameAll-refl _)))), tt),
         ),
       ),
     )

@@ -17,7 +17,7 @@ use Rattle.asn1_x509.proofs.tbs_certificate.tbs_certificate_has_one_spelling.Goa
 pub returns-clause-alike : goal.returns-clause-alike
 returns-clause-alike c =
     type_alike table.components reader.layout type.meaning equality.eq (λ are. are) constructed_agrees (
-      ((λ v w same. (let one : v ≡ w = search rules in rw one refl)), (λ can v w same. (let one : v ≡ w = search rules in rw one (SameAll-refl _)))),
+      ((λ v w same. (let one : v ≡ w = search rules in cc)), (λ can v w same. (let one : v ≡ w = search rules in rw one (SameAll-refl _)))),
       (
         (λ can v w same. (let one : v ≡ w = search rules in rw one (SameAll-refl _))),
         (

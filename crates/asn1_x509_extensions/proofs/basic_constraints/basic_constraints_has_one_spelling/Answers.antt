@@ -13,7 +13,7 @@ use Rattle.asn1_x509_extensions.proofs.basic_constraints.basic_constraints_has_o
 pub returns-clause-alike : goal.returns-clause-alike
 returns-clause-alike c =
     type_alike table.components reader.layout type.meaning equality.eq (λ are. are) constructed_agrees (
-      ((λ v w same. (let one : v ≡ w = search rules in rw one refl)), (λ can v w same. (let one : v ≡ w = search rules in rw one (SameAll-refl _)))),
+      ((λ v w same. (let one : v ≡ w = search rules in cc)), (λ can v w same. (let one : v ≡ w = search rules in rw one (SameAll-refl _)))),
       ((λ can v w same. (let one : v ≡ w = search rules in rw one (SameAll-refl _))), tt),
     )
     (λ v w. refl)
