@@ -71,6 +71,7 @@ TABLE = {
     "operations": ("operations", [], ["asn1_tables"]),
     "queries": ("queries", [], []),
     "signals": ("signals", [], ["asn1_tables"]),
+    "spelling_forms": ("spelling_forms", [], []),
     "snmp": ("snmp", [], []),
     "status": ("status", [*(f"--extern={name}=asn1_x509::{name}" for name in ASKED),
                           "--extern=GeneralName=asn1_x509_extensions::GeneralName"], ["asn1_x509", "asn1_x509_extensions"]),
