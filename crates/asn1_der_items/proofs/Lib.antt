@@ -4,6 +4,7 @@ pub mod Cuts
 mod Comparing
 mod Complements
 mod ElementFronts
+pub mod ElementsRead
 pub mod Encodings
 pub mod Found
 mod Measuring

@@ -4,6 +4,7 @@ pub mod Records
 pub mod Tags
 pub mod Orders
 pub mod Composites
+pub mod Readings
 pub mod Meaning
 pub mod Kinds
 pub mod TypeTables

@@ -5,9 +5,9 @@ use Rattle.asn1_tags.specs.declared.tags.Tag.{Tag}
 use Rattle.asn1_tags.specs.Trees.{leaf, choice, none}
 use Rattle.asn1_model.specs.ConstraintSets.{unconstrained}
 use Rattle.asn1_model.specs.Composites.{open_type_records}
-use Rattle.asn1_model.specs.Records.{explicit_tag, open_type, set_of}
+use Rattle.asn1_model.specs.Records.{Name, explicit_tag, open_type, set_of}
 use Rattle.asn1_model.specs.Kinds.{elements_type, object_identifier, scope_type}
-use Rattle.asn1_model.specs.Meaning.{Meaning, tags, own_records, IsWellTagged}
+use Rattle.asn1_model.specs.Meaning.{IsReadAsOwn, Meaning, own_is_read, tags, own_records, IsWellTagged}
 use Rattle.asn1_model.specs.TaggedTypes.{explicitly_tagged_as, untagged}
 use Rattle.asn1_model.specs.Tags.{universal, context, CHOICE, IsATag, LiesIn, first_tags, only}
 use Rattle.asn1_fields.specs.FieldViews.{FieldView, view}
@@ -30,6 +30,8 @@ any_type bytes = record {
   is_choice = false;
   is_present = λ _. true;
   records = λ v t c n. open_type_records n (bytes v);
+  IsReadAs = λ v t c rs. (n : Name) × (rs ≡ open_type_records n (bytes v));
+  reads_own = λ v t c n. (n, refl);
   IsSingleRecord = ⊤;
   HasDistinctTags = λ _. ⊤;
   IsOfType = λ _. ⊤;
@@ -49,6 +51,8 @@ implicit_type tag content m = record {
   is_choice = false;
   is_present = λ _. true;
   records = λ w t c n. m.records (content w) t c n;
+  IsReadAs = λ w. m.IsReadAs (content w);
+  reads_own = λ w. m.reads_own (content w);
   IsSingleRecord = m.IsSingleRecord;
   HasDistinctTags = λ t. IsATag t × m.HasDistinctTags t × (tags m t ≡ only t);
   IsOfType = λ w. m.IsOfType (content w);
@@ -69,6 +73,8 @@ abbrev pub explicit_type : {V W : Type 0} → Tag → (W → V) → Meaning V �
 explicit_type tag content m =
     scope_type (λ t c n. explicit_tag t n) (λ _ _ _. refl) tag unconstrained None (record {
       records = λ w. own_records m (content w);
+      AreReadAs = λ w. IsReadAsOwn m (content w);
+      read_own = λ w. own_is_read m (content w);
       IsWellTagged = IsWellTagged m;
       AreOfType = λ w. m.IsOfType (content w);
       AreValid = λ accepts w. m.IsValid accepts (content w);
