@@ -57,7 +57,7 @@ ASKED = [*NAMED, "AlgorithmIdentifier", "Certificate", "Extensions"]
 # A file of examples/modules: the crate, what the program is told of types that exist already, and the crates of these.
 TABLE = {
     "badges": ("badges", [], ["asn1_tables"]),
-    "certificates": ("certificates", [], []),
+    "certificates": ("certificates", [], ["asn1_contents"]),
     "circle_forms": ("circle_forms", [], []),
     "circles": ("circles", [], []),
     "cms": ("cms", [*(f"--extern={name}=asn1_x509::{name.split('.')[-1]}" for name in SIGNED),
@@ -71,13 +71,13 @@ TABLE = {
     "operations": ("operations", [], ["asn1_tables"]),
     "queries": ("queries", [], []),
     "signals": ("signals", [], ["asn1_tables"]),
-    "spelling_forms": ("spelling_forms", [], []),
+    "spelling_forms": ("spelling_forms", [], ["asn1_contents"]),
     "snmp": ("snmp", [], []),
     "status": ("status", [*(f"--extern={name}=asn1_x509::{name}" for name in ASKED),
                           "--extern=GeneralName=asn1_x509_extensions::GeneralName"], ["asn1_x509", "asn1_x509_extensions"]),
     "tickets": ("tickets", [], []),
     "workshop": ("workshop", [], ["asn1_tables"]),
-    "x509": ("asn1_x509", [], []),
+    "x509": ("asn1_x509", [], ["asn1_contents"]),
     "x509_extensions": ("asn1_x509_extensions", [f"--extern={name}=asn1_x509::{name}" for name in NAMED], ["asn1_x509"]),
 }
 

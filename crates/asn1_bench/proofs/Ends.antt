@@ -1,9 +1,7 @@
 -- The end of an input: where bytes are left, not all has been read.
-use Rattle.std.proofs.Common.{◌≡◌, ◌⊎◌, ℕ, false, List, [], ◌∷◌, ◌++◌, inl, inr, refl, sym, subst, ◌∙◌, append-nil}
+use Rattle.std.proofs.Common.{◌≡◌, ℕ, false, List, [], ◌∷◌, ◌++◌, refl, sym, subst, ◌∙◌}
 use Rattle.asn1_laws.proofs.ReadingUpToOrder.{at_the_end}
 use Rattle.asn1_laws.proofs.RemainingRecords.{same_as_record}
-use Rattle.asn1_laws.specs.Reading.{IsOwnError, MayFail, Outside, Reader}
-use Rattle.asn1_laws.specs.declared.decode_error.DecodeError.{DecodeError}
 use Rattle.asn1_items.specs.Items.{HaveBytes, MarkBytes, read_with}
 use Rattle.asn1_model.proofs.SameRecords.{same-mark}
 use Rattle.asn1_model.proofs.SameUpToOrder.{same_as_mark}

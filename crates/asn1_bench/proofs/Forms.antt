@@ -4,7 +4,7 @@ use Rattle.std.proofs.lemmas.List.Elements.{All-nil, All-cons, All-head, All-tai
 use Rattle.std.proofs.lemmas.List.Sorted.{All-permutation, IsPermutation-sym}
 use Rattle.asn1_items.specs.Headers.{is_one_item}
 use Rattle.asn1_items.specs.Items.{HasBytes, HaveBytes, MarkBytes, read_with, written_with}
-use Rattle.asn1_model.specs.Orders.{SameRecord, SameAll, equal, one_by_one, in_any_order, at_end, next}
+use Rattle.asn1_model.specs.Orders.{SameRecord, SameRecords, SameAll, equal, one_by_one, in_any_order, at_end, next}
 use Rattle.asn1_model.specs.Records.{Record, Records, scalar, scope, open_type, presence_mark, none, more, held, listed}
 use Rattle.asn1_model.specs.WellFormed.{AreWellFormed, IsWellFormed, EachIsWellFormed}
 use Rattle.asn1_bench.specs.Carried.{CarriesWith}
@@ -74,3 +74,24 @@ mutual
 pub carried_is_read : (marks : MarkBytes) (bytes : List ℕ) (rs : List Record) (c : CarriesWith marks bytes rs) → AreWellFormed (λ own. is_one_item own) rs →
     HaveBytes (read_with marks) (held c.exactly) bytes
 carried_is_read marks bytes rs c w = as_read_all marks (held c.exactly) bytes c.have_bytes (all_same_readable c.same (are_readable (held rs) w))
+
+-- The bytes that a decoder reads are those of the records.
+mutual
+  as_written_one : (marks : MarkBytes) (r : Record) (bytes : List ℕ) → HasBytes (read_with marks) r bytes → HasBytes (written_with marks) r bytes
+  as_written_one marks (scalar t c n x) bytes p = p
+  as_written_one marks (scope h rs) bytes p = record { inside = p.inside; is = as_written_all marks rs p.inside p.is; item = p.item }
+  as_written_one marks (open_type n own) bytes p = (p.0, tt)
+  as_written_one marks (presence_mark m) bytes p = p
+
+  as_written_all : (marks : MarkBytes) (rs : Records) (bytes : List ℕ) → HaveBytes (read_with marks) rs bytes → HaveBytes (written_with marks) rs bytes
+  as_written_all marks none bytes p = p
+  as_written_all marks (more r rs) bytes p = record {
+    first = p.first;
+    others = p.others;
+    is_first = as_written_one marks r p.first p.is_first;
+    are_others = as_written_all marks rs p.others p.are_others;
+    are = p.are;
+  }
+
+pub read_is_carried : (marks : MarkBytes) (bytes : List ℕ) (exactly rs : List Record) → HaveBytes (read_with marks) (held exactly) bytes → SameRecords exactly rs → CarriesWith marks bytes rs
+read_is_carried marks bytes exactly rs have same = record { exactly = exactly; have_bytes = as_written_all marks (held exactly) bytes have; same = same }

@@ -1,5 +1,5 @@
 -- The tag of the header of what is next is one with which the record that is next begins.
-use Rattle.std.proofs.Common.{◌≡◌, ℕ, false, List, [], ◌∷◌, ◌++◌, refl, sym, ap, subst, ◌∙◌, arith, Option, Some, None}
+use Rattle.std.proofs.Common.{◌≡◌, ℕ, zero, suc, false, List, [], ◌∷◌, ◌++◌, refl, sym, ap, subst, ◌∙◌, arith, Option, Some, None}
 use Rattle.asn1_components.specs.ComponentTypes.{ComponentType}
 use Rattle.asn1_laws.proofs.MarksPassed.{first_left, next_tag, no_next_tag}
 use Rattle.asn1_laws.specs.Reading.{IsNextTag, HasAdvanced, Outside, marks_passed}
@@ -9,11 +9,13 @@ use Rattle.asn1_items.specs.Kinds.{content_byte, content_kind}
 use Rattle.asn1_items.specs.Items.{HasBytes, HaveBytes, MarkBytes, read_with}
 use Rattle.asn1_items.specs.Slices.{left_inside}
 use Rattle.asn1_model.specs.Records as model
-use Rattle.asn1_model.specs.Records.{PresenceMark, held, is_presence_mark}
-use Rattle.asn1_model.specs.Tags.{Has, record_tags}
+use Rattle.asn1_model.specs.Records.{held, is_presence_mark}
+use Rattle.asn1_model.specs.Tags.{Has, IsOneRecord, among, first_tags, only, record_tags}
+use Rattle.asn1_model.proofs.TagSets.{lies_has}
+use Rattle.std.specs.Prelude.{if◌then◌else◌}
 use Rattle.asn1_bench.proofs.RemainingItems.{is_form}
-use Rattle.asn1_bench.specs.Decoder.{in_one_order, item_form}
-use Rattle.asn1_bench.specs.Presence.{KeepsOutside}
+use Rattle.asn1_bench.specs.Decoder.{BeginUnder, in_one_order, item_form}
+use Rattle.asn1_bench.specs.Presence.{BeginNoItem, KeepsOutside}
 use Rattle.asn1_bench.specs.declared.decoder.ItemDecoder.{ItemDecoder}
 use Rattle.asn1_items.proofs.DecodeStates.{some_left}
 use Rattle.asn1_items.specs.DecodeStates.{AllHave, RemainsExactly, lists_outside}
@@ -78,3 +80,35 @@ module _ {V P : Type 0} (cs : List (ComponentType V)) (marks : MarkBytes) (d e :
   next_found t some found =
       let n = next_header marks (left_inside e.state.slices) items some have in
       advanced (Some t) (next_tag cs items n.first n.others t n.is_next (subst (Has (record_tags n.first)) (sym (found n.header n.at)) n.has))
+
+only_one : (t u : Tag) → Has (only t) u → u ≡ t
+only_one t u (zero, low, is) = sym is
+only_one t u (suc k, low, is) = absurd (omega (arith, low))
+
+-- one record that begins with a tag, and the header of its bytes
+pub begins_under : (marks : MarkBytes) (t : Tag) (items : List model.Record) (left : List ℕ) → IsOneRecord (only t) items → HaveBytes (read_with marks) (held items) left → BeginUnder t left
+begins_under marks t items left one have =
+    let own : HaveBytes (read_with marks) (held (one.item ∷ [])) left = subst (λ l. HaveBytes (read_with marks) (held l) left) one.alone have in
+    let found = tag_at marks one.item own.first own.others one.no_mark own.is_first in
+    let first : first_tags items ≡ record_tags one.item = ap first_tags one.alone ∙ ap (λ b. if b then among [] else record_tags one.item) one.no_mark in
+    let has : Has (only t) found.header.tag = lies_has (first_tags items) (only t) one.within found.header.tag (subst (λ ts. Has ts found.header.tag) (sym first) found.has) in
+    record { header = found.header; at = ap header_at own.are ∙ found.at; tag = only_one t found.header.tag has }
+
+first_has : (marks : MarkBytes) (t : Tag) (r : model.Record) (items : List model.Record) (left : List ℕ) → is_presence_mark r ≡ false → BeginUnder t left → HaveBytes (read_with marks) (held (r ∷ items)) left →
+    Has (record_tags r) t
+first_has marks t r items left no_mark begins have =
+    let found = tag_at marks r have.first have.others no_mark have.is_first in
+    let both : Some found.header ≡ Some begins.header = sym found.at ∙ ap header_at (sym have.are) ∙ begins.at in
+    let same : found.header ≡ begins.header = cc in
+    subst (Has (record_tags r)) (ap (λ (h : Header). h.tag) same ∙ begins.tag) found.has
+
+-- the tag of the header with which bytes of records begin is one with which the records begin
+pub header_has : (marks : MarkBytes) → BeginNoItem marks → (t : Tag) (items : List model.Record) (left : List ℕ) → BeginUnder t left → HaveBytes (read_with marks) (held items) left → Has (first_tags items) t
+header_has marks apart t [] left begins have = let wrong = ap header_at (sym have) ∙ begins.at in cc
+header_has marks apart t (model.presence_mark m ∷ items) left begins have =
+    let is : left ≡ marks m ++ have.others = have.are ∙ ap (λ l. l ++ have.others) have.is_first in
+    let nothing : marks m ≡ [] = apart m have.others begins.header (ap header_at (sym is) ∙ begins.at) in
+    header_has marks apart t items have.others (record { header = begins.header; at = ap header_at (sym (is ∙ ap (λ l. l ++ have.others) nothing)) ∙ begins.at; tag = begins.tag }) have.are_others
+header_has marks apart t (model.scalar u c n x ∷ items) left begins have = first_has marks t (model.scalar u c n x) items left refl begins have
+header_has marks apart t (model.scope h is ∷ items) left begins have = first_has marks t (model.scope h is) items left refl begins have
+header_has marks apart t (model.open_type n own ∷ items) left begins have = tt

@@ -1,31 +1,30 @@
 -- There is one output of records in which the order means something.
-use Rattle.std.proofs.Common.{◌≡◌, ◌≢◌, ◌<◌, ◌^◌, ℕ, zero, suc, ℤ, Bool, true, false, List, [], ◌∷◌, ◌++◌, length, refl, sym, ap, subst, ◌∙◌, arith}
+use Rattle.std.proofs.Common.{◌≡◌, ◌<◌, ℕ, zero, suc, ℤ, Bool, true, false, List, [], ◌∷◌, ◌++◌, length, refl, sym, ap, subst, ◌∙◌, arith}
 use Rattle.std.proofs.lemmas.Bool.{false≢true}
 use Rattle.std.specs.Int.Digits.{AllBelowBase, digits_of}
 use Rattle.std.specs.Prelude.{Vec, unsigned_abs}
 use Rattle.std.specs.declared.alloc.Global.{Global}
-use Rattle.asn1_bench.proofs.Fronts.{packed_belongs, packed_steady}
 use Rattle.asn1_bench.proofs.Sizes.{below, below_left, below_right, digits_abs, inside_below, not_carried}
 use Rattle.asn1_bench.specs.Carried.{CarriesWith}
 use Rattle.asn1_bench.specs.Format.{item_format}
-use Rattle.asn1_bench.specs.OneOutput.{AreOrdered, HasOrderIn, HaveOrderInEach, IsOrdered}
+use Rattle.asn1_bench.specs.OneOutput.{AreOrdered, HasOrderIn, IsOrdered}
 use Rattle.asn1_items.proofs.OneBits.{one_bits}
 use Rattle.asn1_items.specs.Contents.{AreUnits, IsContent}
 use Rattle.asn1_items.specs.Headers.{tag_bytes}
 use Rattle.asn1_items.specs.Items.{HasBytes, HaveBytes, IsItem, MarkBytes, written_with}
-use Rattle.asn1_items.specs.Kinds.{content_byte, content_kind, item_byte, kind_of}
+use Rattle.asn1_items.specs.Kinds.{item_byte, kind_of}
 use Rattle.asn1_items.specs.Numbers.{IsInteger, four_bytes, sign_byte}
 use Rattle.asn1_items.specs.declared.kinds.ItemKind.{ItemKind}
 use Rattle.asn1_items.specs.declared.kinds.ItemKind.TheVariants as item_kind
 use Rattle.asn1_model.proofs.SameUpToOrder.{SameAll-trans, SameRecords-refl}
 use Rattle.asn1_model.specs.Meaning.{Meaning, own_records}
 use Rattle.asn1_model.specs.Orders.{SameRecord, SameAll, SameRecords, equal, one_by_one, in_any_order, at_end, next}
-use Rattle.asn1_model.specs.Records.{Content, Record, Records, StringKind, null, boolean, number, discriminant, arcs, bits, units, octet, utf8, visible, general, graphic, ia5, printable, numeric, teletex, bmp, scalar, scope, open_type, presence_mark, none, more, held, listed, listed-held}
+use Rattle.asn1_model.specs.Records.{Content, Record, Records, StringKind, null, boolean, number, discriminant, arcs, bits, units, octet, utf8, visible, general, graphic, ia5, printable, numeric, teletex, bmp, scalar, scope, open_type, presence_mark, none, more, held}
 use Rattle.asn1_model.specs.Tags.{head_tag}
 use Rattle.asn1_rules.specs.CanonicalReading.{AreOctets, EqualHaveSameRecords, HasOneSpelling, HaveOneSpelling}
 use Rattle.asn1_tags.specs.declared.tags.Tag.{Tag}
 use Rattle.asn1_values.proofs.Digits.{digits_of-magnitude}
-use Rattle.asn1_values.specs.Numbers.{magnitude, signed}
+use Rattle.asn1_values.specs.Numbers.{signed}
 
 -- records that are the same up to the order inside sets are equal where there is no set
 mutual

@@ -16,6 +16,7 @@ abbrev pub byte_fronts : {R : Type 0} → Fronts R ℕ
 byte_fronts = record {
   cut = λ reader bytes n. byte_cut bytes n;
   front = λ reader bytes v n. byte_front bytes v n;
+  read_as = λ reader own v. own ≡ v ∷ [];
   same = λ w v. w == v;
   height = λ v. 0;
   depth = λ reader. 0;

@@ -2,6 +2,7 @@
 use Rattle.std.specs.Prelude.{◌≡◌, ℕ, false, List, ◌++◌, Some, Result, MatchResult, length}
 use Rattle.asn1_laws.specs.ReadingUpToOrder.{up_to_order}
 use Rattle.asn1_laws.specs.Reading.{Reader, Remaining}
+use Rattle.asn1_laws.specs.ReadingExactly.{HasReadContent}
 use Rattle.asn1_laws.specs.ReadingTypes.{ReadsContent}
 use Rattle.asn1_laws.specs.declared.decode_error.DecodeError.{DecodeError}
 use Rattle.asn1_items.specs.Contents.{LooksLike}
@@ -51,6 +52,17 @@ IsExpected (Scope k t) h = (kind_of_scope h ≡ k) × (head_tag h ≡ t)
 IsExpected Alternative h = kind_of_scope h ≡ scope_kind.Alternative
 IsExpected Any h = ⊥
 
+-- The head has the expected header, and if that is under whatever tag, this one.
+abbrev pub IsExpectedUnder : ExpectedHeader → Tag → Head → Type 0
+IsExpectedUnder Alternative t h = (kind_of_scope h ≡ scope_kind.Alternative) × (head_tag h ≡ t)
+IsExpectedUnder expected t h = IsExpected expected h
+
+-- The bytes begin with the header of an item under this tag.
+pub record BeginUnder (t : Tag) (bytes : List ℕ) : Type 0 where
+  pub header : Header
+  pub at : header_at bytes ≡ Some header
+  pub tag : header.tag ≡ t
+
 -- A call that takes the next item. If no call has failed and the bytes left begin with an item of the expected header, it takes
 -- that item and leaves the bytes after it.
 abbrev pub TakesItem : ExpectedHeader → DecodeState → DecodeState → Result Item DecodeError → Type 0
@@ -64,3 +76,9 @@ abbrev pub ReadsContentLike : {D X V : Type 0} → Reader D → Tag → (X → m
 ReadsContentLike {X = X} R t own IsOfType Is old new result =
     (content : X → model.Content) → ((x : X) → LooksLike (content x) (own x)) → (c : ConstraintSet) →
     ReadsContent R t c content IsOfType Is old new result
+
+-- A content was read, and nothing else, with any constraints: that of a value which was answered, or each that looks like it.
+pub record HasReadLike {D X V : Type 0} (R : Reader D) (t : Tag) (own : X → model.Content) (Is : V → X → Type 0) (old new : D) (w : V) : Type 0 where
+  pub value : X
+  pub is : Is w value
+  pub read : (content : model.Content) → LooksLike (own value) content → (c : ConstraintSet) → HasReadContent R old new t c content

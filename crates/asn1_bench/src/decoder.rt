@@ -28,24 +28,29 @@ pub struct ItemDecoder<'a, P> {
 impl<'a, P: Presence> ItemDecoder<'a, P> {
     ghost use Rattle.asn1_laws.specs.DecodeErrors.{custom, reason};
     ghost use Rattle.asn1_laws.specs.Reading.{OpensNothing, TakesDepth, TellsPresence};
+    ghost use Rattle.asn1_laws.specs.ReadingExactly.{HasOpened, HasReadMark};
     ghost use Rattle.asn1_laws.specs.declared.decode_error.DecodeError.TheVariants.{Failed};
     ghost use Rattle.asn1_items.specs.Headers.{is_one_item};
-    ghost use Rattle.asn1_items.specs.Slices.{left_outside};
+    ghost use Rattle.asn1_items.specs.Slices.{HasTaken, left_inside, left_outside};
+    ghost use Rattle.asn1_items.specs.declared.header.ExpectedHeader.TheVariants.{Scope};
     ghost use Rattle.asn1_model.specs.Records as model;
-    ghost use Rattle.asn1_model.specs.Records.{Side, absent, present};
+    ghost use Rattle.asn1_model.specs.Records.{Head, Side, absent, present};
     ghost use Rattle.asn1_model.specs.Tags.{tree_tags};
     ghost use Rattle.asn1_model.specs.WellFormed.{AreWellFormed};
     ghost use Rattle.asn1_bench.specs.Carried.{CarriesWith};
-    ghost use Rattle.asn1_bench.specs.Decoder.{IsExpected, ReadsContentLike, Remains, TakesItem, in_one_order, item_reader};
+    ghost use Rattle.asn1_bench.specs.Decoder.{BeginUnder, HasReadLike, IsExpected, IsExpectedUnder, ReadsContentLike, Remains, TakesItem, in_one_order, item_reader};
     ghost use Rattle.asn1_items.specs.DecodeStates.{IsWithinBound, OpensExpected, ReadsExpectedHead, ReadsExpectedSet};
     ghost use Rattle.asn1_tags.specs.Trees.{shape};
     ghost use Rattle.asn1_tags.specs.declared.tags.Tag.{Tag as Under};
-    ghost use Rattle.std.specs.Prelude.{◌≡◌, ◌≢◌, ◌↔◌, [], ⊤, Err, IfErr, IsOk, List, OnOk, codes, false, true};
+    ghost use Rattle.std.specs.Bool.{Decides};
+    ghost use Rattle.std.specs.Prelude.{◌≡◌, ◌≢◌, ◌↔◌, [], ⊤, Err, IfErr, IfOk, IsOk, List, OnOk, codes, false, true};
 
     /// A decoder of these bytes, which may open this many nested scopes.
     pub fn new(alloc: Global, bytes: &'a [u8], depth: usize) -> ItemDecoder<'a, P>
         ensures before { (rs : List model.Record) → CarriesWith P.mark_bytes bytes.now rs →
             AreWellFormed (λ own. is_one_item own) rs → Remains P.mark_bytes result (rs, []) }
+        ensures only { (rs : List model.Record) → Remains P.mark_bytes result (rs, []) →
+            CarriesWith P.mark_bytes bytes.now rs }
         ensures depth_left { (item_reader P.mark_bytes).depth_left result ≡ depth }
         ensures no_failure { (item_reader P.mark_bytes).failed result ≡ false }
     {
@@ -74,6 +79,8 @@ impl<'a, P: Presence> ItemDecoder<'a, P> {
     #[inline(always)]
     fn take(&mut self, expected: ExpectedHeader) -> Result<Item<'a>, DecodeError>
         ensures took { TakesItem expected self.old.state self.new.state result }
+        ensures only { IfOk result (HasTaken expected self.old.state.slices
+            self.new.state.slices) }
         ensures outside { OnOk result
             (left_outside self.new.state.slices ≡ left_outside self.old.state.slices) }
         ensures opens_nothing { OpensNothing (item_reader P.mark_bytes) self.old self.new result }
@@ -92,6 +99,8 @@ impl<'a, P: Presence> ItemDecoder<'a, P> {
     fn scalar<V: FromContent>(&mut self, tag: Tag) -> Result<V, DecodeError>
         ensures read { ReadsContentLike (item_reader P.mark_bytes) tag V.content V.IsOfType V.Is
             self.old self.new result }
+        ensures only { IfOk result (HasReadLike (item_reader P.mark_bytes) tag V.content V.Is
+            self.old self.new) }
         ensures opens_nothing { OpensNothing (item_reader P.mark_bytes) self.old self.new result }
     {
         let item = self.take(ExpectedHeader::Content(tag, V::kind()))?;
@@ -106,6 +115,8 @@ impl<'a, P: Presence> ItemDecoder<'a, P> {
         ensures read { (side : Side) (t : Under) → TellsPresence (item_reader P.mark_bytes)
             self.old self.new (present side t) (absent side t) (tree_tags (shape tree.entry))
             result }
+        ensures only { (side : Side) (t : Under) → IfOk result (HasReadMark
+            (item_reader P.mark_bytes) self.old self.new (present side t) (absent side t)) }
         ensures opens_nothing { OpensNothing (item_reader P.mark_bytes) self.old self.new result }
     {
         let state = &mut self.state;
@@ -123,6 +134,8 @@ impl<'a, P: Presence> ItemDecoder<'a, P> {
     fn open(&mut self, expected: ExpectedHeader) -> Result<Opened, DecodeError>
         ensures read { OpensExpected (in_one_order P.mark_bytes) (IsExpected expected)
             self.old self.new result }
+        ensures only { IfOk result (λ opened. (h : Head) → IsExpectedUnder expected opened.tag h →
+            HasOpened (in_one_order P.mark_bytes) self.old self.new h) }
         ensures takes_depth { TakesDepth (item_reader P.mark_bytes) self.old self.new result }
     {
         if self.state.failed {
@@ -136,25 +149,39 @@ impl<'a, P: Presence> ItemDecoder<'a, P> {
     }
 
     /// Opens a scope whose records have a fixed order.
-    fn open_in_order(&mut self, expected: ExpectedHeader) -> Result<(), DecodeError>
-        ensures read { ReadsExpectedHead (item_reader P.mark_bytes) (IsExpected expected) (λ _ _. ⊤)
-            self.old self.new result }
+    fn open_in_order(&mut self, kind: ScopeKind, tag: Tag) -> Result<(), DecodeError>
+        ensures read { ReadsExpectedHead (item_reader P.mark_bytes) (IsExpected (Scope kind tag))
+            (λ _ _. ⊤) self.old self.new result }
+        ensures only { OnOk result ((h : Head) → IsExpected (Scope kind tag) h →
+            HasOpened (item_reader P.mark_bytes) self.old self.new h) }
         ensures takes_depth { TakesDepth (item_reader P.mark_bytes) self.old self.new result }
     {
-        self.open(expected)?;
+        self.open(ExpectedHeader::Scope(kind, tag))?;
         Ok(())
     }
 
     /// Opens a list of elements or the components of a set, and answers how many bytes are in it.
-    fn open_list(&mut self, expected: ExpectedHeader) -> Result<usize, DecodeError>
-        ensures read { ReadsExpectedHead (item_reader P.mark_bytes) (IsExpected expected)
+    fn open_list(&mut self, kind: ScopeKind, tag: Tag) -> Result<usize, DecodeError>
+        ensures read { ReadsExpectedHead (item_reader P.mark_bytes) (IsExpected (Scope kind tag))
             IsWithinBound self.old self.new result }
-        ensures read_set { ReadsExpectedSet (item_reader P.mark_bytes) (IsExpected expected)
+        ensures read_set { ReadsExpectedSet (item_reader P.mark_bytes) (IsExpected (Scope kind tag))
             IsWithinBound self.old self.new result }
+        ensures only { OnOk result ((h : Head) → IsExpected (Scope kind tag) h →
+            HasOpened (item_reader P.mark_bytes) self.old self.new h) }
         ensures takes_depth { TakesDepth (item_reader P.mark_bytes) self.old self.new result }
     {
-        let opened = self.open(expected)?;
+        let opened = self.open(ExpectedHeader::Scope(kind, tag))?;
         Ok(opened.bound)
+    }
+
+    /// Whether the innermost scope goes on with an item under this tag.
+    fn goes_on_under(&self, tag: Tag) -> bool
+        ensures { Decides result (BeginUnder tag (left_inside self.now.state.slices)) }
+    {
+        match self.state.slices.next_header() {
+            Ok(header) => header.tag == tag,
+            Err(_) => false,
+        }
     }
 }
 
@@ -274,11 +301,11 @@ impl<'a, P: Presence> Decoder for ItemDecoder<'a, P> {
     }
 
     fn open_sequence<C: FieldTable>(&mut self, tag: Tag) -> Result<(), DecodeError> {
-        self.open_in_order(ExpectedHeader::Scope(ScopeKind::Sequence, tag))
+        self.open_in_order(ScopeKind::Sequence, tag)
     }
 
     fn open_set<C: FieldTable>(&mut self, tag: Tag) -> Result<usize, DecodeError> {
-        self.open_list(ExpectedHeader::Scope(ScopeKind::Set, tag))
+        self.open_list(ScopeKind::Set, tag)
     }
 
     fn next_component<C: FieldTable>(&mut self) -> Result<Option<Tag>, DecodeError> {
@@ -301,7 +328,7 @@ impl<'a, P: Presence> Decoder for ItemDecoder<'a, P> {
         tag: Tag,
         _constraints: &Constraints<'_>,
     ) -> Result<usize, DecodeError> {
-        self.open_list(ExpectedHeader::Scope(ScopeKind::SequenceOf, tag))
+        self.open_list(ScopeKind::SequenceOf, tag)
     }
 
     fn open_set_of(
@@ -309,11 +336,11 @@ impl<'a, P: Presence> Decoder for ItemDecoder<'a, P> {
         tag: Tag,
         _constraints: &Constraints<'_>,
     ) -> Result<usize, DecodeError> {
-        self.open_list(ExpectedHeader::Scope(ScopeKind::SetOf, tag))
+        self.open_list(ScopeKind::SetOf, tag)
     }
 
     fn open_explicit_prefix(&mut self, tag: Tag) -> Result<(), DecodeError> {
-        self.open_in_order(ExpectedHeader::Scope(ScopeKind::ExplicitTag, tag))
+        self.open_in_order(ScopeKind::ExplicitTag, tag)
     }
 
     fn open_choice<T: Choice>(
@@ -321,6 +348,9 @@ impl<'a, P: Presence> Decoder for ItemDecoder<'a, P> {
         _constraints: &Constraints<'_>,
     ) -> Result<Tag, DecodeError> {
         let opened = self.open(ExpectedHeader::Alternative)?;
+        if !self.goes_on_under(opened.tag) {
+            return Err(self.state.fail(BAD_ITEM));
+        }
         Ok(opened.tag)
     }
 

@@ -23,16 +23,19 @@
 //!   2^32 bytes or more inside an item, and no others (`wrote`, `rejects` of [`codec_laws`]).
 //! - A decoder of bytes that carry well-formed records begins where these remain (`before`), and [`ItemDecoder::finish`] succeeds
 //!   if and only if all has been read (`all_read`).
+//! - A call of an [`ItemDecoder`] that succeeds has read what it answers, and nothing else (`only` of each call): wherever records
+//!   remain after it, these remained before it, with those of the answer in front. A CHOICE is opened only if the item inside has
+//!   the tag of the item around it.
 //! - [`BenchRules`] keeps the laws of `Rules` of `asn1_rules`, so `round_trip` holds of it. An output carries the records whose
 //!   packed bytes it is, up to the order inside sets, and one value of an open type is one item (`carries`, `accepts` of
-//!   [`laws`]).
+//!   [`laws`]). An answer of `read_value` was read of records that the bytes carry, whatever they are (`only`).
 //! - [`BenchReader`] takes one whole item for one value (`cut`), and is steady. For a well-tagged type it belongs to these rules
 //!   (`belongs`), so `round_trip_in_pieces` holds of it.
 //! - What is written of a value without SET and SET OF is its only spelling, if equal values of its type have the same records
 //!   (`what_is_written_is_the_only_spelling` of [`canonical`]).
 //!
-//! No contract covers bytes that are not those of the type. Tests show that the error is `Custom` with the text `bad item` where
-//! they are not those of the expected item, and `Incomplete` where they end outside all scopes, with the number of bytes that the
+//! No contract says by which error other bytes are refused. Tests show that it is `Custom` with the text `bad item` where they are
+//! not those of the expected item, and `Incomplete` where they end outside all scopes, with the number of bytes that the
 //! part that is read lacks.
 #![tactic(auto)]
 

@@ -3,8 +3,8 @@ ghost use Rattle.asn1_model.specs.Records.{PresenceMark};
 ghost use Rattle.asn1_model.specs.Tags.{Tags};
 ghost use Rattle.asn1_items.specs.Items.{packed_marks};
 ghost use Rattle.asn1_items.specs.Kinds.{kind_of_mark, mark_kind_byte};
-ghost use Rattle.asn1_bench.specs.Presence.{FindsPresence, KeepsOutside};
-ghost use Rattle.std.specs.Prelude.{◌≡◌, ◌≢◌};
+ghost use Rattle.asn1_bench.specs.Presence.{FindsPresence, HasTakenEither, KeepsOutside};
+ghost use Rattle.std.specs.Prelude.{◌≡◌, ◌≢◌, IfOk};
 
 use crate::presence::Presence;
 use asn1_bounds::Codec;
@@ -18,6 +18,7 @@ pub struct PresenceMarks;
 impl Presence for PresenceMarks {
     ghost use Rattle.asn1_bounds.specs.declared.codec.Codec.TheVariants.{Other};
     ghost use Rattle.asn1_items.specs.Items.{packed_marks};
+    ghost use Rattle.asn1_bench.specs.Presence.{packed_begin_no_item};
 
     ghost mark_bytes = { packed_marks };
 
@@ -51,6 +52,8 @@ impl Presence for PresenceMarks {
     fn skip_marks(slices: &mut Slices<'_>) {
         slices.skip_marks();
     }
+
+    ghost begin_no_item = { packed_begin_no_item };
 }
 
 /// Whether something is there, by the presence marks of two kinds.
@@ -58,6 +61,8 @@ fn tell(slices: &mut Slices<'_>, there: MarkKind, away: MarkKind) -> Result<bool
     ensures found { (p a : PresenceMark) (own : Tags) → kind_of_mark p ≡ there →
         kind_of_mark a ≡ away → mark_kind_byte there ≢ mark_kind_byte away →
         FindsPresence packed_marks p a own slices.old slices.new result }
+    ensures only { (p a : PresenceMark) → kind_of_mark p ≡ there → kind_of_mark a ≡ away →
+        IfOk result (HasTakenEither packed_marks p a slices.old slices.new) }
     ensures keeps_outside { KeepsOutside slices.old slices.new }
 {
     let byte = slices.take_mark()?;

@@ -13,8 +13,8 @@ impl Rules for NoRules {
     ghost use Rattle.asn1_laws.specs.DecodeErrors.{custom, reason as said};
     ghost use Rattle.asn1_laws.specs.EncodeErrors.{reason, rejected};
     ghost use Rattle.asn1_model.specs.Meaning.{own_records};
-    ghost use Rattle.asn1_rules.specs.Rules.{ReadsCarried, RefusesCarried, WritesWhole};
-    ghost use Rattle.std.specs.Prelude.{◌≡◌, MatchResult, codes};
+    ghost use Rattle.asn1_rules.specs.Rules.{IsReadOf, ReadsCarried, RefusesCarried, WritesWhole};
+    ghost use Rattle.std.specs.Prelude.{◌≡◌, IfOk, MatchResult, codes};
 
     type Output = Vec<u8>;
 
@@ -33,6 +33,7 @@ impl Rules for NoRules {
             depth result }
         ensures refuses { RefusesCarried no_format.accepts (no_format.carries output.now)
             T.meaning T.refusals depth result }
+        ensures only { IfOk result (IsReadOf (no_format.carries output.now) T.meaning) }
         ensures refused { MatchResult result (λ _. ⊥) (λ e. said e ≡ custom (codes "refused")) }
     {
         Err(DecodeError::Custom("refused"))

@@ -8,10 +8,10 @@ ghost use Rattle.asn1_items.specs.Items.{HaveBytes, MarkBytes, read_with};
 ghost use Rattle.asn1_items.specs.Slices.{left_inside};
 ghost use Rattle.asn1_model.specs.Records.{PresenceMark, Record, Side, absent, group_absent, group_end, group_start, held, present};
 ghost use Rattle.asn1_model.specs.Tags.{tree_tags};
-ghost use Rattle.asn1_bench.specs.Presence.{FindsPresence, KeepsOutside, PassesMark};
+ghost use Rattle.asn1_bench.specs.Presence.{BeginNoItem, FindsPresence, HasTakenEither, HasTakenMark, HasTakenMarks, KeepsOutside, PassesMark};
 ghost use Rattle.asn1_tags.specs.Trees.{choice, shape};
 ghost use Rattle.asn1_tags.specs.declared.tags.Tag.{Tag};
-ghost use Rattle.std.specs.Prelude.{◌≡◌, ⊤, List};
+ghost use Rattle.std.specs.Prelude.{◌≡◌, ⊤, IfOk, List, OnOk};
 
 use asn1_bounds::Codec;
 use asn1_buffers::MarkKind;
@@ -42,6 +42,8 @@ pub trait Presence {
     fn component(slices: &mut Slices<'_>, tree: TagTree<'static>) -> Result<bool, ItemError>
         ensures found { (side : Side) (t : Tag) → FindsPresence mark_bytes (present side t)
             (absent side t) (tree_tags (shape tree.entry)) slices.old slices.new result }
+        ensures only { (side : Side) (t : Tag) → IfOk result (HasTakenEither mark_bytes
+            (present side t) (absent side t) slices.old slices.new) }
         ensures keeps_outside { KeepsOutside slices.old slices.new };
 
     /// Whether the group of additions is there whose components are those of the table of `C`. Goes past the presence mark that
@@ -54,6 +56,8 @@ pub trait Presence {
             (group_absent (rows C.components))
             (tree_tags (choice (trees_of (all_components C.components))))
             slices.old slices.new result }
+        ensures only { IfOk result (HasTakenEither mark_bytes (group_start (rows C.components))
+            (group_absent (rows C.components)) slices.old slices.new) }
         ensures keeps_outside { KeepsOutside slices.old slices.new };
 
     /// Goes past the presence mark that ends a group.
@@ -63,6 +67,7 @@ pub trait Presence {
     fn end_of_group(slices: &mut Slices<'_>) -> Result<(), ItemError>
         ensures passed { (rest : List Record) →
             PassesMark mark_bytes group_end rest (λ _. ⊤) slices.old slices.new result }
+        ensures only { OnOk result (HasTakenMark mark_bytes group_end slices.old slices.new) }
         ensures keeps_outside { KeepsOutside slices.old slices.new };
 
     /// Goes past the presence marks in front.
@@ -70,5 +75,9 @@ pub trait Presence {
         ensures passed { (rs : List Record) →
             HaveBytes (read_with mark_bytes) (held rs) (left_inside slices.old) →
             HaveBytes (read_with mark_bytes) (held (marks_passed rs)) (left_inside slices.new) }
+        ensures only { HasTakenMarks mark_bytes slices.old slices.new }
         ensures keeps_outside { KeepsOutside slices.old slices.new };
+
+    // The law of the bytes of presence marks: no item begins with them.
+    ghost begin_no_item: { BeginNoItem mark_bytes };
 }

@@ -23,8 +23,8 @@ pub struct BenchReader {
 impl BenchReader {
     ghost use Rattle.asn1_items.specs.Headers.{is_one_item};
     ghost use Rattle.asn1_bench.specs.Carried.{Carries};
-    ghost use Rattle.asn1_rules.specs.Rules.{ReadsCarried};
-    ghost use Rattle.std.specs.Prelude.{◌≡◌};
+    ghost use Rattle.asn1_rules.specs.Rules.{IsReadOf, ReadsCarried};
+    ghost use Rattle.std.specs.Prelude.{◌≡◌, IfOk};
 
     /// A reader that may open this many nested scopes, with the allocator that values are made by.
     pub fn new(alloc: Global, depth: usize) -> BenchReader
@@ -50,8 +50,9 @@ impl BenchReader {
 
     /// Reads the value whose bytes these are.
     fn read<D: Decode>(&self, bytes: &[u8]) -> Result<D, DecodeError>
-        ensures { ReadsCarried (λ own. is_one_item own) (Carries bytes.now) D.meaning D.eq
+        ensures read { ReadsCarried (λ own. is_one_item own) (Carries bytes.now) D.meaning D.eq
             self.now.depth result }
+        ensures only { IfOk result (IsReadOf (Carries bytes.now) D.meaning) }
     {
         let decoder = PackedDecoder::new(self.alloc, bytes, self.depth);
         read_whole(decoder)

@@ -12,8 +12,8 @@ use std::alloc::Global;
 /// type. So `write_value` fails if memory runs out, where the value's records are nested deeper than the depth, or where they
 /// are too long, by [`EncodeError::Custom`] with the text `item too long`; and for no other reason.
 ///
-/// Of bytes that are not those of a value of the type, `read_value` answers an error or a value. [`DecodeError::Incomplete`]
-/// comes where bytes are missing outside all scopes, with how many of the part that is read, and [`DecodeError::Custom`], with
+/// An answer of `read_value` was read of records that the bytes carry, whatever they are (`only`). [`DecodeError::Incomplete`] comes
+/// where bytes are missing outside all scopes, with how many of the part that is read, and [`DecodeError::Custom`], with
 /// the text `bad item`, where the bytes are not what is asked for or some are left. An error of the type's own is answered as it
 /// is. No memory is taken by a length that the bytes tell, but by those that are there.
 #[derive(Clone, Copy, Debug)]
@@ -34,7 +34,8 @@ impl BenchRules {
 
 impl Rules for BenchRules {
     ghost use Rattle.asn1_bench.specs.Format.{packed_format, packed_is_lawful};
-    ghost use Rattle.asn1_rules.specs.Rules.{ReadsCarried, RefusesCarried, RefusesMore};
+    ghost use Rattle.asn1_rules.specs.Rules.{IsReadOf, ReadsCarried, RefusesCarried, RefusesMore};
+    ghost use Rattle.std.specs.Prelude.{IfOk};
 
     type Output = Vec<u8>;
 
@@ -51,6 +52,7 @@ impl Rules for BenchRules {
             T.meaning T.refusals depth result }
         ensures none_left { RefusesMore packed_format.accepts (packed_format.carries output.now)
             T.meaning result }
+        ensures only { IfOk result (IsReadOf (packed_format.carries output.now) T.meaning) }
     {
         let decoder = PackedDecoder::new(self.alloc, output.as_slice(), depth);
         read_whole(decoder)

@@ -1,15 +1,17 @@
 -- Elements are cut off: trailing bytes change nothing, and what was written is one element.
 use Rattle.std.proofs.Common.{◌≡◌, ◌+◌, ◌≤◌, ◌<◌, ℕ, Bool, false, true, List, [], ◌∷◌, ◌++◌, ap, subst, ◌∙◌, arith, append-nil, drop, length, length-append, sym, take}
+use Rattle.std.proofs.Math.Seq.{take-append_seam}
 use Rattle.std.proofs.lemmas.List.{take-append-drop}
 use Rattle.asn1_ber.specs.Bytes.{HaveBer}
 use Rattle.asn1_ber.specs.Cuts.{IsCut, ber_fronts, cut_within}
-use Rattle.asn1_ber.specs.Form.{ber_is_lawful_form}
+use Rattle.asn1_ber.specs.Form.{ber_form, ber_is_lawful_form}
 use Rattle.asn1_ber.specs.Format.{Carries, CarriesNormal, ber_format}
 use Rattle.asn1_ber.specs.declared.reader.BerReader.{BerReader}
 use Rattle.asn1_ber_items.proofs.Headers.{cut_shorter, header_shorter}
-use Rattle.asn1_ber_items.proofs.NormalForms.{one-append, one_normal_form, spells-append}
+use Rattle.asn1_ber_items.proofs.NormalForms.{one-append, one_normal_form, spells-append, spells-cut}
 use Rattle.asn1_ber_items.specs.Spellings.{Spells, SpellsOne, definite, indefinite, nothing, primitive}
 use Rattle.asn1_der_items.specs.Series.{is_one_element}
+use Rattle.asn1_elements.specs.Decoder.{CarriesUpToOrder}
 use Rattle.asn1_model.proofs.SameRecords.{same-mark}
 use Rattle.asn1_model.proofs.SameUpToOrder.{same_as_cons, same_as_none}
 use Rattle.asn1_model.specs.Meaning.{Meaning, IsWellTagged, own_records}
@@ -18,8 +20,10 @@ use Rattle.asn1_model.specs.Records.{Record, held, is_presence_mark, more, none}
 use Rattle.asn1_model.specs.Tags.{IsOneRecord, Tags}
 use Rattle.asn1_model.specs.WellFormed.{AreWellFormed}
 use Rattle.asn1_rules.proofs.ItemFronts.{belongs, steady}
+use Rattle.asn1_rules.proofs.Readings.{is_read_too}
 use Rattle.asn1_rules.specs.Fronts.{BelongsTo, IsSteady}
 use Rattle.asn1_rules.specs.ItemFronts.{CutsItems, IsFrontOf}
+use Rattle.asn1_rules.specs.Rules.{IsReadOf}
 
 -- the rest is no longer than the octets
 pub rest_within : (octets normal rest : List ℕ) → Spells octets normal rest → length rest ≤ length octets
@@ -108,6 +112,31 @@ front_in_normal_form m octets normal own rest v n is front found =
     let whole : SpellsOne octets b.normal (drop n octets) =
     subst (λ l. SpellsOne l b.normal (drop n octets)) (take-append-drop n octets) (one-append (take n octets) b.normal [] (drop n octets) (record { spells = b.spell; one = one })) in
     in_normal_form (take n octets) normal (own_records m v) front.carried (is ∙ (one_normal_form octets own rest b.normal (drop n octets) found whole).0)
+
+-- the records that a decoder reads of a normal form are those that it carries
+pub is_carried : (rs : List Record) (normal : List ℕ) → CarriesUpToOrder ber_form rs normal → CarriesNormal normal rs
+is_carried rs normal c = record { exactly = c.exactly; have_bytes = c.have; same = c.same }
+
+-- and the octets with this normal form carry them too
+pub spelled : (octets own normal : List ℕ) (rs : List Record) → normal ≡ own → Spells octets own [] → CarriesNormal normal rs → Carries octets rs
+spelled octets own normal rs same spell c = record {
+  exactly = c.exactly;
+  have_bytes = record { normal = normal; spell = subst (λ l. Spells octets l []) (sym same) spell; have = c.have_bytes };
+  same = c.same;
+}
+
+-- a front alone has the normal form of its element
+front_spells : (octets own rest : List ℕ) (n : ℕ) → Spells octets own rest → n + length rest ≡ length octets → Spells (take n octets) own []
+front_spells octets own rest n spells is =
+    let c = spells-cut octets own rest spells in
+    let long : n ≡ length c.front = omega (arith, is, ap length c.are, length-append c.front rest) in
+    subst (λ l. Spells l own []) (sym (ap (λ l. take n l) c.are ∙ ap (λ k. take k (c.front ++ rest)) long ∙ take-append_seam c.front rest)) c.spells
+
+-- so a value that was read of that was read of the front
+pub read_of_front : {V : Type 0} (m : Meaning V) (octets own rest normal : List ℕ) (n : ℕ) (w : V) → normal ≡ own → Spells octets own rest → n + length rest ≡ length octets →
+    IsReadOf (CarriesNormal normal) m w → IsReadOf (Carries (take n octets)) m w
+read_of_front m octets own rest normal n w same spells is read =
+    is_read_too (CarriesNormal normal) (Carries (take n octets)) m (λ rs carried. spelled (take n octets) own normal rs same (front_spells octets own rest n spells is) carried) w read
 
 pub ber_steady : {V : Type 0} (m : Meaning V) (eq : V → V → Bool) (reader : BerReader) → IsSteady (ber_fronts m eq) reader
 ber_steady m eq reader = steady IsCut Carries (λ own. is_one_element own) (λ reader. reader.depth) m eq reader cuts_elements

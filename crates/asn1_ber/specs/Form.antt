@@ -4,13 +4,16 @@ use Rattle.std.proofs.Common.{inl, inr, arith, subst, sym}
 use Rattle.asn1_ber.specs.Bytes.{HasBer, HaveBer, Holds}
 use Rattle.asn1_der_items.proofs.OneElement.{element_of_tag, is_one, one_of, tag_is}
 use Rattle.asn1_der_items.specs.Bytes.{content_order_of}
+use Rattle.asn1_der_items.specs.Contents.{HasContents}
 use Rattle.asn1_der_items.specs.RecordElements.{IsElementOfRecord}
 use Rattle.asn1_der_items.specs.Series.{IsElementOf, is_one_element}
 use Rattle.asn1_der_items.specs.declared.content_order.ContentOrder.{ContentOrder}
 use Rattle.asn1_der_items.specs.declared.content_order.ContentOrder.TheVariants.{AsDefined, ByTag, ByEncoding, Chosen}
-use Rattle.asn1_elements.proofs.Inside.{constructed_inside}
-use Rattle.asn1_elements.specs.ElementForms.{HoldsInside, IsElementForm}
+use Rattle.asn1_elements.proofs.Inside.{constructed_inside, constructed_octets}
+use Rattle.asn1_elements.specs.ElementForms.{HoldsInside, IsElementForm, IsHolder, octets_of}
+use Rattle.asn1_elements.specs.declared.contents.Contents.{Contents}
 use Rattle.asn1_items.specs.DecodeStates.{ReadForm}
+use Rattle.asn1_items.specs.Kinds.{content_kind}
 use Rattle.asn1_items.specs.declared.kinds.ContentKind.{ContentKind}
 use Rattle.asn1_items.specs.declared.kinds.ContentKind.TheVariants as kind
 use Rattle.asn1_model.specs.ConstraintSets.{ConstraintSet}
@@ -34,6 +37,10 @@ IsStringKind _ = ⊥
 -- Strings alone may be in a constructed element (8.6.1, 8.7.1 and 8.23).
 abbrev pub IsFormOf : ContentKind → Bool → Type 0
 IsFormOf own constructed = constructed ≡ true → IsStringKind own
+
+-- The contents octets, as DER has them, are those of contents of the kind that have these octets in such an element, and of no other.
+abbrev pub AreOnlyOf : (Content → List ℕ → Type 0) → ContentKind → List ℕ → Contents → Type 0
+AreOnlyOf HasOctets own octets contents = (x : Content) → content_kind x ≡ own → HasContents x (octets_of contents) → HasOctets x octets
 
 -- any order
 abbrev pub InAnyOrder : ContentOrder → List ℕ → Type 0
@@ -72,6 +79,18 @@ inside_of (alternative t c table n) rs own p =
     let o = one_of t own p.1 in
     record { element = o.element; alone = o.alone; tag = o.tag; inside = own; is = refl; in_order = tt; have = p.0 }
 
+-- the other way round
+holder_of : (h : Head) (rs : List Record) (own : List ℕ) → IsHolder ber_form InAnyOrder h rs own → HasBer (holding h rs) own
+holder_of (sequence t table n) rs own p = record { contents = p.inside; are = p.have; element = constructed_octets p.element t own p.inside p.octets p.tag p.is }
+holder_of (set t table n) rs own p = record { contents = p.inside; are = p.have; element = constructed_octets p.element t own p.inside p.octets p.tag p.is }
+holder_of (sequence_of t c n) rs own p = record { contents = p.inside; are = p.have; element = constructed_octets p.element t own p.inside p.octets p.tag p.is }
+holder_of (set_of t c n) rs own p = record { contents = p.inside; are = p.have; element = constructed_octets p.element t own p.inside p.octets p.tag p.is }
+holder_of (explicit_tag t n) rs own p = record { contents = p.inside; are = p.have; element = constructed_octets p.element t own p.inside p.octets p.tag p.is }
+holder_of (alternative t c table n) rs own p = (
+  subst (λ l. HaveBer (held rs) l) (sym p.is) p.have,
+  subst (λ u. IsElementOf u own) p.tag (element_of_tag p.element.tag p.element.constructed p.element.contents own p.octets),
+)
+
 -- it is a lawful form
 pub ber_is_lawful_form : IsElementForm ber_form InAnyOrder
 ber_is_lawful_form = record {
@@ -83,4 +102,8 @@ ber_is_lawful_form = record {
   inside = inside_of;
   open_type = λ n bytes own p. p.0;
   mark = λ m own p. p;
+  joins = λ r rs bytes p. p;
+  holds = holder_of;
+  any = λ n own one. (refl, one);
+  unwritten = λ m. refl;
 }

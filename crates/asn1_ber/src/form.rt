@@ -1,13 +1,15 @@
 //! The form of elements in BER.
 ghost use Rattle.asn1_ber.specs.Bytes.{AreBitsInPieces, HasConstructed, HasPrimitive};
-ghost use Rattle.asn1_ber.specs.Form.{IsStringKind};
+ghost use Rattle.asn1_ber.specs.Form.{AreOnlyOf, IsStringKind};
 ghost use Rattle.asn1_ber_items.specs.LooseContents.{AreLooseBits, IsTruthValue};
 ghost use Rattle.asn1_der_items.specs.Contents.{HasContents};
 ghost use Rattle.asn1_elements.specs.ElementForms.{octets_of};
 ghost use Rattle.asn1_items.specs.Kinds.{content_kind};
 ghost use Rattle.asn1_items.specs.declared.error.ItemError.TheVariants.{Memory};
+ghost use Rattle.asn1_items.specs.declared.kinds.ContentKind.TheVariants as kinds;
 ghost use Rattle.asn1_model.specs.Records.{Content, bits, boolean};
-ghost use Rattle.std.specs.Prelude.{◌≡◌, Bool, List, MatchResult, OnOk};
+ghost use Rattle.asn1_types.specs.declared.any_string.StringKind.TheVariants as strings;
+ghost use Rattle.std.specs.Prelude.{◌≡◌, Bool, IfOk, List, MatchResult, OnOk};
 
 use asn1_ber_items::{bits_of_pieces, octets_of_pieces, read_truth_value, strict_bits};
 use asn1_bounds::Codec;
@@ -63,8 +65,9 @@ fn strict_contents<'a>(
     kind: ContentKind,
     octets: &'a [u8],
 ) -> Result<Contents<'a>, ItemError>
-    ensures { (x : Content) → content_kind x ≡ kind → HasPrimitive x octets.now →
+    ensures found { (x : Content) → content_kind x ≡ kind → HasPrimitive x octets.now →
         MatchResult result (λ contents. HasContents x (octets_of contents)) (λ e. e ≡ Memory) }
+    ensures only { IfOk result (AreOnlyOf HasPrimitive kind octets.now) }
 {
     match kind {
         ContentKind::Boolean => truth_contents(octets),
@@ -75,8 +78,9 @@ fn strict_contents<'a>(
 
 /// The contents octets, as DER has them, of the truth value of these.
 fn truth_contents(octets: &[u8]) -> Result<Contents<'_>, ItemError>
-    ensures { (value : Bool) → IsTruthValue value octets.now → MatchResult result
+    ensures found { (value : Bool) → IsTruthValue value octets.now → MatchResult result
         (λ contents. HasContents (boolean value) (octets_of contents)) (λ _. ⊥) }
+    ensures only { IfOk result (AreOnlyOf HasPrimitive kinds.Boolean octets.now) }
 {
     let value = read_truth_value(octets)?;
     Ok(Contents::AsParsed(truth_octets(value)))
@@ -84,8 +88,9 @@ fn truth_contents(octets: &[u8]) -> Result<Contents<'_>, ItemError>
 
 /// The contents octets, as DER has them, of the bits of these.
 fn bit_contents(alloc: Global, octets: &[u8]) -> Result<Contents<'_>, ItemError>
-    ensures { (list : List Bool) → AreLooseBits list octets.now → MatchResult result
+    ensures found { (list : List Bool) → AreLooseBits list octets.now → MatchResult result
         (λ contents. HasContents (bits list) (octets_of contents)) (λ e. e ≡ Memory) }
+    ensures only { IfOk result (AreOnlyOf HasPrimitive (kinds.String strings.Bits) octets.now) }
 {
     let strict = strict_bits(alloc, octets)?;
     Ok(Contents::Made(strict))
@@ -110,6 +115,7 @@ fn whole_string<'a>(
     ensures found { (x : Content) → content_kind x ≡ kind → HasConstructed x pieces.now →
         MatchResult result (λ contents. HasContents x (octets_of contents)) (λ e. e ≡ Memory) }
     ensures only { OnOk result (IsStringKind kind) }
+    ensures carried { IfOk result (AreOnlyOf HasConstructed kind pieces.now) }
 {
     match kind {
         ContentKind::String(StringKind::Bits) => whole_bits(alloc, pieces),
@@ -123,8 +129,9 @@ fn whole_string<'a>(
 
 /// The contents octets, as DER has them, of the bits that are constructed of these pieces.
 fn whole_bits<'a>(alloc: Global, pieces: &[u8]) -> Result<Contents<'a>, ItemError>
-    ensures { (list : List Bool) → AreBitsInPieces list pieces.now → MatchResult result
+    ensures found { (list : List Bool) → AreBitsInPieces list pieces.now → MatchResult result
         (λ contents. HasContents (bits list) (octets_of contents)) (λ e. e ≡ Memory) }
+    ensures only { IfOk result (AreOnlyOf HasConstructed (kinds.String strings.Bits) pieces.now) }
 {
     let whole = bits_of_pieces(alloc, pieces)?;
     let strict = strict_bits(alloc, whole.as_slice())?;

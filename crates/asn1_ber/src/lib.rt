@@ -25,10 +25,11 @@
 //! - A component of the root of a SEQUENCE that is there though it is its DEFAULT is read as its value, where it is read by index
 //!   ([`laws::a_default_that_is_written_is_read`]).
 //!
-//! No contract covers octets that are not BER of the type, nor a whole value of which a component is there though it is its DEFAULT;
-//! it is read. An open type is read in normal form, and strings inside it stay in pieces.
+//! An answer is read of records whose BER the octets are, whatever octets come (`only` of `read_value`). No contract demands that a whole
+//! value is read of which a component is there though it is its DEFAULT; it is read. An open type is read in normal form, and strings
+//! inside it stay in pieces.
 //!
-//! Tests show that each of these is an error: an indefinite length of a primitive element, missing end-of-contents octets, a piece of
+//! So each of these is an error: an indefinite length of a primitive element, missing end-of-contents octets, a piece of
 //! another tag, unused bits before the last piece, a constructed content that is no string, and elements of tag numbers of 2^32 or
 //! more.
 #![tactic(auto)]

@@ -1,7 +1,8 @@
 //! Reading a value from all of its octets.
 ghost use Rattle.asn1_ber.specs.Format.{Carries, CarriesNormal};
 ghost use Rattle.asn1_der_items.specs.Series.{is_one_element};
-ghost use Rattle.asn1_rules.specs.Rules.{ReadsCarried, RefusesCarried, RefusesTrailingRecords};
+ghost use Rattle.asn1_rules.specs.Rules.{IsReadOf, ReadsCarried, RefusesCarried, RefusesTrailingRecords};
+ghost use Rattle.std.specs.Prelude.{IfOk};
 
 use crate::BerDecoder;
 use crate::errors::decode_error_of;
@@ -22,6 +23,7 @@ pub(crate) fn read_octets<T: Decode>(
         T.refusals depth result }
     ensures none_left { RefusesTrailingRecords (λ own. is_one_element own) (Carries octets.now)
         T.meaning result }
+    ensures only { IfOk result (IsReadOf (Carries octets.now) T.meaning) }
 {
     match normal_form(alloc, octets) {
         Ok(normal) => read_normal(alloc, normal.as_slice(), depth),
@@ -41,6 +43,7 @@ pub(crate) fn read_normal<T: Decode>(
         T.meaning T.refusals depth result }
     ensures none_left { RefusesTrailingRecords (λ own. is_one_element own)
         (CarriesNormal normal.now) T.meaning result }
+    ensures only { IfOk result (IsReadOf (CarriesNormal normal.now) T.meaning) }
 {
     read_whole(BerDecoder::new(alloc, normal, depth))
 }

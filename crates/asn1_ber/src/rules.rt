@@ -18,14 +18,14 @@ use std::alloc::Global;
 /// written.
 ///
 /// A component that is present though it is its DEFAULT is read too; a clause says so of the call that reads a component of the root
-/// by index ([`crate::laws::a_default_that_is_written_is_read`]), and none of a whole value.
+/// by index ([`crate::laws::a_default_that_is_written_is_read`]). Of a whole value `only` allows it, and no clause demands it.
 ///
 /// They reject the records that have no DER, those with tag universal 0, which end-of-contents octets have (8.1.5), and those with an
 /// open type that is not in normal form: one element, with definite lengths of the fewest octets at each depth. So `write_value`
 /// fails if memory runs out, where the value's records are nested deeper than the depth, or where they are rejected, by
 /// [`EncodeError::Custom`] with a text that says why; and for no other reason.
 ///
-/// Of octets that are not BER of a value of the type, `read_value` answers an error or a value. [`DecodeError::Incomplete`] comes
+/// An answer of `read_value` is read of records whose BER the octets are, whatever octets come (`only`). [`DecodeError::Incomplete`] comes
 /// where octets of the first element are missing, with how many of the part that is read; and [`DecodeError::Custom`], with the text
 /// `bad item`, where the octets are not what is asked for or some are left. An error of the type's own is answered as it is. No memory
 /// is taken by a length that the octets tell, but by those that are there.
@@ -47,7 +47,7 @@ impl Rules for BerRules {
     ghost use Rattle.asn1_ber.specs.Format.{ber_format, ber_is_lawful};
     ghost use Rattle.asn1_der.specs.Format.{Carries as CarriesDer};
     ghost use Rattle.asn1_model.specs.Meaning.{own_records};
-    ghost use Rattle.asn1_rules.specs.Rules.{ReadsCarried, RefusesCarried, RefusesTrailingRecords, WritesWhole};
+    ghost use Rattle.asn1_rules.specs.Rules.{IsReadOf, ReadsCarried, RefusesCarried, RefusesTrailingRecords, WritesWhole};
 
     type Output = Vec<u8>;
 
@@ -70,6 +70,7 @@ impl Rules for BerRules {
             T.meaning T.refusals depth result }
         ensures none_left { RefusesTrailingRecords ber_format.accepts
             (ber_format.carries output.now) T.meaning result }
+        ensures only { IfOk result (IsReadOf (ber_format.carries output.now) T.meaning) }
     {
         read_octets(self.alloc, output.as_slice(), depth)
     }

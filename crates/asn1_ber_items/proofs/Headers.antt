@@ -11,6 +11,8 @@ use Rattle.asn1_tags.specs.declared.tags.Tag.{Tag}
 use Rattle.asn1_values.proofs.Digits.{digits_of-magnitude}
 use Rattle.asn1_values.specs.Numbers.{magnitude}
 use Rattle.asn1_der_items.proofs.Found.{identifier-found}
+use Rattle.asn1_items.proofs.Fronts.{IsReadOf, Leaves, after_byte, one_and_then}
+use Rattle.asn1_der_items.proofs.ElementFronts.{identifier_leaves, identifier_read}
 use Rattle.asn1_der_items.proofs.TrailingBytes.{identifier_at-append, identifier_at-shorter}
 use Rattle.asn1_der_items.specs.Elements.{IsElement}
 use Rattle.asn1_der_items.specs.Identifiers.{Identified, IsIdentifier, identifier_at}
@@ -134,6 +136,75 @@ header_at-append bytes behind h is = by (identifier_at bytes) refl is
     by : (o : Option Identified) → identifier_at bytes ≡ o → option_and_then of_identifier o ≡ Some h → header_at (bytes ++ behind) ≡ Some (header_before h behind)
     by None found is = cc
     by (Some i) found is = ap (option_and_then of_identifier) (identifier_at-append bytes behind i found) ∙ by_size i (size_at i.rest) refl is
+
+-- The header is read of a front of the bytes, whatever follows this.
+abbrev measured_leaving : Measured → List ℕ → Measured
+measured_leaving m back = record { size = m.size; rest = back }
+
+abbrev pub header_leaving : Header → List ℕ → Header
+header_leaving h back = record { tag = h.tag; constructed = h.constructed; size = h.size; rest = back }
+
+abbrev measured_leaves : Leaves Measured
+measured_leaves = record { left = λ m. m.rest; leaving = λ m back. measured_leaving m back }
+
+abbrev pub header_leaves : Leaves Header
+header_leaves = record { left = λ h. h.rest; leaving = λ h back. header_leaving h back }
+
+long_size_read : (count : ℕ) (bytes : List ℕ) (m : Measured) → long_size_at count bytes ≡ Some m → IsReadOf measured_leaves (long_size_at count) bytes m
+long_size_read count bytes m is = by (nat_le count (length bytes)) (nat_lt (magnitude (take count bytes)) (2 ^ 64)) refl refl is
+  where
+    by : (a b : Bool) → nat_le count (length bytes) ≡ a → nat_lt (magnitude (take count bytes)) (2 ^ 64) ≡ b →
+        (if a && b then Some (record { size = Some (magnitude (take count bytes)); rest = drop count bytes }) else None) ≡ Some m → IsReadOf measured_leaves (long_size_at count) bytes m
+    by false b few fits is = cc
+    by true false few fits is = cc
+    by true true few fits is =
+        let front = take count bytes in
+        let long : length front ≡ count = length-take-le count bytes (leb-true count (length bytes) few) in
+        record {
+          front = front;
+          are = sym (take-append-drop count bytes) ∙ ap (λ (n : Measured). front ++ n.rest) (some_is is);
+          whatever = λ back.
+              ap (λ a. long_size a (take count (front ++ back)) (drop count (front ++ back))) (le-leb count (length (front ++ back)) (omega (arith, long, length-append front back)))
+              ∙ ap (λ l. long_size true l (drop count (front ++ back))) (ap (λ k. take k (front ++ back)) (sym long) ∙ take-append_seam front back)
+              ∙ ap (λ l. long_size true front l) (ap (λ k. drop k (front ++ back)) (sym long) ∙ drop-append_seam front back)
+              ∙ ap (λ b. if true && b then Some (record { size = Some (magnitude front); rest = back }) else None) fits
+              ∙ ap (λ (n : Measured). Some (measured_leaving n back)) (some_is is);
+        }
+
+later_size_read : (count : ℕ) (bytes : List ℕ) (m : Measured) → later_size_at count bytes ≡ Some m → IsReadOf measured_leaves (later_size_at count) bytes m
+later_size_read count bytes m is = by (nat_eq count 0) (nat_eq count 127) is
+  where
+    by : (a b : Bool) → (if a then Some (record { size = None; rest = bytes }) else (if b then None else long_size_at count bytes)) ≡ Some m →
+        IsReadOf measured_leaves (λ l. if a then Some (record { size = None; rest = l }) else (if b then None else long_size_at count l)) bytes m
+    by true b is = record { front = []; are = ap (λ (n : Measured). n.rest) (some_is is); whatever = λ back. ap (λ (n : Measured). Some (measured_leaving n back)) (some_is is) }
+    by false true is = cc
+    by false false is = long_size_read count bytes m is
+
+size_read : (bytes : List ℕ) (m : Measured) → size_at bytes ≡ Some m → IsReadOf measured_leaves size_at bytes m
+size_read [] m is = cc
+size_read (o ∷ rest) m is = after_byte measured_leaves size_at o rest m (by (nat_lt o 128) is)
+  where
+    by : (b : Bool) → (if b then Some (record { size = Some o; rest = rest }) else later_size_at (o - 128) rest) ≡ Some m →
+        IsReadOf measured_leaves (λ l. if b then Some (record { size = Some o; rest = l }) else later_size_at (o - 128) l) rest m
+    by true is = record { front = []; are = ap (λ (n : Measured). n.rest) (some_is is); whatever = λ back. ap (λ (n : Measured). Some (measured_leaving n back)) (some_is is) }
+    by false is = later_size_read (o - 128) rest m is
+
+pub header_read : (bytes : List ℕ) (h : Header) → header_at bytes ≡ Some h → IsReadOf header_leaves header_at bytes h
+header_read bytes h is = by (identifier_at bytes) refl is
+  where
+    by_size : (i : Identified) (o : Option Measured) → size_at i.rest ≡ o → option_map (with_size i) o ≡ Some h → IsReadOf header_leaves (λ l. option_map (with_size i) (size_at l)) i.rest h
+    by_size i None found is = cc
+    by_size i (Some m) found is =
+        let r = size_read i.rest m found in
+        record {
+          front = r.front;
+          are = r.are ∙ ap (λ (g : Header). r.front ++ g.rest) (some_is is);
+          whatever = λ back. ap (option_map (with_size i)) (r.whatever back) ∙ ap (λ (g : Header). Some (header_leaving g back)) (some_is is);
+        }
+
+    by : (o : Option Identified) → identifier_at bytes ≡ o → option_and_then of_identifier o ≡ Some h → IsReadOf header_leaves header_at bytes h
+    by None found is = cc
+    by (Some i) found is = one_and_then identifier_leaves header_leaves identifier_at of_identifier bytes i h (identifier_read bytes i found) (by_size i (size_at i.rest) refl is)
 
 -- a header is found by its identifier octets and a length
 pub header-found : (t : Tag) (constructed : Bool) (identifier others : List ℕ) (m : Measured) → IsIdentifier t constructed identifier → size_at others ≡ Some m →

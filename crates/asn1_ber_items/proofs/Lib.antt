@@ -7,6 +7,7 @@ mod FlatOctets
 pub mod Headers
 mod LooseOctets
 pub mod NormalForms
+mod NormalPieces
 mod Joined
 mod Snoc
 mod Splits

@@ -10,7 +10,7 @@ use Rattle.asn1_ber_items.specs.Ends.{BeginWithOne}
 use Rattle.asn1_ber_items.specs.Headers.{Header, end_of_contents}
 use Rattle.asn1_ber_items.specs.Spellings.{BeginWith, IsDefinite, Spells, SpellsOne, definite, indefinite, nothing, primitive}
 use Rattle.asn1_ber_items.specs.Walks.{IsEnd, end_octets, nothing_left}
-use Rattle.asn1_ber_items.proofs.Headers.{element_header, header_at-append, header_before}
+use Rattle.asn1_ber_items.proofs.Headers.{element_header, header_at-append, header_before, header_leaving, header_read}
 use Rattle.asn1_ber_items.proofs.Splits.{Begins, definite_splits, indefinite_splits, none_begins, none_or_more, none_there, primitive_splits}
 
 -- trailing bytes
@@ -34,6 +34,46 @@ spells-append _ _ _ more (indefinite bytes inside own back others rest h begin n
 
 pub one-append : (bytes normal rest more : List ℕ) → SpellsOne bytes normal rest → SpellsOne (bytes ++ more) normal (rest ++ more)
 one-append bytes normal rest more s = record { spells = spells-append bytes normal rest more s.spells; one = s.one }
+
+-- Elements that are cut off the bytes after them.
+pub record AreCutOff (bytes normal rest : List ℕ) : Type 0 where
+  pub front : List ℕ
+  pub are : bytes ≡ front ++ rest
+  pub spells : Spells front normal []
+
+pub spells-cut : (bytes normal rest : List ℕ) → Spells bytes normal rest → AreCutOff bytes normal rest
+spells-cut _ _ _ (nothing bytes) = record { front = []; are = refl; spells = nothing [] }
+spells-cut _ _ _ (primitive bytes contents own back others rest h begin is element spells) =
+    let c = spells-cut back others rest spells in
+    let r = header_read bytes h begin.at in
+    let after = contents ++ c.front in
+    record {
+      front = r.front ++ after;
+      are = r.are ∙ ap (λ l. r.front ++ l) (is.are ∙ ap (λ l. contents ++ l) c.are ∙ sym (append_assoc contents c.front rest)) ∙ sym (append_assoc r.front after rest);
+      spells = primitive (r.front ++ after) contents own c.front others [] (header_leaving h after) (record { at = r.whatever after; is_element = begin.is_element; form = begin.form })
+          (record { size = is.size; are = refl }) element c.spells;
+    }
+spells-cut _ _ _ (definite bytes contents inside own back others rest h begin is inner element spells) =
+    let c = spells-cut back others rest spells in
+    let r = header_read bytes h begin.at in
+    let after = contents ++ c.front in
+    record {
+      front = r.front ++ after;
+      are = r.are ∙ ap (λ l. r.front ++ l) (is.are ∙ ap (λ l. contents ++ l) c.are ∙ sym (append_assoc contents c.front rest)) ∙ sym (append_assoc r.front after rest);
+      spells = definite (r.front ++ after) contents inside own c.front others [] (header_leaving h after) (record { at = r.whatever after; is_element = begin.is_element; form = begin.form })
+          (record { size = is.size; are = refl }) inner element c.spells;
+    }
+spells-cut _ _ _ (indefinite bytes inside own back others rest h begin none inner element spells) =
+    let c = spells-cut back others rest spells in
+    let i = spells-cut h.rest inside (0 ∷ 0 ∷ back) inner in
+    let r = header_read bytes h begin.at in
+    let after = i.front ++ (0 ∷ 0 ∷ c.front) in
+    record {
+      front = r.front ++ after;
+      are = r.are ∙ ap (λ l. r.front ++ l) (i.are ∙ ap (λ l. i.front ++ (0 ∷ 0 ∷ l)) c.are ∙ sym (append_assoc i.front (0 ∷ 0 ∷ c.front) rest)) ∙ sym (append_assoc r.front after rest);
+      spells = indefinite (r.front ++ after) inside own c.front others [] (header_leaving h after) (record { at = r.whatever after; is_element = begin.is_element; form = begin.form }) none
+          (spells-append i.front inside [] (0 ∷ 0 ∷ c.front) i.spells) element c.spells;
+    }
 
 -- elements after others
 pub spells-follow : (first own back others rest : List ℕ) → Spells first own back → Spells back others rest → Spells first (own ++ others) rest

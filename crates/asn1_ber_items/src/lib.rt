@@ -31,8 +31,8 @@
 //! - TRUE is any octet but zero (`IsTruthValue`), and unused bits may be any (`AreLooseBits`).
 //!
 //! Elements may be nested to any depth: the walk (`specs/Walks.antt`) keeps the open elements in a list, of 32 octets each, and does not
-//! call itself. The search for an end counts them, and pieces are read with no list. The walk writes in segments
-//! (`specs/Segments.antt`), so a length that grows moves few octets. No length in the bytes reserves memory. A normal form leaves
+//! call itself. The search for an end counts them, and pieces are compared with their normal form, and then read with no list. The
+//! walk writes in segments (`specs/Segments.antt`), so a length that grows moves few octets. No length in the bytes reserves memory. A normal form leaves
 //! contents octets as they are.
 #![tactic(auto)]
 

@@ -3,7 +3,7 @@ ghost use Rattle.asn1_ber_items.specs.Ends.{EndsInside};
 ghost use Rattle.asn1_ber_items.specs.Spellings.{Spells, SpellsOne};
 ghost use Rattle.asn1_der_items.specs.Cuts.{IsMissing};
 ghost use Rattle.asn1_items.specs.declared.error.ItemError.TheVariants.{Memory};
-ghost use Rattle.std.specs.Prelude.{◌≡◌, ◌≢◌, [], IfErr, IfOk, List, MatchResult, ℕ};
+ghost use Rattle.std.specs.Prelude.{◌≡◌, ◌≢◌, [], IfErr, IfOk, List, MatchResult, OnOk, ℕ};
 
 use crate::front_end::find_end;
 use crate::progress::Progress;
@@ -35,6 +35,23 @@ pub fn normal_form(alloc: Global, bytes: &[u8]) -> Result<Vec<u8>, ItemError>
     }
     let normal = walk.finish()?;
     Ok(normal)
+}
+
+/// Checks that the bytes are elements in their normal form, of definite lengths of the fewest octets (X.690, 8.1.3 and 10.1).
+///
+/// # Errors
+/// [`ItemError::Memory`]; else the bytes are no such elements: an error of [`normal_form`], and [`ItemError::Malformed`] where they
+/// have another normal form.
+pub(crate) fn check_normal(alloc: Global, bytes: &[u8]) -> Result<(), ItemError>
+    ensures found { Spells bytes.now bytes.now [] → IfErr result (λ e. e ≡ Memory) }
+    ensures only { OnOk result (Spells bytes.now bytes.now []) }
+{
+    let normal = normal_form(alloc, bytes)?;
+    if normal.as_slice() == bytes {
+        Ok(())
+    } else {
+        Err(ItemError::Malformed)
+    }
 }
 
 /// The normal form of an element, and the bytes after the element.

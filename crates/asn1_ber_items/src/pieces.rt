@@ -1,17 +1,18 @@
 //! Strings that are constructed of pieces.
 ghost use Rattle.asn1_ber_items.specs.Headers.{header_of};
 ghost use Rattle.asn1_ber_items.specs.Pieces.{AreBitPieces, AreOctetPieces, ArePiecesOfBits, BIT_STRING, HaveUnused, OCTET_STRING};
-ghost use Rattle.asn1_ber_items.specs.Spellings.{IsDefinite, Spells};
+ghost use Rattle.asn1_ber_items.specs.Spellings.{IsDefinite};
 ghost use Rattle.asn1_items.specs.declared.error.ItemError.TheVariants.{Memory};
 ghost use Rattle.std.specs.Prelude.{◌≡◌, ◌<◌, ◌∷◌, ◌++◌, Decides, IfOk, IsOk, List, MatchResult, length, ℕ};
 
 use crate::header::{Header, read_header};
+use crate::normal::check_normal;
 use asn1_items::ItemError;
 use asn1_tags::Tag;
 use std::alloc::Global;
 
-/// The octets of a string that is constructed of pieces (X.690, 8.7.3 and 8.23), nested to any depth. They are given in their normal
-/// form, as by [`crate::front_element`].
+/// The octets of a string that is constructed of pieces (X.690, 8.7.3 and 8.23), nested to any depth, in their normal form, as
+/// [`crate::front_element`] gives it.
 ///
 /// # Errors
 /// [`ItemError::Memory`]; else the bytes are no such pieces: [`ItemError::Missing`] where they end too early, and otherwise
@@ -19,9 +20,9 @@ use std::alloc::Global;
 pub fn octets_of_pieces(alloc: Global, contents: &[u8]) -> Result<Vec<u8>, ItemError>
     ensures found { (octets : List ℕ) → AreOctetPieces contents.now octets →
         MatchResult result (λ own. own.items ≡ octets) (λ e. e ≡ Memory) }
-    ensures only { (bytes rest : List ℕ) → Spells bytes contents.now rest →
-        IfOk result (λ own. AreOctetPieces contents.now own.items) }
+    ensures only { IfOk result (λ own. AreOctetPieces contents.now own.items) }
 {
+    check_normal(alloc, contents)?;
     let mut octets = Vec::new(alloc);
     let mut left = contents;
     while !left.is_empty() {
@@ -41,7 +42,7 @@ pub fn octets_of_pieces(alloc: Global, contents: &[u8]) -> Result<Vec<u8>, ItemE
 }
 
 /// The contents octets of the primitive form of a bit string that is constructed of pieces (X.690, 8.6.4), nested to any depth: how many
-/// bits of the last octet are unused, and the octets. The pieces are given in their normal form, as by [`crate::front_element`].
+/// bits of the last octet are unused, and the octets. The pieces are in their normal form, as [`crate::front_element`] gives it.
 ///
 /// # Errors
 /// [`ItemError::Memory`]; else the bytes are no such pieces: [`ItemError::Missing`] where they end too early, and otherwise
@@ -49,9 +50,9 @@ pub fn octets_of_pieces(alloc: Global, contents: &[u8]) -> Result<Vec<u8>, ItemE
 pub fn bits_of_pieces(alloc: Global, contents: &[u8]) -> Result<Vec<u8>, ItemError>
     ensures found { (unused : ℕ) (octets : List ℕ) → AreBitPieces contents.now unused octets →
         MatchResult result (λ own. own.items ≡ unused ∷ octets) (λ e. e ≡ Memory) }
-    ensures only { (bytes rest : List ℕ) → Spells bytes contents.now rest →
-        IfOk result (λ own. ArePiecesOfBits contents.now own.items) }
+    ensures only { IfOk result (λ own. ArePiecesOfBits contents.now own.items) }
 {
+    check_normal(alloc, contents)?;
     let mut bits = Vec::new(alloc);
     bits.extend_from_slice(&[0])?;
     let mut left = contents;

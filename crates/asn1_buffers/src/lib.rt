@@ -25,7 +25,8 @@
 //! - The format of a codec that writes in a buffer (`buffer_format` of `specs/Format.antt`) keeps to its law, and
 //!   [`write_whole`] writes by it.
 //! - [`read_whole`] reads back equal a value whose own records remain (`read`), refuses the records that its type refuses
-//!   (`refuses`), and refuses trailing records (`none_left`; the words are in `specs/CompleteInput.antt`).
+//!   (`refuses`), and refuses trailing records (`none_left`; the words are in `specs/CompleteInput.antt`). Whatever remains, the answer
+//!   was read of all of it (`only`).
 #![tactic(auto)]
 
 mod buffer;

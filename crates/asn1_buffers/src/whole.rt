@@ -2,8 +2,9 @@
 ghost use Rattle.asn1_buffers.specs.Format.{buffer_format};
 ghost use Rattle.asn1_buffers.specs.CompleteInput.{ReadsOwnRecords, RefusesAsItsType, RefusesWhatFollows};
 ghost use Rattle.asn1_model.specs.Meaning.{own_records};
-ghost use Rattle.asn1_rules.specs.Rules.{WritesWhole};
-ghost use Rattle.std.specs.Prelude.{◌↔◌, Bool, List, ℕ, [], IsOk};
+ghost use Rattle.asn1_model.specs.Records.{Record};
+ghost use Rattle.asn1_rules.specs.Rules.{IsReadOf, WritesWhole};
+ghost use Rattle.std.specs.Prelude.{◌↔◌, Bool, List, ℕ, [], IfOk, IsOk};
 
 use crate::buffer::RecordBuffer;
 use crate::encoder::BufferEncoder;
@@ -39,7 +40,7 @@ pub trait WholeDecoder: Decoder + Drop + Sized {
         ensures { IsOk result ↔ Self.reader.remains self ([], []) };
 }
 
-/// Reads the value of which a decoder has the whole input, with no trailing bytes.
+/// Reads the value of which a decoder has the whole input, with no trailing bytes. The answer was read of all that remained (`only`).
 ///
 /// # Errors
 /// If the own records of a valid value of a well-tagged type remain, [`DecodeError::Depth`] only if they are nested deeper than the
@@ -49,6 +50,8 @@ pub fn read_whole<T: Decode, D: WholeDecoder>(mut decoder: D) -> Result<T, Decod
     ensures read { ReadsOwnRecords D.reader T.meaning T.eq decoder result }
     ensures refuses { RefusesAsItsType D.reader T.meaning T.refusals decoder result }
     ensures none_left { RefusesWhatFollows D.reader T.meaning decoder result }
+    ensures only { IfOk result (IsReadOf (λ (rs : List Record). D.reader.remains decoder (rs, []))
+        T.meaning) }
 {
     let value = T::decode(&mut decoder)?;
     decoder.end()?;

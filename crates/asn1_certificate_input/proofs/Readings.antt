@@ -1,4 +1,4 @@
--- What octets are read as, by the answer of the codec.
+-- The certificate that octets are read as, by the answer of the codec.
 use Rattle.std.proofs.Common.{◌≡◌, ◌≢◌, ℕ, Err, Ok, Vec, inl, inr, subst}
 use Rattle.std.specs.declared.alloc.Global.{Global}
 use Rattle.asn1_certificate_input.specs.Certificates.{AreOfNoCertificate, IsReadOf}
@@ -10,6 +10,7 @@ use Rattle.asn1_laws.specs.declared.decode_error.DecodeError.TheVariants.{Memory
 use Rattle.asn1_laws.specs.declared.encode_error.EncodeError.{EncodeError}
 use Rattle.asn1_model.specs.Meaning.{IsWellTagged}
 use Rattle.asn1_rules.specs.CanonicalReading.{DepartsAs, ReadIsNotWritten, ReadIsWrittenOtherwise}
+use Rattle.asn1_rules.specs.Rules as rules
 use Rattle.asn1_rules.specs.Rules.{ReadsCarried}
 use Rattle.asn1_rules.specs.declared.canonical.CanonicalError.{CanonicalError}
 use Rattle.asn1_rules.specs.declared.canonical.CanonicalError.TheVariants.{NotCanonical, Write}
@@ -19,8 +20,9 @@ use Rattle.asn1_x509.specs.declared.certificate.Certificate.{Certificate}
 
 module _ (input : Vec ℕ Global) (well : IsWellTagged certificates.meaning) where
   -- the octets were read as this certificate
-  pub read_of : (w : Certificate) → ReadsCarried der_format.accepts (der_format.carries input) certificates.meaning equality.eq 64 (Ok w) → IsReadOf input.items w
-  read_of w reads = λ v der. (reads v well der.of_type der.valid der.carries).0
+  pub read_of : (w : Certificate) → ReadsCarried der_format.accepts (der_format.carries input) certificates.meaning equality.eq 64 (Ok w) →
+      rules.IsReadOf (der_format.carries input) certificates.meaning w → IsReadOf input.items w
+  read_of w reads only = record { of_der = λ v der. (reads v well der.of_type der.valid der.carries).0; only = only }
 
   -- they were read as none, and there was memory
   pub none_of : (e : DecodeError) → e ≢ Memory → ReadsCarried der_format.accepts (der_format.carries input) certificates.meaning equality.eq 64 (Err e) →
@@ -36,7 +38,7 @@ module _ (input : Vec ℕ Global) (well : IsWellTagged certificates.meaning) whe
         record {
           certificate = other.value;
           written = other.bytes;
-          read = read_of other.value other.may_be_read.read;
+          read = read_of other.value other.may_be_read.read other.may_be_read.only;
           as_written = other.written;
           first = other.first;
         }
@@ -48,6 +50,6 @@ module _ (input : Vec ℕ Global) (well : IsWellTagged certificates.meaning) whe
         let not : ReadIsNotWritten der_format certificates.meaning equality.eq refusals 64 input error = subst (DepartsAs der_format certificates.meaning equality.eq refusals 64 input) is departs in
         record {
           certificate = not.value;
-          read = read_of not.value not.may_be_read.read;
+          read = read_of not.value not.may_be_read.read not.may_be_read.only;
           not_written = not.not_written;
         }

@@ -5,6 +5,7 @@ use Rattle.asn1_der_items.specs.Elements.{Element, element_at}
 use Rattle.asn1_der_items.specs.Series.{is_one_element}
 use Rattle.asn1_model.specs.Meaning.{own_records}
 use Rattle.asn1_model.specs.Records.{Record, highest}
+use Rattle.asn1_rules.specs.Rules as rules
 use Rattle.asn1_x509.specs.contracts.certificate.CertificateAsnType.TheImpl.{ghosts as certificates}
 use Rattle.asn1_x509.specs.contracts.certificate.CertificatePartialEq.TheImpl.{ghosts as equality}
 use Rattle.asn1_x509.specs.declared.certificate.Certificate.{Certificate}
@@ -19,9 +20,11 @@ pub record AreDerOf (octets : List ℕ) (certificate : Certificate) : Type 0 whe
   pub of_type : certificates.meaning.IsOfType certificate
   pub valid : certificates.meaning.IsValid (λ own. is_one_element own) certificate
 
--- of octets that are the DER of a valid certificate this is that certificate
-abbrev pub IsReadOf : List ℕ → Certificate → Type 0
-IsReadOf octets read = (certificate : Certificate) → AreDerOf octets certificate → equality.eq read certificate ≡ true
+-- The octets were read as this certificate. It is equal to the valid certificate whose DER they are, if there is one; and whatever they
+-- are, they carry records in DER that are read as it.
+pub record IsReadOf (octets : List ℕ) (read : Certificate) : Type 0 where
+  pub of_der : (certificate : Certificate) → AreDerOf octets certificate → equality.eq read certificate ≡ true
+  pub only : rules.IsReadOf (Carries octets) certificates.meaning read
 
 -- the octets are the DER of no valid certificate, unless of one that is nested deeper than the 64 scopes that are read
 abbrev pub AreOfNoCertificate : List ℕ → Type 0

@@ -20,7 +20,8 @@
 //!   (`AnswersInput` of `specs/Answers.antt`). An input has the certificates between the lines of a text, or is one itself
 //!   (`AreCertificatesOf` of `specs/Inputs.antt`).
 //! - A certificate is shown as its lines or its DER (`IsShown` of `specs/Shown.antt`): its octets are read as the valid certificate
-//!   whose DER they are, if there is one (`IsReadOf` of `specs/Certificates.antt`).
+//!   whose DER they are, if there is one; and whatever octets they are, they carry records in DER that are read as the certificate that
+//!   is shown (`IsReadOf` of `specs/Certificates.antt`).
 //! - If no departure is answered of a certificate that is shown, its octets are the very octets that writing the certificate makes, and
 //!   break no rule of DER at any depth (`keeps` of `IsShown`). A departure that is answered is one: the octets break this rule at this
 //!   position, or differ there from what is written, or hold elements there that lie inside more than 64 others (`departs`, by

@@ -12,7 +12,7 @@ use std::fmt;
 pub struct Message {
     /// The number of the certificate in its input, from 1, if the input has several.
     pub number: Option<usize>,
-    /// What the message is about.
+    /// The subject of the message.
     pub notice: Notice,
 }
 

@@ -2,10 +2,11 @@
 use Rattle.std.specs.Prelude.{◌≡◌, ℕ, Bool, false, true, Option, None, Some, List, [], ◌∷◌, All, nat_lt, take, if◌then◌else◌}
 use Rattle.std.specs.List.{slice_get}
 use Rattle.std.specs.Str.{is_utf8}
-use Rattle.asn1_certificate_reader.specs.Units.{are_bmp_characters, are_universal_characters}
+use Rattle.asn1_certificate_reader.specs.Units.{are_bmp_characters}
 use Rattle.asn1_certificate_reader.specs.declared.name_faults.NameFault.{NameFault}
 use Rattle.asn1_certificate_reader.specs.declared.name_faults.ValueFault.{ValueFault}
 use Rattle.asn1_certificate_reader.specs.declared.name_faults.ValueFault.TheVariants.{NoString, BadString}
+use Rattle.asn1_contents.specs.UniversalStrings.{is_universal_string}
 use Rattle.asn1_der_items.specs.Elements.{Element, element_at}
 use Rattle.asn1_model.specs.Tags.{universal}
 use Rattle.asn1_tags.specs.Tags.{has, tag_eq}
@@ -34,7 +35,7 @@ abbrev pub has_contents_of_tag : Element → Bool
 has_contents_of_tag e =
     if tag_eq e.tag (universal 3) then counts_unused_bits e.contents
     else (if tag_eq e.tag (universal 12) then is_utf8 e.contents
-    else (if tag_eq e.tag (universal 28) then are_universal_characters e.contents
+    else (if tag_eq e.tag (universal 28) then is_universal_string e.contents
     else (if tag_eq e.tag (universal 30) then are_bmp_characters e.contents else true)))
 
 -- why an element is no value of a name, if it is none

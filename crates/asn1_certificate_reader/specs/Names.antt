@@ -8,8 +8,7 @@ use Rattle.std.specs.declared.alloc.Global.{Global}
 use Rattle.asn1_certificate_reader.specs.Characters.{directory_characters, visible_characters}
 use Rattle.asn1_certificate_reader.specs.Inside.{AreReadAs}
 use Rattle.asn1_certificate_reader.specs.Objects.{IsObjectOf}
-use Rattle.asn1_certificate_reader.specs.Strings.{ia5_string, numeric_string, printable_octets, same_octets, universal_octets}
-use Rattle.asn1_certificate_reader.specs.Units.{universal_characters}
+use Rattle.asn1_certificate_reader.specs.Strings.{ia5_string, numeric_string, printable_octets, same_octets}
 use Rattle.asn1_certificate_text.specs.declared.name.Attribute.{Attribute}
 use Rattle.asn1_certificate_text.specs.declared.name.AttributeValue.{AttributeValue}
 use Rattle.asn1_certificate_text.specs.declared.name.AttributeValue.TheVariants.{Text, Octets}
@@ -60,15 +59,10 @@ module _ (F : Format (Vec ℕ Global)) where
   abbrev pub IsDirectoryOrElse : List ℕ → AttributeValue → Type 0
   IsDirectoryOrElse octets = IsShownBy directory_strings.meaning directory_equality.eq (λ text. Some (directory_characters text)) (IsAsciiOrElse octets) octets
 
-  -- the characters of a PrintableString whose octets are printable characters of ASCII, inside its alphabet (X.680, 41.4) and outside
-  -- it, and else those
-  abbrev pub IsPrintableOrElse : List ℕ → AttributeValue → Type 0
-  IsPrintableOrElse octets = IsShownBy printable_octets same_octets (λ string. visible_characters string.value) (IsDirectoryOrElse octets) octets
-
-  -- The report of these octets, the value of an attribute: the characters of a UniversalString of four octets each, and else those
-  -- of a PrintableString, and else those of another string, and else the octets.
+  -- The report of these octets, the value of an attribute: the characters of a PrintableString whose octets are printable characters
+  -- of ASCII, inside its alphabet (X.680, 41.4) and outside it, and else those of another string, and else the octets.
   abbrev pub IsValueOf : List ℕ → AttributeValue → Type 0
-  IsValueOf octets = IsShownBy universal_octets same_octets (λ string. universal_characters string.value) (IsPrintableOrElse octets) octets
+  IsValueOf octets = IsShownBy printable_octets same_octets (λ string. visible_characters string.value) (IsDirectoryOrElse octets) octets
 
   -- An attribute of this kind, with its value (RFC 4514, 2.3). A kind without a name here is written by its arcs, and its value then by
   -- its octets (2.4).

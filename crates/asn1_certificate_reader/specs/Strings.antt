@@ -26,10 +26,6 @@ ia5_string = string_type (universal 22) (codes "IA5String") (λ unit. IsTrue (is
 abbrev pub numeric_string : Meaning (List ℕ)
 numeric_string = string_type (universal 18) (codes "NumericString") (λ unit. IsTrue (is_numeric unit)) (units numeric)
 
--- the octets under the tag of a UniversalString, whatever they are
-abbrev pub universal_octets : Meaning (Implicit (Marker 28) (List ℕ))
-universal_octets = implicit_type (universal 28) (λ string. string.value) octet_string
-
 -- the octets under the tag of a PrintableString, whatever they are
 abbrev pub printable_octets : Meaning (Implicit (Marker 19) (List ℕ))
 printable_octets = implicit_type (universal 19) (λ string. string.value) octet_string

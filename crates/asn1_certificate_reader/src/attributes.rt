@@ -3,7 +3,7 @@ ghost use Rattle.std.specs.List.{AllZip};
 ghost use Rattle.std.specs.Prelude.{IfOk, MatchOption, reverse};
 ghost use Rattle.asn1_certificate_reader.specs.Names.{IsAttributeOf, IsNameOf, IsOctetsOf, IsPartOf, IsValueOf};
 
-use crate::name_strings::{PrintableOctets, UniversalOctets, characters_of};
+use crate::name_strings::{PrintableOctets, characters_of};
 use crate::objects::object_of;
 use asn1_certificate_text::{Attribute, AttributeValue, NamePart, ShownName};
 use asn1_rules::Rules;
@@ -111,7 +111,7 @@ fn value_under<R: Rules<Output = Vec<u8>>>(
     }
 }
 
-/// A value: its characters if it is a string of one of five types, and else its octets.
+/// A value: its characters if it is a string of one of four types, and else its octets.
 fn value_of<R: Rules<Output = Vec<u8>>>(
     rules: &R,
     alloc: Global,
@@ -119,9 +119,6 @@ fn value_of<R: Rules<Output = Vec<u8>>>(
 ) -> Result<AttributeValue, AllocError>
     ensures { IfOk result (IsValueOf R.format octets.now) }
 {
-    if let Some(characters) = characters_of::<R, UniversalOctets>(rules, alloc, octets)? {
-        return Ok(AttributeValue::Text(characters));
-    }
     if let Some(characters) = characters_of::<R, PrintableOctets>(rules, alloc, octets)? {
         return Ok(AttributeValue::Text(characters));
     }

@@ -4,10 +4,9 @@ ghost use Rattle.std.specs.List.{list_all};
 ghost use Rattle.std.specs.Option.{option_map};
 ghost use Rattle.std.specs.Prelude.{◌≡◌, IfOk, map};
 ghost use Rattle.std.specs.Str.{chars};
-ghost use Rattle.asn1_certificate_reader.specs.Characters.{directory_characters, teletex_character, universal_text_characters, visible_characters};
+ghost use Rattle.asn1_certificate_reader.specs.Characters.{directory_characters, teletex_character, visible_characters};
 ghost use Rattle.asn1_values.specs.Alphabets.{is_visible};
 
-use crate::units::universal_characters;
 use asn1_values::kind::Visible;
 use asn1_values::{Alphabet, Ia5String};
 use asn1_x509::DirectoryString;
@@ -23,9 +22,7 @@ pub(crate) fn directory_characters(
     match directory {
         DirectoryString::TeletexString(teletex) => teletex_characters(alloc, teletex.as_slice()),
         DirectoryString::PrintableString(printable) => text_characters(alloc, printable.as_str()),
-        DirectoryString::UniversalString(universal) => {
-            universal_text_characters(alloc, universal.value.as_str())
-        }
+        DirectoryString::UniversalString(universal) => universal.characters(alloc),
         DirectoryString::Utf8String(utf8) => text_characters(alloc, utf8.as_str()),
         DirectoryString::BmpString(bmp) => utf16_characters(alloc, bmp.as_slice()),
     }
@@ -69,17 +66,6 @@ pub(crate) fn text_characters(alloc: Global, text: &str) -> Result<Vec<char>, Al
     ensures { IfOk result (λ characters. characters.items ≡ chars text.now) }
 {
     text.chars().collect(alloc)
-}
-
-/// The characters of a UniversalString, four octets each, or else those of its octets as UTF-8.
-fn universal_text_characters(alloc: Global, text: &str) -> Result<Vec<char>, AllocError>
-    ensures { IfOk result (λ characters.
-        characters.items ≡ universal_text_characters text.now) }
-{
-    match universal_characters(alloc, text.as_bytes())? {
-        Some(characters) => Ok(characters),
-        None => text_characters(alloc, text),
-    }
 }
 
 /// The units of a TeletexString as characters of Latin-1, as most who write one mean them.

@@ -18,9 +18,9 @@
 //!   (`IsObjectOf`).
 //! - A key has the size of its modulus, if that is not negative, and its exponent, or its curve, or the one size of its algorithm,
 //!   or the number of its bits (`IsKeyOf`).
-//! - A name is shown by its parts, from the last to the first (`IsNameOf`). A value is read as a UniversalString of four octets
-//!   for each character, a PrintableString of printable characters of ASCII, inside its alphabet and outside it, a DirectoryString, an
-//!   IA5String or a NumericString, in this order (`IsValueOf`), else shown as octets, and so is the value of a kind without a name.
+//! - A name is shown by its parts, from the last to the first (`IsNameOf`). A value is read as a PrintableString of printable
+//!   characters of ASCII, inside its alphabet and outside it, a DirectoryString, an IA5String or a NumericString, in this order
+//!   (`IsValueOf`), else shown as octets, and so is the value of a kind without a name.
 //! - The value of an extension is read by the type that RFC 5280 has for its kind, for six types (`IsValueOfKind`), else shown
 //!   as octets.
 //! - Octets of a valid value of a type are read as a value that is equal to it (`AreReadAs`).

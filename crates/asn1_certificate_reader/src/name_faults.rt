@@ -6,7 +6,8 @@ ghost use Rattle.asn1_certificate_reader.specs.NameFaults.{AnswersName, AnswersP
 ghost use Rattle.asn1_der_items.specs.Elements.{element_of};
 
 use crate::alphabets::alphabet_fault;
-use crate::units::{are_bmp_characters, are_universal_characters};
+use crate::units::are_bmp_characters;
+use asn1_contents::{ContentsKind, UniversalCharacters};
 use asn1_der_items::{Element, find_element};
 use asn1_tags::Tag;
 use asn1_x509::{AttributeTypeAndValue, Name, RelativeDistinguishedName};
@@ -163,7 +164,7 @@ fn has_contents_of_tag(element: Element<'_>) -> bool
         return is_utf8(element.contents);
     }
     if element.tag == Tag::UNIVERSAL_STRING {
-        return are_universal_characters(element.contents);
+        return UniversalCharacters::allows(element.contents);
     }
     element.tag != Tag::BMP_STRING || are_bmp_characters(element.contents)
 }

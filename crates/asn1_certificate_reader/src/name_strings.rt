@@ -4,24 +4,18 @@ ghost use Rattle.std.specs.Prelude.{◌≡◌, IfOk, Some};
 ghost use Rattle.std.specs.Str.{chars};
 ghost use Rattle.asn1_certificate_reader.specs.Characters.{directory_characters, visible_characters};
 ghost use Rattle.asn1_certificate_reader.specs.Names.{AreCharactersRead};
-ghost use Rattle.asn1_certificate_reader.specs.Units.{universal_characters};
 
 use crate::characters::{
     ascii_characters, directory_characters, text_characters, visible_characters,
 };
 use crate::inside::read_inside;
-use crate::units::universal_characters;
 use asn1_dec::Decode;
-use asn1_model::tag::{PRINTABLE_STRING, UNIVERSAL_STRING};
+use asn1_model::tag::PRINTABLE_STRING;
 use asn1_rules::Rules;
 use asn1_types::Implicit;
 use asn1_values::{Ia5String, NumericString, OctetString};
 use asn1_x509::{DirectoryString, directory_string_is_well_tagged};
 use std::alloc::{AllocError, Global};
-
-/// The octets under the tag of a UniversalString, four for each character in DER. The UniversalString of `asn1_schema` is a text in UTF-8
-/// under that tag.
-pub(crate) type UniversalOctets = Implicit<UNIVERSAL_STRING, OctetString>;
 
 /// The octets under the tag of a PrintableString, whose alphabet certificates in use break.
 pub(crate) type PrintableOctets = Implicit<PRINTABLE_STRING, OctetString>;
@@ -57,16 +51,6 @@ pub(crate) fn characters_of<R: Rules<Output = Vec<u8>>, T: NameString>(
         Some(string) => string.characters(alloc),
         None => Ok(None),
     }
-}
-
-impl NameString for UniversalOctets {
-    ghost text = { λ string. universal_characters string.value };
-
-    fn characters(&self, alloc: Global) -> Result<Option<Vec<char>>, AllocError> {
-        universal_characters(alloc, self.value.as_slice())
-    }
-
-    fn is_well_tagged() {}
 }
 
 impl NameString for PrintableOctets {

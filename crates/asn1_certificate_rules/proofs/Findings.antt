@@ -1,4 +1,4 @@
--- What is found inside an element and behind it is found in the bytes that begin with it.
+-- A finding inside an element or behind it is one in the bytes that begin with it.
 use Rattle.std.proofs.Common.{◌≡◌, ℕ, zero, suc, ◌+◌, ◌-◌, ◌≤◌, List, None, Option, Some, arith, length, subst, true}
 use Rattle.std.specs.Prelude.{MatchOption}
 use Rattle.asn1_certificate_rules.proofs.BrokenRulePositions.{departs-within}

@@ -1,4 +1,4 @@
--- What is behind an identifier.
+-- The bytes behind an identifier.
 use Rattle.std.proofs.Common.{◌≡◌, ℕ, ◌≤◌, ◌%◌, Bool, true, false, List, [], ◌∷◌, Some, arith, length, ap}
 use Rattle.std.specs.Prelude.{nat_lt, if◌then◌else◌}
 use Rattle.asn1_certificate_rules.specs.Headers.{behind_identifier, behind_septets}

@@ -32,6 +32,6 @@ pub record IsInside (part : Part) (e : Element) (rule : Rule) (position : ℕ) :
 abbrev pub KeepsRules : RuleSet → Part → List ℕ → Type 0
 KeepsRules rules part bytes = (rule : Rule) (position : ℕ) → IsOf rules rule → Departs part bytes rule position → ⊥
 
--- What is inside an element at this place breaks none of them.
+-- The contents of an element at this place break none of them.
 abbrev pub InsideKeepsRules : RuleSet → Part → Element → Type 0
 InsideKeepsRules rules part e = (rule : Rule) (position : ℕ) → IsOf rules rule → IsInside part e rule position → ⊥

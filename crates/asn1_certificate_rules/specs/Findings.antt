@@ -1,4 +1,4 @@
--- What a walk over bytes finds: a rule that they break, or an element that lies deeper than it looks.
+-- The finding of a walk over bytes: a rule that they break, or an element that lies deeper than it looks.
 use Rattle.std.specs.Prelude.{⊤, ℕ, ◌+◌, List}
 use Rattle.asn1_certificate_rules.specs.Departures.{Departs, IsInside}
 use Rattle.asn1_certificate_rules.specs.Depths.{IsDeeperInside, LiesDeeper}

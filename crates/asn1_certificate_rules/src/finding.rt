@@ -1,4 +1,4 @@
-//! What a walk over bytes finds.
+//! The finding of a walk over bytes.
 ghost use Rattle.std.specs.Prelude.{◌≡◌, ◌+◌, ◌^◌, ◌<◌};
 ghost use Rattle.asn1_certificate_rules.specs.Findings.{moved, position_of};
 

@@ -1,4 +1,4 @@
-//! What the notation of a certificate has at a place (RFC 5280, 4.1 and 4.2).
+//! The part of the notation of a certificate at a place (RFC 5280, 4.1 and 4.2).
 ghost use Rattle.std.specs.Prelude.{◌≡◌};
 ghost use Rattle.asn1_certificate_rules.specs.Notation.{kind_of, opens, part_behind, part_inside};
 ghost use Rattle.asn1_der_items.specs.Elements.{element_of};

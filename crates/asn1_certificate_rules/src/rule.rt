@@ -45,7 +45,7 @@ pub enum Rule {
     UtcTime,
 }
 
-/// Which rules are looked at.
+/// The rules that are looked at.
 #[derive(Clone, Copy, Debug, Drop, PartialEq, Eq)]
 pub enum RuleSet {
     /// All of them.

@@ -25,7 +25,7 @@ pub(crate) const OF_TYPE: Property = Property {
     lemma: "of_type",
     argument: "",
     binder: "",
-    level: "type_level",
+    level: "type_level knot",
     field: "IsOfType",
 };
 
@@ -34,7 +34,7 @@ pub(crate) const VALID: Property = Property {
     lemma: "valid",
     argument: "accepts ",
     binder: "(accepts : List ℕ → Bool) ",
-    level: "valid_level",
+    level: "valid_level knot",
     field: "IsValid accepts",
 };
 

@@ -24,6 +24,7 @@
 mod circle;
 mod depths;
 mod elements;
+mod exact;
 mod lists;
 mod meaning;
 mod outside;

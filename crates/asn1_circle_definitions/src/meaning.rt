@@ -3,7 +3,7 @@ use crate::circle::Circle;
 use crate::depths::{OF_TYPE, VALID};
 use crate::lists::{all_type_uses, definition_uses, variant_name};
 use crate::terms::{definitions_file, spaced, validity_words};
-use crate::{depths, records};
+use crate::{depths, exact, records};
 use asn1_rust_components::{ChoiceType, TypeBody, TypeFile};
 use std::alloc::{AllocError, Global};
 
@@ -78,9 +78,11 @@ fn knot_lemmas(alloc: Global, circle: Circle<'_>, body: &TypeFile) -> Result<Str
     let of_type = of_type.as_str();
     let valid = depths::lemmas(alloc, circle, VALID)?;
     let valid = valid.as_str();
+    let read = exact::lemmas(alloc, circle)?;
+    let read = read.as_str();
     let records = records::lemmas(alloc, circle, body)?;
     let records = records.as_str();
-    format!(in alloc; "{of_type}{valid}{records}")
+    format!(in alloc; "{of_type}{valid}{read}{records}")
 }
 
 // The lists of a knot, and the definitions of its meaning.
@@ -93,13 +95,13 @@ fn knot_definitions(
     let lists = lists.as_str();
     let inside = inside_definitions(alloc, circle, body)?;
     let inside = inside.as_str();
+    let word = knot_word(circle);
+    let asn1_name = circle.asn1_name;
+    let arguments = list_arguments(circle);
     format!(in alloc;
-        "{lists}{inside}-- the meaning of a value inside another down to a depth
-abbrev type_level : ℕ → Meaning Knot
-type_level n = level knot (of_type_to knot n) (well_formed_alone knot)
-
-abbrev valid_level : ℕ → Meaning Knot
-valid_level n = level knot (λ _. ⊤) (valid_to knot n)
+        "{lists}{inside}-- what is read as a value inside another
+within_read : (t : Tag) (v : Knot) → ReadAtSome (λ n. (read_level knot n).IsReadAs v t unconstrained) (within.IsReadAs v t unconstrained)
+within_read t v = {word}_itself_is_read (codes \"{asn1_name}\") {arguments} in_knot inside t unconstrained v
 
 "
     )
@@ -262,6 +264,7 @@ fn own_meaning(alloc: Global, circle: Circle<'_>, body: &TypeFile) -> Result<Str
 laws = record {{
   of_type = {module}_of_type;
   valid_inside = {module}_valid;
+  read_inside = {module}_read_inside;
   records = λ v. {written} ∙ same_records (out-Knot v) (out-Knot v).0.value;
 }}
 
@@ -295,7 +298,7 @@ each_is_valid accepts v n = all_valid knot (λ _ _ _ h. h) (λ a w. (folded w).w
 
 // The proof that a value means the same inside and by itself.
 const SAME: &str =
-    "record { records = refl; of_type = (λ h. h, λ h. h); valid = λ _. (λ h. h, λ h. h) }";
+    "record { records = refl; read = λ _. (λ h. h, λ h. h); of_type = (λ h. h, λ h. h); valid = λ _. (λ h. h, λ h. h) }";
 
 // The equations of the proof that what a value is made of means the same inside and by itself.
 fn unrolled_equations(alloc: Global, body: &TypeFile) -> Result<String, AllocError> {

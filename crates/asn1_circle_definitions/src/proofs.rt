@@ -255,12 +255,16 @@ decreases-read g l = 2 * l.depth
     )
 }
 
-// How a knot is well tagged, by what it is made of, and the call that reads that.
-fn reader_words(circle: Circle<'_>) -> (&'static str, &'static str) {
+// How a knot is well tagged, by what it is made of, the call that reads that, and its clause that nothing else was read.
+fn reader_words(circle: Circle<'_>) -> (&'static str, &'static str, &'static str) {
     if circle.is_choice() {
-        ("λ t _. body_can.1", "decode_choice_with")
+        (
+            "λ t _. body_can.1",
+            "decode_choice_with",
+            "as_component.only",
+        )
     } else {
-        ("λ t h. (h.0, body_can.1.1)", "decode_sequence_with")
+        ("λ t h. (h.0, body_can.1.1)", "decode_sequence_with", "only")
     }
 }
 
@@ -270,7 +274,7 @@ pub fn reader_answers(alloc: Global, circle: Circle<'_>) -> Result<String, Alloc
     let name = circle.name;
     let module = circle.module;
     let reader = circle.reader;
-    let (tagged, call) = reader_words(circle);
+    let (tagged, call, only) = reader_words(circle);
     format!(in alloc;
         "use Rattle.std.proofs.Common.{{Err, subst, sym}}
 use Rattle.asn1_circles.specs.Words.{{constraint_set}}
@@ -289,11 +293,15 @@ pub returns-clause-read : goal.returns-clause-read
 returns-clause-read g t c =
     c.close_knot.ensures.read c.args.tag (constraint_set c.args.constraints.now) c.args.decoder.now c.{call}-of.ensures.read
 
+pub returns-clause-only : goal.returns-clause-only
+returns-clause-only g t c =
+    c.close_knot.ensures.only c.args.tag (constraint_set c.args.constraints.now) c.args.decoder.now c.{call}-of.ensures.{only}
+
 pub read-returns : goal.read-returns
 read-returns g t c =
     let after = c.in-Err.ensures.after_reading in
     subst (λ e. ReadsKnot g.D.Decoder.reader c.args.at c.args.inside.now c.read_{module}.new.decoder (Err e)) (sym c.from_error.ensures)
-    (record {{ read = c.in-Err.ensures.read; same_depth = after.same_depth; failed_as_before = after.failed_as_before }})
+    (record {{ read = c.in-Err.ensures.read; only = tt; same_depth = after.same_depth; failed_as_before = after.failed_as_before }})
 "
     )
 }

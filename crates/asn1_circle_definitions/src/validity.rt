@@ -46,8 +46,8 @@ pub fn validity_file(alloc: Global, circle: Circle<'_>) -> Result<String, AllocE
 /// The file with the definitions and lemmas for types that hold themselves, each value of which is valid.
 pub const VALIDITY_FILE: &str = "\
 -- Types that hold themselves, each value of which is valid.
-use Rattle.std.specs.Prelude.{ℕ, zero, suc, ⊤, Bool, List, Option, None, Some, IfSome}
-use Rattle.asn1_circles.specs.Words.{KnotOf, Meaning, Record, level, valid_to}
+use Rattle.std.specs.Prelude.{ℕ, zero, suc, Bool, List, Option, None, Some, IfSome}
+use Rattle.asn1_circles.specs.Words.{KnotOf, Meaning, Record, valid_level, valid_to, written_value}
 pub use Rattle.asn1_schema.specs.components.Alternatives.{ValueMeaning}
 pub use Rattle.asn1_schema.specs.model.Premises.{EachIsValid}
 use Rattle.asn1_schema.specs.model.WellFormed.{AreWellFormed}
@@ -59,12 +59,7 @@ pub record ValidRecords : Type 0 where
 
 -- a value inside another, by these
 abbrev pub written_valid : ((V : Type 0) → (V → ValueMeaning) → Meaning V) → Meaning ValidRecords
-written_valid itself = itself ValidRecords (λ rs. record {
-  records = rs.records;
-  IsOfType = ⊤;
-  IsValid = λ accepts. AreWellFormed accepts rs.records;
-  well_formed = λ accepts h. h;
-})
+written_valid itself = itself ValidRecords (λ rs. written_value rs.records)
 
 -- the records of what a value is made of, which are well formed since it is valid
 abbrev pub valid_records : (content : ValueMeaning) → ((accepts : List ℕ → Bool) → content.IsValid accepts) → ValidRecords
@@ -79,7 +74,7 @@ pub all_valid : {K : Type 0} {U : Type 0 → Type 0} (k : KnotOf K U) →
     (n : ℕ) (accepts : List ℕ → Bool) (v : K) → (valid_to k n).is accepts v
 all_valid k itself well made zero accepts v = well accepts v
 all_valid k itself well made (suc n) accepts v =
-    (well accepts v, made (level k (λ _. ⊤) (valid_to k n)) (λ a w. itself _ a w (all_valid k itself well made n a w)) accepts (k.of v))
+    (well accepts v, made (valid_level k n) (λ a w. itself _ a w (all_valid k itself well made n a w)) accepts (k.of v))
 
 -- a property of each value holds of one that may be absent
 pub if_some_all : {X : Type 0} (o : Option X) (P : X → Type 0) → ((x : X) → P x) → IfSome o P

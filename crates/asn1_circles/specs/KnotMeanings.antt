@@ -1,17 +1,19 @@
 -- The meaning of a type that holds itself, by that of the generic type of which its values are made.
-use Rattle.std.specs.Prelude.{◌≡◌, ◌↔◌, ◌++◌, [], ◌∷◌, map, ℕ, zero, suc, ⊤, Bool, List, Option, None, Some, IfSome, All, refl}
-use Rattle.std.proofs.Common.{ap, arith, sym, ◌∙◌, subst}
+use Rattle.std.specs.Prelude.{◌≡◌, ◌↔◌, ◌⊎◌, ◌++◌, [], ◌∷◌, map, ℕ, zero, suc, ⊤, Bool, List, Option, None, Some, IfSome, All, refl}
+use Rattle.std.proofs.Common.{ap, arith, inl, inr, sym, ◌∙◌, subst}
 use Rattle.std.specs.Global.{Vec}
 use Rattle.std.specs.List.{flat_map}
+use Rattle.asn1_circles.specs.KnotReadings.{ReadAtSome, choice_at_some, inside_at_some, read_alike, same_if_some}
 use Rattle.asn1_circles.specs.Knots.{IsMadeOf}
 use Rattle.asn1_components.specs.Alternatives.{Alternatives, MeansTheSame, OneOf, ValueMeaning, all_of, chosen_meaning, no_meaning, table_of, trees_of}
 use Rattle.asn1_components.specs.ComponentLists.{EachIsOfType, EachIsValid, all_well_formed}
-use Rattle.asn1_components.specs.Components.{AreWellTagged, Components, Kind, all_components, component_records, constructed_type, head_of_kind, holding_type, inside_itself as inside_sequence, rows, table_with_itself as sequence_table}
+use Rattle.asn1_components.specs.Components.{AreWellTagged, Components, ComponentsAreRead, Kind, all_components, component_records, components_read_own, constructed_type, head_of_kind, holding_type, inside_itself as inside_sequence, rows, table_with_itself as sequence_table}
 use Rattle.asn1_components.specs.ChoiceTypes.{choice_by, choice_by_meanings, choice_of, inside_itself, table_with_itself}
 use Rattle.asn1_model.specs.Composites.{choice_records}
 use Rattle.asn1_model.specs.ConstraintSets.{ConstraintSet, unconstrained}
 use Rattle.asn1_model.specs.Kinds.{Inside, list_type}
 use Rattle.asn1_model.specs.Meaning.{Meaning}
+use Rattle.asn1_model.specs.Readings.{IsReadAsChoice, IsReadInside}
 use Rattle.asn1_model.specs.RecordTables.{Row, Table, no_table}
 use Rattle.asn1_model.specs.Records.{Name, Record, holding}
 use Rattle.asn1_model.specs.Tags.{Has, first_tag, tree_tags}
@@ -33,63 +35,98 @@ pub record Valid {K : Type 0} (inside : K → List Record) : Type 1 where
   pub is : (List ℕ → Bool) → K → Type 0
   pub well_formed : (accepts : List ℕ → Bool) (v : K) → is accepts v → AreWellFormed accepts (inside v)
 
+-- The records that are read as the contents of each value, its own among them.
+pub record ReadInside {K : Type 0} (inside : K → List Record) : Type 1 where
+  pub are : K → List Record → Type 0
+  pub own : (v : K) → are v (inside v)
+
 -- a value that has been written, by the records inside it
-abbrev pub written : ((V : Type 0) → (V → ValueMeaning) → Meaning V) → Meaning (List Record)
-written itself = itself (List Record) (λ rs. record {
+abbrev pub written_value : List Record → ValueMeaning
+written_value rs = record {
   records = rs;
+  AreReadAs = λ ss. ss ≡ rs;
+  read_own = refl;
   IsOfType = ⊤;
   IsValid = λ accepts. AreWellFormed accepts rs;
   well_formed = λ accepts h. h;
-})
+}
+
+abbrev pub written : ((V : Type 0) → (V → ValueMeaning) → Meaning V) → Meaning (List Record)
+written itself = itself (List Record) written_value
 
 module _ {K : Type 0} {U : Type 0 → Type 0} (k : KnotOf K U) where
-  abbrev pub says : (K → Type 0) → Valid k.inside → K → ValueMeaning
-  says of_type valid v = record {
+  abbrev pub says : (K → Type 0) → Valid k.inside → ReadInside k.inside → K → ValueMeaning
+  says of_type valid read v = record {
     records = k.inside v;
+    AreReadAs = read.are v;
+    read_own = read.own v;
     IsOfType = of_type v;
     IsValid = λ accepts. valid.is accepts v;
     well_formed = λ accepts. valid.well_formed accepts v;
   }
 
-  -- a value inside another, by which of them meet their type's invariant and which are valid
-  abbrev pub level : (K → Type 0) → Valid k.inside → Meaning K
-  level of_type valid = k.itself K (says of_type valid)
+  -- a value inside another, by which of them meet their type's invariant, which are valid, and what is read as they are
+  abbrev pub level : (K → Type 0) → Valid k.inside → ReadInside k.inside → Meaning K
+  level of_type valid read = k.itself K (says of_type valid read)
 
   abbrev pub well_formed_alone : Valid k.inside
   well_formed_alone = record { is = λ accepts v. AreWellFormed accepts (k.inside v); well_formed = λ accepts v h. h }
+
+  abbrev pub read_alone : ReadInside k.inside
+  read_alone = record { are = λ v rs. rs ≡ k.inside v; own = λ v. refl }
 
   -- what a value is made of says, where this is what those inside it mean
   abbrev pub opened : Meaning K → K → ValueMeaning
   opened m v = k.content K m (k.of v)
 
-  -- a value meets its type's invariant down to this depth, and is valid
+  -- a value meets its type's invariant down to this depth, and is valid; and records are read as it, its own where no depth is left
   abbrev pub of_type_to : ℕ → K → Type 0
   of_type_to zero v = ⊤
-  of_type_to (suc n) v = (opened (level (of_type_to n) well_formed_alone) v).IsOfType
+  of_type_to (suc n) v = (opened (level (of_type_to n) well_formed_alone read_alone) v).IsOfType
 
   abbrev pub valid_to : ℕ → Valid k.inside
   valid_to zero = well_formed_alone
   valid_to (suc n) = record {
-    is = λ accepts v. AreWellFormed accepts (k.inside v) × (opened (level (λ _. ⊤) (valid_to n)) v).IsValid accepts;
+    is = λ accepts v. AreWellFormed accepts (k.inside v) × (opened (level (λ _. ⊤) (valid_to n) read_alone) v).IsValid accepts;
     well_formed = λ accepts v h. h.0;
   }
 
-  -- and to every depth
+  abbrev pub read_to : ℕ → ReadInside k.inside
+  read_to zero = read_alone
+  read_to (suc n) = record {
+    are = λ v rs. (read_to n).are v rs ⊎ (opened (level (λ _. ⊤) well_formed_alone (read_to n)) v).AreReadAs rs;
+    own = λ v. inl ((read_to n).own v);
+  }
+
+  -- and to every depth, or to some
   abbrev pub valid : Valid k.inside
   valid = record { is = λ accepts v. (n : ℕ) → (valid_to n).is accepts v; well_formed = λ accepts v h. (valid_to 0).well_formed accepts v (h 0) }
 
-  abbrev pub means : K → ValueMeaning
-  means = says (λ v. (n : ℕ) → of_type_to n v) valid
+  abbrev pub read : ReadInside k.inside
+  read = record { are = λ v rs. (n : ℕ) × (read_to n).are v rs; own = λ v. (0, refl) }
 
-  -- a value inside another
+  -- a value inside another, by these
+  abbrev pub type_level : ℕ → Meaning K
+  type_level n = level (of_type_to n) well_formed_alone read_alone
+
+  abbrev pub valid_level : ℕ → Meaning K
+  valid_level n = level (λ _. ⊤) (valid_to n) read_alone
+
+  abbrev pub read_level : ℕ → Meaning K
+  read_level n = level (λ _. ⊤) well_formed_alone (read_to n)
+
+  abbrev pub means : K → ValueMeaning
+  means = says (λ v. (n : ℕ) → of_type_to n v) valid read
+
   abbrev pub inner : Meaning K
   inner = k.itself K means
 
-  -- The laws, which are read off the generic type: what holds of what is inside at every depth, holds of it; and the records
-  -- inside a value are those of what it is made of.
+  -- The laws, which are read off the generic type: what holds of what is inside at every depth, holds of it; what is read as it is
+  -- read so down to some depth; and the records inside a value are those of what it is made of.
   pub record KnotLaws : Type 0 where
-    pub of_type : (u : U K) → ((n : ℕ) → (k.content K (level (of_type_to n) well_formed_alone) u).IsOfType) ↔ (k.content K inner u).IsOfType
-    pub valid_inside : (accepts : List ℕ → Bool) (u : U K) → ((n : ℕ) → (k.content K (level (λ _. ⊤) (valid_to n)) u).IsValid accepts) ↔ (k.content K inner u).IsValid accepts
+    pub of_type : (u : U K) → ((n : ℕ) → (k.content K (type_level n) u).IsOfType) ↔ (k.content K inner u).IsOfType
+    pub valid_inside : (accepts : List ℕ → Bool) (u : U K) → ((n : ℕ) → (k.content K (valid_level n) u).IsValid accepts) ↔ (k.content K inner u).IsValid accepts
+    pub read_inside : (u : U K) → ReadAtSome (λ n. (k.content K (read_level n) u).AreReadAs) (k.content K inner u).AreReadAs
     pub records : (v : K) → k.inside v ≡ (k.content K inner (k.of v)).records
 
   to_each_depth : (v : K) → ((n : ℕ) → of_type_to (suc n) v) → (n : ℕ) → of_type_to n v
@@ -97,15 +134,28 @@ module _ {K : Type 0} {U : Type 0 → Type 0} (k : KnotOf K U) where
   to_each_depth v h (suc n) = h n
 
   valid_to_each_depth : (accepts : List ℕ → Bool) (v : K) → AreWellFormed accepts (k.inside v) →
-      ((n : ℕ) → (opened (level (λ _. ⊤) (valid_to n)) v).IsValid accepts) → (n : ℕ) → (valid_to n).is accepts v
+      ((n : ℕ) → (opened (valid_level n) v).IsValid accepts) → (n : ℕ) → (valid_to n).is accepts v
   valid_to_each_depth accepts v well h zero = well
   valid_to_each_depth accepts v well h (suc n) = (well, h n)
+
+  -- what is read inside a value down to some depth
+  pub inside_is_read : (v : K) → ReadAtSome (λ n. (read_to n).are v) (read.are v)
+  inside_is_read v = record { at = λ rs. record { grows = λ n are. inl are; within = λ n are. (n, are); reached = λ are. are } }
+
+  read_at_depth : KnotLaws → (v : K) (n : ℕ) (rs : List Record) → (read_to n).are v rs → (opened inner v).AreReadAs rs
+  read_at_depth laws v zero rs is = subst (opened inner v).AreReadAs (sym (is ∙ laws.records v)) (opened inner v).read_own
+  read_at_depth laws v (suc n) rs (inl before) = read_at_depth laws v n rs before
+  read_at_depth laws v (suc n) rs (inr are) = ((laws.read_inside (k.of v)).at rs).within n are
 
   -- so what a value says of itself is what it is made of says
   pub agrees : KnotLaws → (v : K) → MeansTheSame (means v) (k.content K inner (k.of v))
   agrees laws v =
       let types = laws.of_type (k.of v) in record {
         records = laws.records v;
+        read = λ rs. (
+          λ (n, are). read_at_depth laws v n rs are,
+          λ are. let (n, at) = ((laws.read_inside (k.of v)).at rs).reached are in (suc n, inr at),
+        );
         of_type = (λ h. types.0 (λ n. h (suc n)), λ h. to_each_depth v (types.1 h));
         valid = λ accepts. let valid = laws.valid_inside accepts (k.of v) in (
           λ h. valid.0 (λ n. (h (suc n)).1),
@@ -190,6 +240,11 @@ module _ {U : Type 0 → Type 0} (name : List ℕ) (alternatives : (V : Type 0) 
     abbrev pub choice_knot : KnotOf K U
     choice_knot = record { itself = choice_itself; content = choice_content; of = of; inside = inside }
 
+    -- what is read as a value inside another
+    pub choice_itself_is_read : (t : Tag) (c : ConstraintSet) (v : K) →
+        ReadAtSome (λ n. (read_level choice_knot n).IsReadAs v t c) ((inner choice_knot).IsReadAs v t c)
+    choice_itself_is_read t c v = choice_at_some (λ n. (read_to choice_knot n).are) (read choice_knot).are v v (inside_is_read choice_knot v) knot_table unconstrained t c
+
     module _ (laws : KnotLaws choice_knot) where
       -- The meaning of the type.
       abbrev pub knot_meaning : Meaning K
@@ -204,6 +259,9 @@ module _ {U : Type 0 → Type 0} (name : List ℕ) (alternatives : (V : Type 0) 
         records = λ v t c n. ap (λ rs. choice_records (first_tag rs) (table_of (alternatives K (inner choice_knot))) rs unconstrained (Some name) t c n)
             (laws.records v ∙ (unrolled (of v)).records)
             ∙ ap (λ table. choice_records (first_tag (choice_content K knot_meaning (of v)).records) table (choice_content K knot_meaning (of v)).records unconstrained (Some name) t c n) same;
+        read = λ v t c rs.
+            subst (λ table. IsReadAsChoice (λ w. (means choice_knot w).AreReadAs) (table_of (alternatives K (inner choice_knot))) unconstrained t c v rs ↔ IsReadAsChoice (λ u. (choice_content K knot_meaning u).AreReadAs) table unconstrained t c (of v) rs) same
+            (same_if_some ((choice_at_some (λ _ w. (means choice_knot w).AreReadAs) (λ u. (choice_content K knot_meaning u).AreReadAs) v (of v) (read_alike (agrees choice_knot laws v) (unrolled (of v))) (table_of (alternatives K (inner choice_knot))) unconstrained t c).at rs));
         of_type = λ v h. (unrolled (of v)).of_type.0 ((agrees choice_knot laws v).of_type.0 h);
         of_type_back = λ v h. (agrees choice_knot laws v).of_type.1 ((unrolled (of v)).of_type.1 h);
         valid = λ accepts v h. ((unrolled (of v)).valid accepts).0 (((agrees choice_knot laws v).valid accepts).0 h);
@@ -216,6 +274,8 @@ module _ {U : Type 0 → Type 0} (name : List ℕ) (kind : Kind) (components : (
   abbrev pub inside_by : (V : Type 0) → (V → ValueMeaning) → Inside V
   inside_by V means = record {
     records = λ v. (means v).records;
+    AreReadAs = λ v. (means v).AreReadAs;
+    read_own = λ v. (means v).read_own;
     IsWellTagged = ⊤;
     AreOfType = λ v. (means v).IsOfType;
     AreValid = λ accepts v. (means v).IsValid accepts;
@@ -228,6 +288,8 @@ module _ {U : Type 0 → Type 0} (name : List ℕ) (kind : Kind) (components : (
   abbrev pub sequence_content : (V : Type 0) → Meaning V → U V → ValueMeaning
   sequence_content V m u = record {
     records = component_records (components V m) u;
+    AreReadAs = ComponentsAreRead (components V m) u;
+    read_own = components_read_own (components V m) u;
     IsOfType = EachIsOfType (all_components (components V m)) u;
     IsValid = λ accepts. EachIsValid (all_components (components V m)) accepts u;
     well_formed = λ accepts. all_well_formed (all_components (components V m)) accepts u;
@@ -239,6 +301,10 @@ module _ {U : Type 0 → Type 0} (name : List ℕ) (kind : Kind) (components : (
   module _ {K : Type 0} (of : K → U K) (inside : K → List Record) where
     abbrev pub sequence_knot : KnotOf K U
     sequence_knot = record { itself = sequence_itself; content = sequence_content; of = of; inside = inside }
+
+    pub sequence_itself_is_read : (t : Tag) (c : ConstraintSet) (v : K) →
+        ReadAtSome (λ n. (read_level sequence_knot n).IsReadAs v t c) ((inner sequence_knot).IsReadAs v t c)
+    sequence_itself_is_read t c v = inside_at_some (head_of_kind kind t (sequence_table {V = U (List Record)} {W = List Record} name kind (components (List Record)))) (inside_is_read sequence_knot v)
 
     module _ (laws : KnotLaws sequence_knot) where
       abbrev pub sequence_knot_meaning : Meaning K
@@ -255,6 +321,10 @@ module _ {U : Type 0 → Type 0} (name : List ℕ) (kind : Kind) (components : (
             ∙ ap (λ table. holding (head_of_kind (components K sequence_knot_meaning).kind t table n) (inside v) ∷ []) same
             ∙ ap (λ rs. holding (head_of_kind (components K sequence_knot_meaning).kind t (rows (components K sequence_knot_meaning)) n) rs ∷ [])
             (laws.records v ∙ (unrolled (of v)).records);
+        read = λ v t c rs.
+            subst (λ table. IsReadInside (λ w. (means sequence_knot w).AreReadAs) (head_of_kind kind t (rows (components K (inner sequence_knot)))) v rs ↔ IsReadInside (ComponentsAreRead (components K sequence_knot_meaning)) (head_of_kind (components K sequence_knot_meaning).kind t table) (of v) rs) same
+            (subst (λ k. IsReadInside (λ w. (means sequence_knot w).AreReadAs) (head_of_kind kind t (rows (components K (inner sequence_knot)))) v rs ↔ IsReadInside (ComponentsAreRead (components K sequence_knot_meaning)) (head_of_kind k t (rows (components K (inner sequence_knot)))) (of v) rs) same_kind
+            (same_if_some ((inside_at_some (head_of_kind kind t (rows (components K (inner sequence_knot)))) (read_alike (agrees sequence_knot laws v) (unrolled (of v)))).at rs)));
         of_type = λ v h. (unrolled (of v)).of_type.0 ((agrees sequence_knot laws v).of_type.0 h);
         of_type_back = λ v h. (agrees sequence_knot laws v).of_type.1 ((unrolled (of v)).of_type.1 h);
         valid = λ accepts v h. ((unrolled (of v)).valid accepts).0 (((agrees sequence_knot laws v).valid accepts).0 h);

@@ -31,13 +31,15 @@
 //!   (`reads`, `IsReaderOf` of `specs/Readers.antt`) and may be called with the depth that is left (`callable`).
 //! - [`decode_sequence_with`] and [`decode_choice_with`] keep the contract of `Decode` of `asn1_dec` (`read`, `after_reading`). They
 //!   open a scope first, so the closure is called where less depth is left.
+//! - After a success nothing was read but what is read as the answer (`only`, `exactly`), as in `asn1_dec` and `asn1_slots`.
 //! - An error of a component of a SEQUENCE has its name, unless it is about the decoder or the whole input.
 //! - [`close_knot`] answers what was read, in a box, or the error of memory, and keeps that contract.
 //!
 //! `specs/KnotMeanings.antt` defines the meaning of a knot by that of its generic type, for a CHOICE (`knot_meaning`) and for a
-//! SEQUENCE (`sequence_knot_meaning`), from three laws that are read off the lists of the types (`KnotLaws`), and proves that it is
-//! the meaning of what a value is made of (`knot_is_made`, `sequence_is_made`). Memory is taken for the elements of lists and for
-//! the box of the knot.
+//! SEQUENCE (`sequence_knot_meaning`), from four laws that are read off the lists of the types (`KnotLaws`), and proves that it is
+//! the meaning of what a value is made of (`knot_is_made`, `sequence_is_made`). Records are read as a value if they are down to some
+//! depth (`read_to`), where a value with no depth left is read of its own records alone; `specs/KnotReadings.antt` has how that of
+//! the parts makes that of the whole. Memory is taken for the elements of lists and for the box of the knot.
 #![tactic(auto)]
 
 mod choices;

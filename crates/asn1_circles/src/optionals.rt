@@ -1,6 +1,7 @@
 //! A component that may be absent, on either side of an extension marker, by the reader of a type in it.
 ghost use Rattle.asn1_circles.specs.Readers.{IsReaderOf, MayReadTo};
 ghost use Rattle.asn1_laws.specs.GivenTypes.{given, given_after_tag};
+ghost use Rattle.asn1_laws.specs.ReadingExactly.{HasReadMark, HasReadOptional, HasReadValue};
 ghost use Rattle.asn1_laws.specs.ReadingTypes.{Reads, ReadsOptional};
 ghost use Rattle.asn1_laws.specs.Sides.{side_of};
 ghost use Rattle.asn1_laws.specs.Reading.{OpensNothing, TellsPresence};
@@ -10,7 +11,7 @@ ghost use Rattle.asn1_slots.specs.Filling.{ReadsOptionalComponent};
 ghost use Rattle.asn1_slots.specs.Taggings.{under};
 ghost use Rattle.asn1_tags.specs.Trees.{shape};
 ghost use Rattle.std.specs.Option.{option_eq};
-ghost use Rattle.std.specs.Prelude.{◌≡◌, OnOk, Some, true, unwrap_or};
+ghost use Rattle.std.specs.Prelude.{◌≡◌, IfOk, IsSomeAnd, OnOk, Some, true, unwrap_or};
 
 use crate::errors::ReadError;
 use crate::readings::Reading;
@@ -31,6 +32,8 @@ fn is_there<D: Decoder>(
 ) -> Result<bool, DecodeError>
     ensures read { TellsPresence D.reader decoder.old decoder.new (present (side_of side) tag)
         (absent (side_of side) tag) (tree_tags (shape tree.entry)) result }
+    ensures only { IfOk result (HasReadMark D.reader decoder.old decoder.new
+        (present (side_of side) tag) (absent (side_of side) tag)) }
     ensures opens_nothing { OpensNothing D.reader decoder.old decoder.new result }
 {
     match side {
@@ -53,6 +56,8 @@ fn read_present_with<
     requires reads { IsReaderOf D.reader T.meaning T.eq E.says (F.post read.now) }
     ensures read { Reads D.reader (given tag W.meaning.constraints W.meaning)
         (λ w v. option_eq W.eq w (Some v)) decoder.old decoder.new result }
+    ensures only { IfOk result (λ w. IsSomeAnd w (HasReadValue D.reader decoder.old decoder.new
+        W.meaning tag W.meaning.constraints)) }
     ensures same_depth { OnOk result
         (D.reader.depth_left decoder.new ≡ D.reader.depth_left decoder.old) }
 {
@@ -76,6 +81,8 @@ fn read_optional_under<
     requires reads { IsReaderOf D.reader T.meaning T.eq E.says (F.post read.now) }
     ensures read { ReadsOptional D.reader (side_of side) (given (unwrap_or tag W.meaning.tag)
         W.meaning.constraints W.meaning) W.eq decoder.old decoder.new result }
+    ensures only { IfOk result (HasReadOptional D.reader decoder.old decoder.new (side_of side)
+        (given (unwrap_or tag W.meaning.tag) W.meaning.constraints W.meaning)) }
     ensures same_depth { OnOk result
         (D.reader.depth_left decoder.new ≡ D.reader.depth_left decoder.old) }
 {
@@ -101,6 +108,8 @@ fn read_optional_after_tag_with<
     requires reads { IsReaderOf D.reader T.meaning T.eq E.says (F.post read.now) }
     ensures read { ReadsOptional D.reader (side_of side) (given_after_tag tag
         W.meaning.constraints W.meaning) W.eq decoder.old decoder.new result }
+    ensures only { IfOk result (HasReadOptional D.reader decoder.old decoder.new (side_of side)
+        (given_after_tag tag W.meaning.constraints W.meaning)) }
     ensures same_depth { OnOk result
         (D.reader.depth_left decoder.new ≡ D.reader.depth_left decoder.old) }
 {
@@ -125,6 +134,8 @@ pub(crate) fn read_optional_with<
     requires reads { IsReaderOf D.reader T.meaning T.eq E.says (F.post read.now) }
     ensures read { ReadsOptionalComponent D.reader (side_of side) (under tagging W.meaning)
         (λ v w. option_eq W.eq w v ≡ true) decoder.old decoder.new result }
+    ensures only { IfOk result (HasReadOptional D.reader decoder.old decoder.new (side_of side)
+        (λ _. under tagging W.meaning)) }
     ensures same_depth { OnOk result (D.reader.depth_left decoder.new ≡
         D.reader.depth_left decoder.old) }
 {

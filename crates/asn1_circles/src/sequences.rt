@@ -1,13 +1,14 @@
 //! SEQUENCE types that are read by index, by the reader of a type in them.
 ghost use Rattle.asn1_circles.specs.Readers.{IsReaderOf, MayReadBelow, MayReadTo, ReadsAs};
 ghost use Rattle.asn1_laws.specs.Reading.{AfterReading, ReadsValue};
+ghost use Rattle.asn1_laws.specs.ReadingExactly.{HasReadFields, HasReadValue, WasRead};
 ghost use Rattle.asn1_model.specs.ConstraintSets.{constraint_set};
 ghost use Rattle.asn1_components.specs.Components.{is_sequence, table};
 ghost use Rattle.asn1_laws.specs.DecodeErrors.{lacks_name, reason};
 ghost use Rattle.asn1_slots.specs.ReadSlots.{ReadsSlots};
 ghost use Rattle.asn1_laws.specs.ReadingTypes.{ReadsFields};
 ghost use Rattle.asn1_laws.specs.declared.decode_error.DecodeError.TheVariants.{Memory};
-ghost use Rattle.asn1_slots.specs.Slots.{AreFilled, AreKeptBefore, HoldBefore, IsLayoutOf, MakesValueOfSlots, ReadsAt, Slot};
+ghost use Rattle.asn1_slots.specs.Slots.{AreFilled, AreKeptBefore, AreOf, AreReadBefore, HoldBefore, IsLayoutOf, MakesValueOfSlots, ReadsAt, Slot};
 ghost use Rattle.std.specs.Prelude.{◌≡◌, ◌<◌, IfErr, IfOk, List, OnOk, false, length, true};
 
 use crate::errors::ReadError;
@@ -29,11 +30,13 @@ pub trait DecodeByIndexWith<T: AsnType + Eq + Drop>: Eq + Sized + Drop {
     // The components, each with its slot, in the order of the definition.
     ghost layout: { List (Slot Self.Slots Self) };
 
-    /// The value of these slots.
+    /// The value of these slots, of which those of required components are full. It is equal to each value that they hold, and has what
+    /// they hold. The error means that memory ran out for a default.
     fn full(alloc: Global, slots: Self::Slots) -> Result<Self, AllocError>
         requires are_filled { AreFilled layout slots }
         ensures made { (v : Self) → HoldBefore layout (length layout) slots v →
-            IfOk result (λ w. Self.eq w v ≡ true) };
+            IfOk result (λ w. Self.eq w v ≡ true) }
+        ensures only { IfOk result (AreOf layout slots) };
 
     /// Reads the component at an index into its slot, and leaves the slots before it.
     fn decode_field_with<E: ReadError, D: Decoder, F: Fn(&mut D, Tag) -> Result<T, E>>(
@@ -63,6 +66,8 @@ fn read_slots_with<
     requires callable { MayReadTo D.reader (D.reader.depth_left decoder.old) (F.pre read.now) }
     requires reads { IsReaderOf D.reader T.meaning T.eq E.says (F.post read.now) }
     ensures read { ReadsSlots D.reader C.components C.layout decoder.old decoder.new result }
+    ensures only { IfOk result (λ slots. WasRead D.reader decoder.old decoder.new
+        (AreReadBefore C.layout (length C.layout) slots)) }
     ensures filled { IfOk result (λ slots. AreFilled C.layout slots) }
     ensures same_depth { OnOk result (D.reader.depth_left decoder.new ≡
         D.reader.depth_left decoder.old) }
@@ -86,6 +91,7 @@ fn value_of_slots_with<T: AsnType + Eq + Drop, C: DecodeByIndexWith<T>>(
 ) -> Result<C, DecodeError>
     requires are_filled { AreFilled C.layout slots }
     ensures made { MakesValueOfSlots C.layout C.eq slots result }
+    ensures only { IfOk result (AreOf C.layout slots) }
     ensures memory { IfErr result (λ error. error ≡ Memory) }
 {
     match C::full(alloc, slots) {
@@ -107,6 +113,7 @@ pub(crate) fn decode_fields_with<
     requires callable { MayReadTo D.reader (D.reader.depth_left decoder.old) (F.pre read.now) }
     requires reads { IsReaderOf D.reader T.meaning T.eq E.says (F.post read.now) }
     ensures read { ReadsFields D.reader C.components C.eq decoder.old decoder.new result }
+    ensures only { IfOk result (HasReadFields D.reader decoder.old decoder.new C.components) }
     ensures same_depth { OnOk result (D.reader.depth_left decoder.new ≡
         D.reader.depth_left decoder.old) }
     ensures named { IfErr result (λ error. lacks_name (reason error) ≡ false) }
@@ -134,6 +141,8 @@ pub fn decode_sequence_with<
         decoder.new result }
     ensures read { ReadsValue D.reader S.meaning S.eq tag (constraint_set constraints.now)
         decoder.old decoder.new result }
+    ensures only { IfOk result (HasReadValue D.reader decoder.old decoder.new S.meaning tag
+        (constraint_set constraints.now)) }
     ensures after_reading { AfterReading D.reader S.meaning tag (constraint_set constraints.now)
         decoder.old decoder.new result }
 {

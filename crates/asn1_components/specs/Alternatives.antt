@@ -90,10 +90,12 @@ CanBeChosen a = a.type.IsWellTagged × (is_open a.type.tree ≡ false)
 abbrev pub HaveDistinctTags : List Alternative → Type 0
 HaveDistinctTags alts = IsTrue (distinct (leaves_of (trees_of alts)))
 
--- The meaning of one value of a type: its records, whether it meets its type's invariant, and whether it is valid, when
+-- The meaning of one value of a type: its records, what is read as it, whether it meets its type's invariant, and whether it is valid, when
 -- its records are well formed.
 pub record ValueMeaning : Type 1 where
   pub records : List Record
+  pub AreReadAs : List Record → Type 0
+  pub read_own : AreReadAs records
   pub IsOfType : Type 0
   pub IsValid : (List ℕ → Bool) → Type 0
   pub well_formed : (accepts : List ℕ → Bool) → IsValid accepts → AreWellFormed accepts records
@@ -101,6 +103,8 @@ pub record ValueMeaning : Type 1 where
 abbrev pub value_meaning : {W : Type 0} → TaggedType W → W → ValueMeaning
 value_meaning type w = record {
   records = type.records w;
+  AreReadAs = type.IsReadAs w;
+  read_own = type.reads_own w;
   IsOfType = type.IsOfType w;
   IsValid = λ accepts. type.IsValid accepts w;
   well_formed = λ accepts. type.well_formed accepts w;
@@ -108,16 +112,17 @@ value_meaning type w = record {
 
 -- the meaning without any records, for tables that do not depend on values
 abbrev pub no_meaning : ValueMeaning
-no_meaning = record { records = []; IsOfType = ⊤; IsValid = λ _. ⊤; well_formed = λ _ _. tt }
+no_meaning = record { records = []; AreReadAs = λ rs. rs ≡ []; read_own = refl; IsOfType = ⊤; IsValid = λ _. ⊤; well_formed = λ _ _. tt }
 
--- Two meanings with the same records, invariant and validity.
+-- Two meanings with the same records, what is read as them, invariant and validity.
 pub record MeansTheSame (one other : ValueMeaning) : Type 0 where
   pub records : one.records ≡ other.records
+  pub read : (rs : List Record) → one.AreReadAs rs ↔ other.AreReadAs rs
   pub of_type : one.IsOfType ↔ other.IsOfType
   pub valid : (accepts : List ℕ → Bool) → one.IsValid accepts ↔ other.IsValid accepts
 
 pub means_itself : {meaning : ValueMeaning} → MeansTheSame meaning meaning
-means_itself = record { records = refl; of_type = (λ h. h, λ h. h); valid = λ _. (λ h. h, λ h. h) }
+means_itself = record { records = refl; read = λ _. (λ h. h, λ h. h); of_type = (λ h. h, λ h. h); valid = λ _. (λ h. h, λ h. h) }
 
 -- a value of one of these types
 abbrev pub OneOf : List Alternative → Type 0

@@ -1,11 +1,11 @@
 -- Definitions that follow from a list of components.
-use Rattle.std.specs.Prelude.{◌≡◌, ℕ, ◌+◌, ⊤, Bool, true, false, ◌&&◌, IsTrue, List, [], ◌∷◌, ◌++◌, Option, None, Some, IfSome, refl, if◌then◌else◌}
+use Rattle.std.specs.Prelude.{◌≡◌, ◌⊎◌, ℕ, ◌+◌, ⊤, IsPermutation, Bool, true, false, ◌&&◌, IsTrue, List, [], ◌∷◌, ◌++◌, Option, None, Some, IfSome, refl, if◌then◌else◌}
 use Rattle.std.proofs.Common.{inl, inr, ap, sym, ◌∙◌, subst}
 use Rattle.std.specs.Option.{option_map}
 use Rattle.asn1_tags.specs.Tags.{distinct}
 use Rattle.asn1_tags.specs.Trees.{Tree, Trees, choice, leaves, none, more}
 use Rattle.asn1_model.specs.Composites.{group_records}
-use Rattle.asn1_model.specs.Records.{Record, Side, presence_mark, group_start, group_end, group_absent, presence_marks_alone}
+use Rattle.asn1_model.specs.Records.{Record, Side, presence_mark, group_start, group_end, group_absent, presence_marks_alone, unmarked}
 use Rattle.asn1_model.specs.WellFormed.{AreWellFormed, well_formed_append}
 use Rattle.asn1_model.specs.RecordTables.{Row, Table}
 use Rattle.asn1_model.specs.Tags.{CHOICE, BeginsWithin, LiesIn, tree_tags, first_tags}
@@ -20,6 +20,39 @@ use Rattle.asn1_components.specs.ComponentTypes.{ComponentType, Fits}
 abbrev pub all_records : {V : Type 0} → List (ComponentType V) → V → List Record
 all_records [] v = []
 all_records (c ∷ cs) v = c.records v ++ all_records cs v
+
+-- Records are read as all components, one after another in the order of their definition (X.680, 25).
+abbrev pub AreReadInTurn : {V : Type 0} → List (ComponentType V) → V → List Record → Type 0
+AreReadInTurn [] v rs = rs ≡ []
+AreReadInTurn (c ∷ cs) v rs =
+    (first : List Record) × (later : List Record) × c.IsReadAs v first × AreReadInTurn cs v later × (rs ≡ first ++ later)
+
+pub all_read_own : {V : Type 0} (cs : List (ComponentType V)) (v : V) → AreReadInTurn cs v (all_records cs v)
+all_read_own [] v = refl
+all_read_own (c ∷ cs) v = (c.records v, all_records cs v, c.reads_own v, all_read_own cs v, refl)
+
+-- The same in any order, as the components of a SET come (27). The components that are there tell which are, and not a mark.
+abbrev pub AreReadInAnyOrder : {V : Type 0} → List (ComponentType V) → V → List Record → Type 0
+AreReadInAnyOrder cs v rs =
+    (in_turn : List Record) × AreReadInTurn cs v in_turn × IsPermutation (unmarked rs) (unmarked in_turn)
+
+-- Records are read as a group of additions: the mark that says that it is away; or its components between the marks of one that is
+-- there. A group without a component is written as one that is away.
+abbrev pub IsReadAsGroup : {W : Type 0} → Table Row → List (ComponentType W) → Option W → List Record → Type 0
+IsReadAsGroup table cs None rs = rs ≡ presence_mark (group_absent table) ∷ []
+IsReadAsGroup table cs (Some w) rs =
+    ((presence_marks_alone (all_records cs w) ≡ true) × (rs ≡ presence_mark (group_absent table) ∷ [])) ⊎
+    ((items : List Record) × AreReadInTurn cs w items × (rs ≡ presence_mark (group_start table) ∷ items ++ presence_mark group_end ∷ []))
+
+reads_own_marks : {W : Type 0} (table : Table Row) (cs : List (ComponentType W)) (w : W) (alone : Bool) → presence_marks_alone (all_records cs w) ≡ alone →
+    IsReadAsGroup table cs (Some w) (if alone then presence_mark (group_absent table) ∷ [] else presence_mark (group_start table) ∷ all_records cs w ++ presence_mark group_end ∷ [])
+reads_own_marks table cs w true alone = inl (alone, refl)
+reads_own_marks table cs w false alone = inr (all_records cs w, all_read_own cs w, refl)
+
+pub reads_own_group : {W : Type 0} (table : Table Row) (cs : List (ComponentType W)) (o : Option W) →
+    IsReadAsGroup table cs o (group_records table (option_map (all_records cs) o))
+reads_own_group table cs None = refl
+reads_own_group table cs (Some w) = reads_own_marks table cs w (presence_marks_alone (all_records cs w)) refl
 
 -- the components as the rules on tags see them
 abbrev pub tagged_components : {V : Type 0} → List (ComponentType V) → List Component
@@ -164,6 +197,8 @@ group_of name get table cs = record {
   tree = choice (trees_of cs);
   parts = parts_of cs;
   records = λ v. group_records table (option_map (all_records cs) (get v));
+  IsReadAs = λ v. IsReadAsGroup table cs (get v);
+  reads_own = λ v. reads_own_group table cs (get v);
   IsWellTagged = CanBeInSequence cs;
   IsOfType = λ v. IfSome (get v) (EachIsOfType cs);
   IsValid = λ accepts v. IfSome (get v) (λ w. EachIsValid cs accepts w × (presence_marks_alone (all_records cs w) ≡ false));

@@ -6,6 +6,7 @@ use Rattle.asn1_tags.specs.declared.tags.Tag.{Tag}
 use Rattle.asn1_tags.specs.Trees.{Tree, Trees, more, none}
 use Rattle.asn1_model.specs.Composites.{option_records, default_records}
 use Rattle.asn1_model.specs.Records.{Record, Side, in_additions, in_root, presence_marks_alone}
+use Rattle.asn1_model.specs.Readings.{IsReadAsDefault, IsReadAsOption, reads_own_default, reads_own_option}
 use Rattle.asn1_model.specs.WellFormed.{AreWellFormed, well_formed_option}
 use Rattle.asn1_model.specs.TaggedTypes.{TaggedType}
 use Rattle.asn1_model.specs.Tags.{BeginsWithin, tree_tags}
@@ -30,8 +31,10 @@ pub record ComponentType (V : Type 0) : Type 1 where
   pub tree : Tree
   -- the trees of what is a record of its own in a SET: the tree, or those of a group's components
   pub parts : Trees
-  -- its records
+  -- its records, and what is read as it
   pub records : V → List Record
+  pub IsReadAs : V → List Record → Type 0
+  pub reads_own : (v : V) → IsReadAs v (records v)
   -- its type is well tagged under this tag
   pub IsWellTagged : Type 0
   -- whether it meets its type's invariant, and whether it is valid
@@ -52,6 +55,8 @@ required name get type = record {
   tree = type.tree;
   parts = more type.tree none;
   records = λ v. type.records (get v);
+  IsReadAs = λ v. type.IsReadAs (get v);
+  reads_own = λ v. type.reads_own (get v);
   IsWellTagged = type.IsWellTagged;
   IsOfType = λ v. type.IsOfType (get v);
   IsValid = λ accepts v. type.IsValid accepts (get v);
@@ -78,6 +83,8 @@ optional_in side name get type = record {
   tree = type.tree;
   parts = more type.tree none;
   records = λ v. option_records side type.tag (option_map type.records (get v));
+  IsReadAs = λ v. IsReadAsOption type.IsReadAs side type.tag (get v);
+  reads_own = λ v. reads_own_option type.IsReadAs type.records type.reads_own side type.tag (get v);
   IsWellTagged = type.IsWellTagged;
   IsOfType = λ v. IfSome (get v) type.IsOfType;
   IsValid = λ accepts v. IfSome (get v) (type.IsValid accepts);
@@ -120,6 +127,8 @@ default_in side name get is_default type = record {
   tree = type.tree;
   parts = more type.tree none;
   records = λ v. default_records side (is_default v) type.tag (type.records (get v));
+  IsReadAs = λ v. IsReadAsDefault type.IsReadAs side type.tag (is_default v) (get v);
+  reads_own = λ v. reads_own_default type.IsReadAs type.records type.reads_own side type.tag (is_default v) (get v);
   IsWellTagged = type.IsWellTagged;
   IsOfType = λ v. is_default v ≡ false → type.IsOfType (get v);
   IsValid = λ accepts v. is_default v ≡ false → type.IsValid accepts (get v);

@@ -1,17 +1,19 @@
 -- The components of a SEQUENCE, a SET or a group, each written once: the records of a value, the rows of the field table,
 -- whether the tags are distinct, and which values are valid follow from them.
 use Rattle.std.specs.Prelude.{◌≡◌, ◌↔◌, ℕ, ⊤, Bool, true, false, List, [], ◌∷◌, ◌++◌, drop, length, map, take, Option, None, Some, refl, if◌then◌else◌}
+use Rattle.std.proofs.lemmas.List.Sorted.{IsPermutation-refl}
 use Rattle.asn1_tags.specs.declared.tags.Tag.{Tag}
 use Rattle.asn1_tags.specs.Trees.{leaf}
 use Rattle.asn1_model.specs.ConstraintSets.{ConstraintSet, unconstrained}
 use Rattle.asn1_model.specs.Kinds.{Inside, scope_type}
 use Rattle.asn1_model.specs.Meaning.{Meaning}
-use Rattle.asn1_model.specs.Records.{Name, Record, Head, in_additions, in_root, sequence as sequence_head, set as set_head, holding}
+use Rattle.asn1_model.specs.Readings.{IsReadInside}
+use Rattle.asn1_model.specs.Records.{Name, Record, Head, in_additions, in_root, sequence as sequence_head, set as set_head, holding, unmarked}
 use Rattle.asn1_model.specs.RecordTables.{Row, Table, no_table}
 use Rattle.asn1_model.specs.Tags.{IsATag, HasOwnTag, universal}
 use Rattle.asn1_fields.specs.CanonicalOrder.{in_order}
 use Rattle.asn1_fields.specs.FieldViews.{FieldView, component_of, row_of}
-use Rattle.asn1_components.specs.ComponentLists.{all_records, views_from, EachIsWellTagged, EachCanBeOn, EachMayBeAbsent, EachIsOfType, EachIsValid, all_well_formed, AreDistinctInSequence, AreDistinctInSet, CanBeInSequence, group_fits, group_of}
+use Rattle.asn1_components.specs.ComponentLists.{AreReadInAnyOrder, AreReadInTurn, all_read_own, all_records, views_from, EachIsWellTagged, EachCanBeOn, EachMayBeAbsent, EachIsOfType, EachIsValid, all_well_formed, AreDistinctInSequence, AreDistinctInSet, CanBeInSequence, group_fits, group_of}
 use Rattle.asn1_components.specs.ComponentTypes.{ComponentType}
 
 -- A SEQUENCE (X.680, 25) or a SET (27); a group is a SEQUENCE here.
@@ -63,6 +65,15 @@ table_of_kind is_set es = in_canonical_order es
 abbrev pub AreDistinctIn : {V : Type 0} → Kind → List (ComponentType V) → Type 0
 AreDistinctIn is_sequence cs = AreDistinctInSequence cs
 AreDistinctIn is_set cs = AreDistinctInSet cs
+
+-- records are read as the components of this kind
+abbrev pub AreReadInKind : {V : Type 0} → Kind → List (ComponentType V) → V → List Record → Type 0
+AreReadInKind is_sequence cs = AreReadInTurn cs
+AreReadInKind is_set cs = AreReadInAnyOrder cs
+
+pub kind_reads_own : {V : Type 0} (kind : Kind) (cs : List (ComponentType V)) (v : V) → AreReadInKind kind cs v (all_records cs v)
+kind_reads_own is_sequence cs v = all_read_own cs v
+kind_reads_own is_set cs v = (all_records cs v, all_read_own cs v, IsPermutation-refl (unmarked (all_records cs v)))
 
 -- the head of a value's record
 abbrev pub head_of_kind : Kind → Tag → Table Row → Name → Head
@@ -117,6 +128,13 @@ module _ {V : Type 0} (components : Components V) where
   abbrev pub component_records : V → List Record
   component_records = all_records all_components
 
+  -- what is read as a value's: of a SEQUENCE in the order of the definition, of a SET in any
+  abbrev pub ComponentsAreRead : V → List Record → Type 0
+  ComponentsAreRead = AreReadInKind components.kind all_components
+
+  pub components_read_own : (v : V) → ComponentsAreRead v (component_records v)
+  components_read_own = kind_reads_own components.kind all_components
+
   -- The rows of the field table: those of the root, and then the additions. The index of each is its index in the
   -- definition.
   abbrev pub root_views : List FieldView
@@ -150,6 +168,8 @@ module _ {V : Type 0} (components : Components V) where
   abbrev pub inside : Inside V
   inside = record {
     records = component_records;
+    AreReadAs = ComponentsAreRead;
+    read_own = components_read_own;
     IsWellTagged = AreWellTagged;
     AreOfType = EachIsOfType all_components;
     AreValid = EachIsValid all_components;
@@ -180,6 +200,8 @@ pub record AgreesWithComponents {V : Type 0} (components : Components V) (m : Me
   pub tree : (t : Tag) → m.tree t ≡ leaf t
   pub records : (v : V) (t : Tag) (c : ConstraintSet) (n : Name) →
       m.records v t c n ≡ holding (head_of_kind components.kind t (rows components) n) (component_records components v) ∷ []
+  pub read : (v : V) (t : Tag) (c : ConstraintSet) (rs : List Record) →
+      m.IsReadAs v t c rs ↔ IsReadInside (ComponentsAreRead components) (head_of_kind components.kind t (rows components)) v rs
   pub single : m.IsSingleRecord
   pub present : (v : V) → m.is_present v ≡ true
   pub distinct_tags : (t : Tag) → m.HasDistinctTags t ↔ (IsATag t × AreWellTagged components)
@@ -192,6 +214,7 @@ pub constructed_agrees : {V : Type 0} {tag : Tag} {name : List ℕ} {components 
 constructed_agrees = record {
   tree = λ _. refl;
   records = λ v t c n. refl;
+  read = λ v t c rs. (λ h. h, λ h. h);
   single = tt;
   present = λ _. refl;
   distinct_tags = λ t. (λ h. h, λ h. h);
@@ -215,6 +238,8 @@ inside_itself name kind table inside =
 abbrev nothing : {V : Type 0} → Inside V
 nothing = record {
   records = λ _. [];
+  AreReadAs = λ _ rs. rs ≡ [];
+  read_own = λ _. refl;
   IsWellTagged = ⊤;
   AreOfType = λ _. ⊤;
   AreValid = λ _ _. ⊤;

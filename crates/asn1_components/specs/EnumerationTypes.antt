@@ -5,7 +5,7 @@ use Rattle.asn1_tags.specs.Trees.{leaf}
 use Rattle.asn1_model.specs.ConstraintSets.{ConstraintSet, unconstrained}
 use Rattle.asn1_model.specs.Kinds.{enumerated_type}
 use Rattle.asn1_model.specs.Meaning.{Meaning}
-use Rattle.asn1_model.specs.Records.{Name, discriminant, scalar}
+use Rattle.asn1_model.specs.Records.{Name, Record, discriminant, scalar}
 use Rattle.asn1_model.specs.Tags.{IsATag, universal}
 use Rattle.asn1_components.specs.Enumerations.{Enumeration, number_of}
 use Rattle.asn1_components.specs.Labels.{labels_of}
@@ -23,6 +23,8 @@ pub record AgreesWithEnumeration {V : Type 0} (eq : V → V → Bool) (enumerati
   pub tree : (t : Tag) → m.tree t ≡ leaf t
   pub records : (v : V) (t : Tag) (c : ConstraintSet) (n : Name) →
       m.records v t c n ≡ scalar t unconstrained n (discriminant (labels_of enumeration) (number_of eq enumeration v)) ∷ []
+  pub read : (v : V) (t : Tag) (c : ConstraintSet) (rs : List Record) →
+      m.IsReadAs v t c rs ↔ ((n : Name) × (rs ≡ scalar t unconstrained n (discriminant (labels_of enumeration) (number_of eq enumeration v)) ∷ []))
   pub single : m.IsSingleRecord
   pub present : (v : V) → m.is_present v ≡ true
   pub distinct_tags : (t : Tag) → m.HasDistinctTags t ↔ IsATag t
@@ -35,6 +37,7 @@ pub enumeration_agrees : {V : Type 0} {name : List ℕ} {enumeration : Enumerati
 enumeration_agrees = record {
   tree = λ _. refl;
   records = λ v t c n. refl;
+  read = λ v t c rs. (λ h. h, λ h. h);
   single = tt;
   present = λ _. refl;
   distinct_tags = λ _. (λ h. h, λ h. h);

@@ -1,4 +1,5 @@
 pub mod ArcsOfOctets
+pub mod CharactersOfOctets
 pub mod Days
 pub mod DayTimes
 pub mod NumbersOfArcs

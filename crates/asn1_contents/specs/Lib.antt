@@ -5,3 +5,4 @@ pub mod Digits
 pub mod Reals
 pub mod RelativeOids
 pub mod TimesOfDay
+pub mod UniversalStrings

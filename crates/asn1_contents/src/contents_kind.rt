@@ -56,6 +56,8 @@ impl<K: ContentsKind> StringType<u8> for ContentsOf<K> {
 }
 
 impl<K: ContentsKind> CodecString<u8> for ContentsOf<K> {
+    ghost use Rattle.asn1_types.specs.AnyStrings.{as_they_are};
+
     type Owned = ContentsString<K>;
 
     ghost own_kind = { kinds.Octets octets.OctetString };
@@ -88,4 +90,6 @@ impl<K: ContentsKind> CodecString<u8> for ContentsOf<K> {
     ghost reads_own = { λ _ _. refl };
 
     ghost reads_content = { λ _. refl };
+
+    ghost spellings = { λ x list _ read. as_they_are _ x list read };
 }

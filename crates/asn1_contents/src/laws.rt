@@ -3,11 +3,13 @@ ghost use Rattle.std.specs.Prelude.{◌≡◌, ◌↔◌, ◌⊎◌, [], Bool, I
 ghost use Rattle.std.specs.Cmp.Lexicographic.{pointwise, slice_cmp, slice_partial_cmp};
 ghost use Rattle.std.specs.Hash as fed;
 ghost use Rattle.std.specs.Int.Digits.{AllBelowBase};
+ghost use Rattle.std.specs.String.{string_bytes};
 ghost use Rattle.asn1_contents.specs.Dates.{IsDate, is_date};
 ghost use Rattle.asn1_contents.specs.DateTimes.{IsDateTime, is_date_time};
 ghost use Rattle.asn1_contents.specs.Reals.{IsReal, is_real};
 ghost use Rattle.asn1_contents.specs.RelativeOids.{IsRelativeOid, is_relative_oid};
 ghost use Rattle.asn1_contents.specs.TimesOfDay.{IsTimeOfDay, is_time_of_day};
+ghost use Rattle.asn1_contents.specs.UniversalStrings.{IsUniversalString, is_universal_string};
 ghost use Rattle.asn1_model.specs.ConstraintSets.{unconstrained};
 ghost use Rattle.asn1_model.specs.Meaning.{HasOwn, IsWellTagged};
 ghost use Rattle.asn1_model.specs.Tags.{universal};
@@ -20,6 +22,7 @@ use crate::date_time::DateTime;
 use crate::real::Real;
 use crate::relative_oid::{RelativeOid, RelativeOidError};
 use crate::time_of_day::TimeOfDay;
+use crate::universal_string::UniversalString;
 use asn1_model::AsnType;
 use asn1_values::StringUnit;
 use std::alloc::{AllocError, Global};
@@ -54,6 +57,15 @@ pub fn relative_oids_are_their_arcs(
     u32::units_are_in_range(arcs);
     let own = RelativeOid::from_arcs(alloc, arcs)?;
     own.arcs(alloc)
+}
+
+/// A law of UniversalString: the text of one that was made of a text is this one, unless memory runs out.
+pub fn universal_strings_are_their_texts(alloc: Global, text: &str) -> Result<String, AllocError>
+    ensures { IfOk result (λ own. string_bytes own ≡ text.now) }
+{
+    let own = UniversalString::from_text(alloc, text)?;
+    let read = own.text(alloc)?;
+    Ok(read)
 }
 
 /// A law of DATE-TIME: the date and the time of one that was made of these are these, unless memory runs out.
@@ -141,6 +153,20 @@ pub fn date_times_have_the_tag_of_the_standard()
         IsTrue (is_date_time octets) }
 {}
 
+/// A law of UniversalString: it can be inside other types, and each value is valid; its tag is that of X.680 (8.4, table 1), its name its
+/// keyword, and its values are the octets of X.690, 8.23.7.
+pub fn universal_strings_have_the_tag_of_the_standard()
+    ensures is_well_tagged { IsWellTagged ⟦<UniversalString as AsnType>⟧.meaning }
+    ensures valid { (accepts : List ℕ → Bool) (octets : List ℕ) →
+        ⟦<UniversalString as AsnType>⟧.meaning.IsValid accepts octets }
+    ensures own { HasOwn ⟦<UniversalString as AsnType>⟧.meaning (universal 28) unconstrained
+        (Some (codes "UniversalString")) }
+    ensures of_type { (octets : List ℕ) → IsTrue (is_universal_string octets) →
+        ⟦<UniversalString as AsnType>⟧.meaning.IsOfType octets }
+    ensures only { (octets : List ℕ) → ⟦<UniversalString as AsnType>⟧.meaning.IsOfType octets →
+        IsTrue (is_universal_string octets) }
+{}
+
 /// A law of RELATIVE-OID: octets are those of a value if and only if they are one arc or more to the base 128.
 pub fn octets_of_relative_oids_are_arcs()
     ensures { (octets : List ℕ) → AllBelowBase 256 octets →
@@ -166,4 +192,11 @@ pub fn octets_of_times_are_their_digits()
 /// A law of DATE-TIME: octets are those of a value if and only if they are the digits of a date and of a time.
 pub fn octets_of_date_times_are_their_digits()
     ensures { (octets : List ℕ) → IsTrue (is_date_time octets) ↔ IsDateTime octets }
+{}
+
+/// A law of UniversalString: octets are those of a value if and only if they are the numbers of characters of ISO/IEC 10646, four octets
+/// each.
+pub fn octets_of_universal_strings_are_characters()
+    ensures { (octets : List ℕ) → AllBelowBase 256 octets →
+        IsTrue (is_universal_string octets) ↔ IsUniversalString octets }
 {}

@@ -1,7 +1,7 @@
 //! Examples of X.690, and octets that Erlang's compiler wrote in DER.
 use crate::{
     ContentsKind, ContentsString, Date, DateTime, Real, RelativeOid, RelativeOidError, SpecialReal,
-    TimeOfDay,
+    TimeOfDay, UniversalString,
 };
 use std::alloc::Global;
 use std::process::Abort;
@@ -121,4 +121,30 @@ fn decimal_reals_are_in_the_normal_form(rt: HostRuntime) {
     // 8.5.9.
     let real = Real::from_special(alloc, SpecialReal::NotANumber).expect(&rt, "memory");
     assert!(&rt; real.as_slice() == [0x42].as_slice());
+}
+
+/// A UniversalString of this text has these octets, and is this text.
+fn assert_text(rt: &impl Abort, alloc: Global, text: &str, octets: &[u8]) {
+    let made = UniversalString::from_text(alloc, text).expect(rt, "memory");
+    assert!(rt; made.as_slice() == octets);
+    assert!(rt; made.text(alloc).expect(rt, "memory").as_str() == text);
+    assert!(rt; made.characters(alloc).expect(rt, "memory").len() == octets.len() / 4);
+}
+
+#[test]
+fn universal_strings_have_four_octets_for_each_character(rt: HostRuntime) {
+    let alloc = rt.alloc();
+    // Erlang's compiler wrote "Aé😀" so.
+    let octets = [0, 0, 0, 0x41, 0, 0, 0, 0xe9, 0, 1, 0xf6, 0];
+    assert_text(&rt, alloc, "Aé😀", &octets);
+    assert_text(&rt, alloc, "", &[]);
+    // UTF-8; half of a surrogate pair; a number above the last character; a part of a character.
+    for octets in [
+        b"A".as_slice(),
+        &[0, 0, 0xd8, 0],
+        &[0, 0x11, 0, 0],
+        &[0, 0, 0, 0x41, 0, 0],
+    ] {
+        assert!(&rt; !is_value::<crate::UniversalCharacters>(&rt, alloc, octets));
+    }
 }

@@ -1,5 +1,5 @@
 -- The answers of reading octets.
-use Rattle.std.proofs.Common.{◌≡◌, ℕ, Bool, List, Result, subst}
+use Rattle.std.proofs.Common.{◌≡◌, ℕ, Bool, List, Result, subst, sym}
 use Rattle.std.specs.Prelude.{Vec}
 use Rattle.std.specs.declared.alloc.Global.{Global}
 use Rattle.asn1_bench.specs.WrittenItems.{written_items}
@@ -12,6 +12,7 @@ use Rattle.asn1_laws.specs.Refusals.{Refusals}
 use Rattle.asn1_laws.specs.declared.decode_error.DecodeError.{DecodeError}
 use Rattle.asn1_model.specs.Meaning.{Meaning, own_records}
 use Rattle.asn1_model.specs.Records.{Record}
+use Rattle.asn1_rules.proofs.Readings.{answer_is_read_too}
 use Rattle.asn1_rules.specs.CanonicalReading.{MayAnswer}
 use Rattle.asn1_convert.specs.Conversions.{MayBeRead}
 use Rattle.asn1_convert.specs.Forms.{format_of}
@@ -30,4 +31,5 @@ pub may_be_read : {V : Type 0} (m : Meaning V) (eq : V → V → Bool) (refusals
 may_be_read m eq refusals depth from own answer may input same = record {
   read = λ v tagged of_type valid carries. may.read v tagged of_type valid (carried from input own same (own_records m v) carries);
   refuses = λ rs e refused formed carries. may.refuses rs e refused formed (carried from input own same rs carries);
+  only = answer_is_read_too ((format_of from).carries own) ((format_of from).carries input) m (λ rs carries. carried from own input (sym same) rs carries) answer may.only;
 }

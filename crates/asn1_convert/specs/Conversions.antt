@@ -30,7 +30,7 @@ pub record IsLineOfDocument (line : List ℕ) : Type 0 where
 
 module _ {V : Type 0} (m : Meaning V) (eq : V → V → Bool) (refusals : Refusals) (depth : ℕ) where
   -- Reading these octets may give this answer. If they carry a valid value of a well-tagged type it is an equal one, and if they carry
-  -- records that the type refuses it is no value.
+  -- records that the type refuses it is no value. Whatever they are, a value is one that was read of them.
   abbrev pub MayBeRead : CodecForm → List ℕ → Result V DecodeError → Type 0
   MayBeRead from octets answer = (input : Vec ℕ Global) → input.items ≡ octets → MayAnswer (format_of from) m eq refusals depth input answer
 

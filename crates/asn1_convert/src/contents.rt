@@ -1,5 +1,6 @@
 //! Elements that no value of a type has, by X.690.
 
+use asn1_contents::{ContentsKind, UniversalCharacters};
 use asn1_der_items::Element;
 use asn1_paths::ElementTags;
 use asn1_tags::Tag;
@@ -94,6 +95,9 @@ fn primitive_fault(tags: ElementTags, contents: &[u8]) -> Option<&'static str> {
         Tag::UTF8_STRING if !is_utf8(tags.own, contents) => Some(
             "the contents are no UTF-8 (X.690, 8.23.10)",
         ),
+        Tag::UNIVERSAL_STRING if !UniversalCharacters::allows(contents) => Some(
+            "the contents of a UniversalString are no characters, four octets each (X.690, 8.23.7)",
+        ),
         Tag::BMP_STRING if contents.len() % 2 == 1 => Some(
             "the contents of a BMPString are an odd number of octets (X.690, 8.23.8)",
         ),
@@ -118,7 +122,7 @@ fn ends_a_number(contents: &[u8]) -> bool {
     }
 }
 
-/// Whether octets are UTF-8, where the type with this tag is a UTF8String. A UniversalString is one under another tag here.
+/// Whether octets are UTF-8, where the type with this tag is a UTF8String. The UniversalString of asn1_schema is one under another tag.
 fn is_utf8(own: Tag, contents: &[u8]) -> bool {
     own == Tag::UNIVERSAL_STRING || str::from_utf8(contents).is_ok()
 }

@@ -1,7 +1,9 @@
 //! A CHOICE under whatever tag.
 ghost use Rattle.asn1_laws.specs.Reading.{KeepsDepth, NeedsDepth, ReadsValue};
+ghost use Rattle.asn1_laws.specs.ReadingExactly.{HasReadChoiceAfterTag, HasReadValue};
 ghost use Rattle.asn1_laws.specs.TaggedChoices.{ReadsAfterTag};
 ghost use Rattle.asn1_model.specs.ConstraintSets.{constraint_set};
+ghost use Rattle.std.specs.Prelude.{IfOk};
 
 use crate::decode::DecodeChoice;
 use crate::decoder::Decoder;
@@ -15,6 +17,8 @@ use asn1_tags::Tag;
 fn read_after_tag<T: DecodeChoice, D: Decoder>(decoder: &mut D, tag: Tag) -> Result<T, DecodeError>
     ensures read { ReadsAfterTag D.reader tag T.meaning.constraints T.meaning.name T.alternatives
         T.pick T.eq decoder.old decoder.new result }
+    ensures only { IfOk result (HasReadChoiceAfterTag D.reader decoder.old decoder.new tag
+        T.meaning.constraints T.alternatives T.pick) }
     ensures depth_first { NeedsDepth D.reader decoder.old result }
     ensures keeps_depth { KeepsDepth D.reader decoder.old decoder.new result }
 {
@@ -37,6 +41,8 @@ pub(crate) fn read_choice<T: DecodeChoice + ChoiceType, D: Decoder>(
 ) -> Result<T, DecodeError>
     ensures read { ReadsValue D.reader T.meaning T.eq tag (constraint_set constraints.now)
         decoder.old decoder.new result }
+    ensures only { IfOk result (HasReadValue D.reader decoder.old decoder.new T.meaning tag
+        (constraint_set constraints.now)) }
     ensures depth_first { NeedsDepth D.reader decoder.old result }
     ensures keeps_depth { KeepsDepth D.reader decoder.old decoder.new result }
 {

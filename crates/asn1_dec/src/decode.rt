@@ -3,10 +3,11 @@ ghost use Rattle.asn1_components.specs.Alternatives.{Each, all_of};
 ghost use Rattle.asn1_components.specs.ChosenTags.{LacksTag};
 ghost use Rattle.asn1_laws.specs.DecodeErrors.{no_memory, no_valid_choice, reason};
 ghost use Rattle.asn1_laws.specs.Reading.{AfterReading, AfterReadingWithOwnConstraints, ReadsValue, Refuses};
+ghost use Rattle.asn1_laws.specs.ReadingExactly.{HasReadAlternative, HasReadFields, HasReadValue};
 ghost use Rattle.asn1_laws.specs.ReadingTypes.{ReadsAlternative, ReadsFields};
 ghost use Rattle.asn1_laws.specs.Refusals.{Refusals, no_refusals};
 ghost use Rattle.asn1_model.specs.ConstraintSets.{constraint_set};
-ghost use Rattle.std.specs.Prelude.{◌≡◌, ◌≢◌, OnOk, [], unwrap_or};
+ghost use Rattle.std.specs.Prelude.{◌≡◌, ◌≢◌, IfOk, OnOk, [], unwrap_or};
 ghost use Rattle.std.specs.Result.{IsErrAnd};
 
 use crate::decoder::Decoder;
@@ -22,6 +23,9 @@ use asn1_tags::Tag;
 /// any name, the answer is an equal value, and what follows remains to be read. It fails there only if memory runs out,
 /// or where the records are nested deeper than the depth left. An entry point takes the type's own tag or constraints if it is not given
 /// one. The records after a value that may be absent, as an `Option`, begin with none of the type's tags.
+///
+/// After a success what was read is read as the answer (`only`), and nothing else was: the value's own records, or others that say
+/// the same to a reader, as the type's meaning has it (`IsReadAs`).
 ///
 /// A success keeps the depth left, and does not make the decoder failed. An error either does, or is the type's own,
 /// which is neither [`DecodeError::Depth`] nor [`DecodeError::Failed`]: then the decoder has not failed, the depth left is as it
@@ -49,7 +53,9 @@ pub trait Decode: AsnType + Eq + Sized + Drop {
         ensures after_reading { AfterReading D.reader Self.meaning tag
             (constraint_set constraints.now) decoder.old decoder.new result }
         ensures refuses { Refuses D.reader refusals tag (constraint_set constraints.now) decoder.old
-            decoder.new result };
+            decoder.new result }
+        ensures only { IfOk result (HasReadValue D.reader decoder.old decoder.new Self.meaning tag
+            (constraint_set constraints.now)) };
 
     /// Reads a value under the type's own tag and constraints. The error is [`DecodeError::Memory`] if memory runs
     /// out for these.
@@ -61,6 +67,8 @@ pub trait Decode: AsnType + Eq + Sized + Drop {
             Self.meaning.tag decoder.old decoder.new result }
         ensures refuses { Refuses D.reader refusals Self.meaning.tag Self.meaning.constraints
             decoder.old decoder.new result }
+        ensures only { IfOk result (HasReadValue D.reader decoder.old decoder.new Self.meaning
+            Self.meaning.tag Self.meaning.constraints) }
     {
         let table = Self::table();
         let constraints = table.constraints.to_constraints(decoder.global())?;
@@ -76,6 +84,8 @@ pub trait Decode: AsnType + Eq + Sized + Drop {
             decoder.new result }
         ensures refuses { Refuses D.reader refusals tag Self.meaning.constraints decoder.old
             decoder.new result }
+        ensures only { IfOk result (HasReadValue D.reader decoder.old decoder.new Self.meaning tag
+            Self.meaning.constraints) }
     {
         let constraints = Self::constraints(decoder.global())?;
         Self::decode_with_tag_and_constraints(decoder, tag, &constraints)
@@ -93,6 +103,8 @@ pub trait Decode: AsnType + Eq + Sized + Drop {
             (constraint_set constraints.now) decoder.old decoder.new result }
         ensures refuses { Refuses D.reader refusals Self.meaning.tag
             (constraint_set constraints.now) decoder.old decoder.new result }
+        ensures only { IfOk result (HasReadValue D.reader decoder.old decoder.new Self.meaning
+            Self.meaning.tag (constraint_set constraints.now)) }
     {
         Self::decode_with_tag_and_constraints(decoder, Self::tag(), constraints)
     }
@@ -104,6 +116,8 @@ pub trait DecodeFields: FieldTable + Eq + Sized + Drop {
     /// nothing is promised about the decoder, until the caller makes it failed ([`Decoder::refuse`]).
     fn decode_fields<D: Decoder>(decoder: &mut D) -> Result<Self, DecodeError>
         ensures read { ReadsFields D.reader Self.components Self.eq decoder.old decoder.new result }
+        ensures only { IfOk result (HasReadFields D.reader decoder.old decoder.new
+            Self.components) }
         ensures same_depth { OnOk result (D.reader.depth_left decoder.new ≡
             D.reader.depth_left decoder.old) };
 }
@@ -116,6 +130,8 @@ pub trait DecodeChoice: AsnType + Choice + Eq + Sized + Drop {
     fn from_tag<D: Decoder>(decoder: &mut D, tag: Tag) -> Result<Self, DecodeError>
         ensures read { ReadsAlternative D.reader tag Self.alternatives Self.pick Self.eq
             decoder.old decoder.new result }
+        ensures only { IfOk result (HasReadAlternative D.reader decoder.old decoder.new
+            Self.alternatives Self.pick) }
         ensures unknown { Each (LacksTag tag) (all_of Self.alternatives) →
             IsErrAnd result (λ e. reason e ≢ no_memory →
             reason e ≡ no_valid_choice (unwrap_or Self.meaning.name [])) }

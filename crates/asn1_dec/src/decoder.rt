@@ -1,21 +1,23 @@
 //! The calls with which a codec reads.
+ghost use Rattle.asn1_components.specs.Alternatives.{table_of};
 ghost use Rattle.asn1_components.specs.ComponentLists.{trees_of};
 ghost use Rattle.asn1_components.specs.Components.{all_components, is_sequence, is_set, rows};
 ghost use Rattle.asn1_laws.specs.Defaults.{MayAnswer};
 ghost use Rattle.asn1_laws.specs.GivenTypes.{as_it_is, given, given_after_tag, with_constraints, with_tag};
 ghost use Rattle.asn1_laws.specs.Reading.{AfterReading, GivesDepthBack, IsLawful, KeepsDepth, NeedsDepth, OpensNothing, TakesDepth, Reader, ReadsEnd, ReadsHead, ReadsHeadOfSet, ReadsMark, ReadsValue, TellsMore, TellsNextTag, TellsPresence, records_in};
+ghost use Rattle.asn1_laws.specs.ReadingExactly.{HasClosed, HasOpenedChoice, HasOpenedNamed, HasRead, HasReadChoice, HasReadComponents, HasReadContent, HasReadDefault, HasReadGiven, HasReadGroup, HasReadList, HasReadMark, HasReadMarks, HasReadOpenType, HasReadOptional, HasReadSpelling, HasReadValue};
 ghost use Rattle.asn1_laws.specs.ReadingTypes.{Reads, ReadsChoice, ReadsComponents, ReadsContent, ReadsDefault, ReadsElements, ReadsGroup, ReadsHeadOfChoice, ReadsOpenType, ReadsOptional};
 ghost use Rattle.asn1_laws.specs.SetParts.{CanBeInSet};
 ghost use Rattle.asn1_components.specs.Enumerations.{number_of};
 ghost use Rattle.asn1_components.specs.Labels.{HasNumber, labels_of};
 ghost use Rattle.asn1_model.specs.ConstraintSets.{ConstraintSet, constraint_set, unconstrained};
-ghost use Rattle.asn1_model.specs.Records.{Name, absent, arcs, bits, bmp, discriminant, general, graphic, group_absent, group_end, group_start, ia5, in_additions, in_root, null, number, numeric, octet, explicit_tag, present, printable, sequence, sequence_of, set, set_of, teletex, boolean, units, utf8, visible};
+ghost use Rattle.asn1_model.specs.Records.{Name, absent, arcs, bits, bmp, discriminant, general, graphic, group_absent, group_end, group_start, ia5, in_additions, in_root, null, number, numeric, octet, explicit_tag, present, presence_mark, printable, sequence, sequence_of, set, set_of, teletex, boolean, units, utf8, visible};
 ghost use Rattle.asn1_model.specs.Tags.{tree_tags};
 ghost use Rattle.asn1_tags.specs.Trees.{choice, shape};
 ghost use Rattle.asn1_tags.specs.declared.tags.Tag.{Tag};
 ghost use Rattle.asn1_values.specs.Alphabets.{is_ia5, is_numeric, is_printable, is_visible};
 ghost use Rattle.std.specs.Cmp.Lexicographic.{pointwise};
-ghost use Rattle.std.specs.Prelude.{◌≡◌, ◌≤◌, ◌<◌, ◌^◌, ⊤, All, IsTrue, true};
+ghost use Rattle.std.specs.Prelude.{◌≡◌, ◌≤◌, ◌<◌, ◌^◌, ◌∷◌, [], ⊤, All, IfOk, IsTrue, OnOk, true};
 ghost use Rattle.std.specs.Str.{IsUtf8};
 ghost use Rattle.std.specs.String.{string_bytes};
 
@@ -50,7 +52,8 @@ use std::alloc::{AllocError, Global};
 ///
 /// The calls before the law are a codec's own. The records left of each open list remain to be read. A call answers the content
 /// of the records that it is for, and then the records after them remain; or it fails because memory ran out, or because it opens
-/// a scope and no depth is left. No contract covers other records. A call that fails makes
+/// a scope and no depth is left. After a success these records were read and nothing else (`only`): wherever lists remain now, the
+/// same lists remained before with these records in front. The codec decides of which other records a call succeeds. A call that fails makes
 /// the decoder failed, and a decoder that has failed answers [`DecodeError::Failed`]. [`DecodeError::Depth`] comes only from
 /// opening a scope where no depth is left, and is answered there before anything else but `Failed`.
 ///
@@ -78,12 +81,15 @@ pub trait Decoder: Sized {
     fn decode_bool(&mut self, tag: Tag) -> Result<bool, DecodeError>
         ensures read { ReadsContent reader tag unconstrained boolean (λ _. ⊤) (λ w v. w ≡ v)
             self.old self.new result }
+        ensures only { IfOk result (λ w. HasReadContent reader self.old self.new tag unconstrained
+            (boolean w)) }
         ensures opens_nothing { OpensNothing reader self.old self.new result };
 
     /// A NULL.
     fn decode_null(&mut self, tag: Tag) -> Result<(), DecodeError>
         ensures read { ReadsContent reader tag unconstrained (λ _. null) (λ _. ⊤) (λ w v. w ≡ v)
             self.old self.new result }
+        ensures only { OnOk result (HasReadContent reader self.old self.new tag unconstrained null) }
         ensures opens_nothing { OpensNothing reader self.old self.new result };
 
     /// The number of a value of an ENUMERATED type, which is its content. The table of `E` tells the codec which numbers there
@@ -94,12 +100,16 @@ pub trait Decoder: Sized {
     ) -> Result<isize, DecodeError>
         ensures read { ReadsContent reader tag unconstrained (discriminant E.labels)
             (HasNumber E.labels) (λ w z. w ≡ z) self.old self.new result }
+        ensures only { IfOk result (λ w. HasReadContent reader self.old self.new tag unconstrained
+            (discriminant E.labels w)) }
         ensures opens_nothing { OpensNothing reader self.old self.new result };
 
     /// An OBJECT IDENTIFIER.
     fn decode_object_identifier(&mut self, tag: Tag) -> Result<ObjectIdentifier, DecodeError>
         ensures read { ReadsContent reader tag unconstrained arcs (All (λ arc. arc < 2 ^ 32))
             (λ w v. w ≡ v) self.old self.new result }
+        ensures only { IfOk result (λ w. HasReadContent reader self.old self.new tag unconstrained
+            (arcs w)) }
         ensures opens_nothing { OpensNothing reader self.old self.new result };
 
     /// An INTEGER, as a value of any type of whole numbers that has it.
@@ -110,6 +120,8 @@ pub trait Decoder: Sized {
     ) -> Result<I, DecodeError>
         ensures read { ReadsContent reader tag (constraint_set constraints.now) number I.fits
             (λ w z. I.number w ≡ z) self.old self.new result }
+        ensures only { IfOk result (λ w. HasReadContent reader self.old self.new tag
+            (constraint_set constraints.now) (number (I.number w))) }
         ensures opens_nothing { OpensNothing reader self.old self.new result };
 
     /// A string of the kind `K`. The kind says what its units are ([`CodecString::kind`]), and makes the answer of the string that
@@ -121,45 +133,56 @@ pub trait Decoder: Sized {
     ) -> Result<K::Owned, DecodeError>
         ensures read { ReadsContent reader tag (constraint_set constraints.now) K.content
             K.AreOfKind (λ w v. K.units_in w ≡ v) self.old self.new result }
+        ensures only { IfOk result (λ w. HasReadSpelling reader self.old self.new tag
+            (constraint_set constraints.now) K.content (λ list. K.units_read list ≡ K.units_in w)) }
         ensures opens_nothing { OpensNothing reader self.old self.new result };
 
     /// A value of an open type, by its bytes, under whatever tag.
     fn decode_any(&mut self, tag: Tag) -> Result<Any, DecodeError>
         ensures read { ReadsOpenType reader (λ w bytes. w ≡ bytes) self.old self.new result }
+        ensures only { IfOk result (HasReadOpenType reader self.old self.new) }
         ensures opens_nothing { OpensNothing reader self.old self.new result };
 
     /// Whether the component of the root is there that is written under this tag, and begins with a tag of the tree. A codec
-    /// without presence marks looks at the next tag; where it does not know the end of the outermost list, no outermost
-    /// list that has marks ever remains.
+    /// without presence marks looks at the next tag.
     fn presence(&mut self, tag: Tag, tree: TagTree<'static>) -> Result<bool, DecodeError>
         ensures read { TellsPresence reader self.old self.new (present in_root tag)
             (absent in_root tag) (tree_tags (shape tree.entry)) result }
+        ensures only { IfOk result (HasReadMark reader self.old self.new (present in_root tag)
+            (absent in_root tag)) }
         ensures opens_nothing { OpensNothing reader self.old self.new result };
 
-    /// The same of an addition, which some codecs write in another way. The rule of `presence` on the outermost list holds here too.
+    /// The same of an addition, which some codecs write in another way.
     fn addition_presence(&mut self, tag: Tag, tree: TagTree<'static>) -> Result<bool, DecodeError>
         ensures read { TellsPresence reader self.old self.new (present in_additions tag)
             (absent in_additions tag) (tree_tags (shape tree.entry)) result }
+        ensures only { IfOk result (HasReadMark reader self.old self.new (present in_additions tag)
+            (absent in_additions tag)) }
         ensures opens_nothing { OpensNothing reader self.old self.new result };
 
     /// Whether the group of additions is there whose components are those of the table of `C`. If it is, its components then
-    /// remain to be read. A group is no scope, and takes nothing from the depth left. The rule of `presence` on the
-    /// outermost list holds here too.
+    /// remain to be read. A group is no scope, and takes nothing from the depth left.
     fn open_group<C: FieldTable>(&mut self) -> Result<bool, DecodeError>
         ensures read { TellsPresence reader self.old self.new (group_start (rows C.components))
             (group_absent (rows C.components))
             (tree_tags (choice (trees_of (all_components C.components)))) result }
+        ensures only { IfOk result (HasReadMark reader self.old self.new
+            (group_start (rows C.components)) (group_absent (rows C.components))) }
         ensures opens_nothing { OpensNothing reader self.old self.new result };
 
     /// Closes a group of which all components were read.
     fn close_group(&mut self) -> Result<(), DecodeError>
         ensures read { ReadsMark reader self.old self.new group_end result }
+        ensures only { OnOk result (HasRead reader self.old self.new
+            (presence_mark group_end ∷ [])) }
         ensures opens_nothing { OpensNothing reader self.old self.new result };
 
     /// Opens a SEQUENCE, whose components are those of the table of `C`.
     fn open_sequence<C: FieldTable>(&mut self, tag: Tag) -> Result<(), DecodeError>
         ensures read { ReadsHead reader self.old self.new (sequence tag (rows C.components))
             (λ _ _. ⊤) result }
+        ensures only { OnOk result (HasOpenedNamed reader self.old self.new
+            (sequence tag (rows C.components))) }
         ensures takes_depth { TakesDepth reader self.old self.new result };
 
     /// Opens a SET, whose components are those of the table of `C`, and come in any order. Answers a bound on the number of its
@@ -167,6 +190,8 @@ pub trait Decoder: Sized {
     fn open_set<C: FieldTable>(&mut self, tag: Tag) -> Result<usize, DecodeError>
         ensures read { ReadsHeadOfSet reader self.old self.new (set tag (rows C.components))
             (λ items bound. records_in items ≤ bound) result }
+        ensures only { OnOk result (HasOpenedNamed reader self.old self.new
+            (set tag (rows C.components))) }
         ensures takes_depth { TakesDepth reader self.old self.new result };
 
     /// A tag of the component of the next record of a SET, if one is left. Presence marks before it are passed over. It is asked
@@ -175,6 +200,7 @@ pub trait Decoder: Sized {
         ensures read { (tag : Tag) (n : Name) → CanBeInSet (all_components C.components) →
             TellsNextTag reader self.old self.new (set tag (rows C.components) n)
             (all_components C.components) result }
+        ensures only { OnOk result (HasReadMarks reader self.old self.new) }
         ensures opens_nothing { OpensNothing reader self.old self.new result };
 
     /// Opens a SEQUENCE OF, and answers a bound on the number of its elements.
@@ -186,6 +212,8 @@ pub trait Decoder: Sized {
         ensures read { ReadsHead reader self.old self.new
             (sequence_of tag (constraint_set constraints.now))
             (λ items bound. records_in items ≤ bound) result }
+        ensures only { OnOk result (HasOpenedNamed reader self.old self.new
+            (sequence_of tag (constraint_set constraints.now))) }
         ensures takes_depth { TakesDepth reader self.old self.new result };
 
     /// Opens a SET OF, whose elements come in any order, and answers a bound on their number.
@@ -193,28 +221,35 @@ pub trait Decoder: Sized {
         ensures read { ReadsHeadOfSet reader self.old self.new
             (set_of tag (constraint_set constraints.now)) (λ items bound. records_in items ≤ bound)
             result }
+        ensures only { OnOk result (HasOpenedNamed reader self.old self.new
+            (set_of tag (constraint_set constraints.now))) }
         ensures takes_depth { TakesDepth reader self.old self.new result };
 
     /// Opens what follows an explicit tag.
     fn open_explicit_prefix(&mut self, tag: Tag) -> Result<(), DecodeError>
         ensures read { ReadsHead reader self.old self.new (explicit_tag tag) (λ _ _. ⊤) result }
+        ensures only { OnOk result (HasOpenedNamed reader self.old self.new (explicit_tag tag)) }
         ensures takes_depth { TakesDepth reader self.old self.new result };
 
     /// Opens a CHOICE, whose alternatives are those of `T`, which can be told apart, and answers a tag of the chosen one.
     fn open_choice<T: Choice>(&mut self, constraints: &Constraints<'_>) -> Result<Tag, DecodeError>
         ensures read { ReadsHeadOfChoice reader (constraint_set constraints.now) T.alternatives
             self.old self.new result }
+        ensures only { OnOk result (HasOpenedChoice reader self.old self.new
+            (constraint_set constraints.now) (table_of T.alternatives)) }
         ensures takes_depth { TakesDepth reader self.old self.new result };
 
     /// Whether a record is left in the innermost scope. Reads nothing. It is asked inside a scope: at the outermost list a codec
     /// need not know whether all was read.
     fn more(&mut self) -> Result<bool, DecodeError>
         ensures read { TellsMore reader self.old self.new result }
+        ensures only { OnOk result (HasRead reader self.old self.new []) }
         ensures opens_nothing { OpensNothing reader self.old self.new result };
 
     /// Closes the innermost scope, of which all was read.
     fn close(&mut self) -> Result<(), DecodeError>
         ensures read { ReadsEnd reader self.old self.new result }
+        ensures only { OnOk result (HasClosed reader self.old self.new) }
         ensures gives_depth_back { GivesDepthBack reader self.old self.new result };
 
     // The law of a codec.
@@ -228,6 +263,8 @@ pub trait Decoder: Sized {
     ) -> Result<BitString, DecodeError>
         ensures read { ReadsContent reader tag (constraint_set constraints.now) bits (λ _. ⊤)
             (λ w v. w ≡ v) self.old self.new result }
+        ensures only { IfOk result (λ w. HasReadContent reader self.old self.new tag (constraint_set
+            constraints.now) (bits w)) }
         ensures opens_nothing { OpensNothing reader self.old self.new result }
     {
         self.decode_string::<bool, Bits>(tag, constraints)
@@ -241,6 +278,8 @@ pub trait Decoder: Sized {
     ) -> Result<Vec<u8>, DecodeError>
         ensures read { ReadsContent reader tag (constraint_set constraints.now) (units octet)
             (All (λ unit. unit < 2 ^ 8)) (λ w v. w.items ≡ v) self.old self.new result }
+        ensures only { IfOk result (λ w. HasReadContent reader self.old self.new tag (constraint_set
+            constraints.now) (units octet w.items)) }
         ensures opens_nothing { OpensNothing reader self.old self.new result }
     {
         self.decode_string::<u8, Octets>(tag, constraints)
@@ -254,6 +293,8 @@ pub trait Decoder: Sized {
     ) -> Result<String, DecodeError>
         ensures read { ReadsContent reader tag (constraint_set constraints.now) (units utf8) IsUtf8
             (λ w v. string_bytes w ≡ v) self.old self.new result }
+        ensures only { IfOk result (λ w. HasReadContent reader self.old self.new tag (constraint_set
+            constraints.now) (units utf8 (string_bytes w))) }
         ensures opens_nothing { OpensNothing reader self.old self.new result }
     {
         self.decode_string::<u8, Utf8>(tag, constraints)
@@ -267,6 +308,8 @@ pub trait Decoder: Sized {
     ) -> Result<GeneralString, DecodeError>
         ensures read { ReadsContent reader tag (constraint_set constraints.now) (units general)
             (All (λ unit. unit < 2 ^ 8)) (λ w v. w ≡ v) self.old self.new result }
+        ensures only { IfOk result (λ w. HasReadContent reader self.old self.new tag (constraint_set
+            constraints.now) (units general w)) }
         ensures opens_nothing { OpensNothing reader self.old self.new result }
     {
         self.decode_string::<u8, General>(tag, constraints)
@@ -280,6 +323,8 @@ pub trait Decoder: Sized {
     ) -> Result<GraphicString, DecodeError>
         ensures read { ReadsContent reader tag (constraint_set constraints.now) (units graphic)
             (All (λ unit. unit < 2 ^ 8)) (λ w v. w ≡ v) self.old self.new result }
+        ensures only { IfOk result (λ w. HasReadContent reader self.old self.new tag (constraint_set
+            constraints.now) (units graphic w)) }
         ensures opens_nothing { OpensNothing reader self.old self.new result }
     {
         self.decode_string::<u8, Graphic>(tag, constraints)
@@ -293,6 +338,8 @@ pub trait Decoder: Sized {
     ) -> Result<VisibleString, DecodeError>
         ensures read { ReadsContent reader tag (constraint_set constraints.now) (units visible)
             (All (λ unit. IsTrue (is_visible unit))) (λ w v. w ≡ v) self.old self.new result }
+        ensures only { IfOk result (λ w. HasReadContent reader self.old self.new tag (constraint_set
+            constraints.now) (units visible w)) }
         ensures opens_nothing { OpensNothing reader self.old self.new result }
     {
         self.decode_string::<u8, Visible>(tag, constraints)
@@ -306,6 +353,8 @@ pub trait Decoder: Sized {
     ) -> Result<Ia5String, DecodeError>
         ensures read { ReadsContent reader tag (constraint_set constraints.now) (units ia5)
             (All (λ unit. IsTrue (is_ia5 unit))) (λ w v. w ≡ v) self.old self.new result }
+        ensures only { IfOk result (λ w. HasReadContent reader self.old self.new tag (constraint_set
+            constraints.now) (units ia5 w)) }
         ensures opens_nothing { OpensNothing reader self.old self.new result }
     {
         self.decode_string::<u8, Ia5>(tag, constraints)
@@ -319,6 +368,8 @@ pub trait Decoder: Sized {
     ) -> Result<PrintableString, DecodeError>
         ensures read { ReadsContent reader tag (constraint_set constraints.now) (units printable)
             (All (λ unit. IsTrue (is_printable unit))) (λ w v. w ≡ v) self.old self.new result }
+        ensures only { IfOk result (λ w. HasReadContent reader self.old self.new tag (constraint_set
+            constraints.now) (units printable w)) }
         ensures opens_nothing { OpensNothing reader self.old self.new result }
     {
         self.decode_string::<u8, Printable>(tag, constraints)
@@ -332,6 +383,8 @@ pub trait Decoder: Sized {
     ) -> Result<NumericString, DecodeError>
         ensures read { ReadsContent reader tag (constraint_set constraints.now) (units numeric)
             (All (λ unit. IsTrue (is_numeric unit))) (λ w v. w ≡ v) self.old self.new result }
+        ensures only { IfOk result (λ w. HasReadContent reader self.old self.new tag (constraint_set
+            constraints.now) (units numeric w)) }
         ensures opens_nothing { OpensNothing reader self.old self.new result }
     {
         self.decode_string::<u8, Numeric>(tag, constraints)
@@ -345,6 +398,8 @@ pub trait Decoder: Sized {
     ) -> Result<TeletexString, DecodeError>
         ensures read { ReadsContent reader tag (constraint_set constraints.now) (units teletex)
             (All (λ unit. unit < 2 ^ 32)) (λ w v. w ≡ v) self.old self.new result }
+        ensures only { IfOk result (λ w. HasReadContent reader self.old self.new tag (constraint_set
+            constraints.now) (units teletex w)) }
         ensures opens_nothing { OpensNothing reader self.old self.new result }
     {
         self.decode_string::<u32, Teletex>(tag, constraints)
@@ -358,6 +413,8 @@ pub trait Decoder: Sized {
     ) -> Result<BmpString, DecodeError>
         ensures read { ReadsContent reader tag (constraint_set constraints.now) (units bmp)
             (All (λ unit. unit < 2 ^ 16)) (λ w v. w ≡ v) self.old self.new result }
+        ensures only { IfOk result (λ w. HasReadContent reader self.old self.new tag (constraint_set
+            constraints.now) (units bmp w)) }
         ensures opens_nothing { OpensNothing reader self.old self.new result }
     {
         self.decode_string::<u16, Bmp>(tag, constraints)
@@ -370,8 +427,11 @@ pub trait Decoder: Sized {
         ensures read { ReadsContent reader tag unconstrained
             (λ v. discriminant (labels_of E.enumeration) (number_of E.eq E.enumeration v)) (λ _. ⊤)
             (λ w v. w ≡ v) self.old self.new result }
+        ensures only { IfOk result (λ w. HasReadContent reader self.old self.new tag unconstrained
+            (discriminant (labels_of E.enumeration) (number_of E.eq E.enumeration w))) }
         ensures value { ReadsValue reader E.meaning E.eq tag unconstrained self.old self.new
             result }
+        ensures only_value { IfOk result (HasReadValue reader self.old self.new E.meaning tag unconstrained) }
         ensures after_reading { (c : ConstraintSet) → AfterReading reader E.meaning tag c self.old
             self.new result }
         ensures opens_nothing { OpensNothing reader self.old self.new result }
@@ -384,6 +444,8 @@ pub trait Decoder: Sized {
     final fn decode_explicit_prefix<T: Decode>(&mut self, tag: Tag) -> Result<T, DecodeError>
         ensures read { Reads reader (given_after_tag tag T.meaning.constraints T.meaning) T.eq
             self.old self.new result }
+        ensures only { IfOk result (HasReadGiven reader self.old self.new (given_after_tag tag
+            T.meaning.constraints T.meaning)) }
         ensures keeps_depth { KeepsDepth reader self.old self.new result }
         ensures depth_first { NeedsDepth reader self.old result }
     {
@@ -399,6 +461,8 @@ pub trait Decoder: Sized {
     ) -> Result<T, DecodeError>
         ensures read { Reads reader (given_after_tag tag (constraint_set constraints.now) T.meaning)
             T.eq self.old self.new result }
+        ensures only { IfOk result (HasReadGiven reader self.old self.new (given_after_tag tag
+            (constraint_set constraints.now) T.meaning)) }
         ensures keeps_depth { KeepsDepth reader self.old self.new result }
         ensures depth_first { NeedsDepth reader self.old result }
     {
@@ -414,6 +478,8 @@ pub trait Decoder: Sized {
     ) -> Result<Vec<T>, DecodeError>
         ensures read { ReadsElements reader (sequence_of tag (constraint_set constraints.now))
             T.meaning (λ w. pointwise T.eq w.items) self.old self.new result }
+        ensures only { IfOk result (λ w. HasReadList reader self.old self.new (sequence_of tag
+            (constraint_set constraints.now)) T.meaning w.items) }
         ensures keeps_depth { KeepsDepth reader self.old self.new result }
         ensures depth_first { NeedsDepth reader self.old result }
     {
@@ -428,6 +494,8 @@ pub trait Decoder: Sized {
     final fn decode_optional<T: Decode>(&mut self) -> Result<Option<T>, DecodeError>
         ensures read { ReadsOptional reader in_root (as_it_is T.meaning) T.eq
             self.old self.new result }
+        ensures only { IfOk result (HasReadOptional reader self.old self.new in_root (as_it_is
+            T.meaning)) }
         ensures keeps_depth { KeepsDepth reader self.old self.new result }
     {
         read_optional(self, Side::Root, None, None)
@@ -441,6 +509,8 @@ pub trait Decoder: Sized {
     ) -> Result<Option<T>, DecodeError>
         ensures read { ReadsOptional reader in_root (with_tag tag T.meaning) T.eq
             self.old self.new result }
+        ensures only { IfOk result (HasReadOptional reader self.old self.new in_root (with_tag tag
+            T.meaning)) }
         ensures keeps_depth { KeepsDepth reader self.old self.new result }
     {
         read_optional(self, Side::Root, Some(tag), None)
@@ -455,6 +525,8 @@ pub trait Decoder: Sized {
         ensures read { ReadsOptional reader in_root
             (with_constraints (constraint_set constraints.now) T.meaning) T.eq
             self.old self.new result }
+        ensures only { IfOk result (HasReadOptional reader self.old self.new in_root
+            (with_constraints (constraint_set constraints.now) T.meaning)) }
         ensures keeps_depth { KeepsDepth reader self.old self.new result }
     {
         read_optional(self, Side::Root, None, Some(constraints))
@@ -469,6 +541,8 @@ pub trait Decoder: Sized {
     ) -> Result<Option<T>, DecodeError>
         ensures read { ReadsOptional reader in_root
             (given tag (constraint_set constraints.now) T.meaning) T.eq self.old self.new result }
+        ensures only { IfOk result (HasReadOptional reader self.old self.new in_root (given tag
+            (constraint_set constraints.now) T.meaning)) }
         ensures keeps_depth { KeepsDepth reader self.old self.new result }
     {
         read_optional(self, Side::Root, Some(tag), Some(constraints))
@@ -482,6 +556,8 @@ pub trait Decoder: Sized {
     ) -> Result<Option<T>, DecodeError>
         ensures read { ReadsOptional reader in_root
             (given_after_tag tag T.meaning.constraints T.meaning) T.eq self.old self.new result }
+        ensures only { IfOk result (HasReadOptional reader self.old self.new in_root
+            (given_after_tag tag T.meaning.constraints T.meaning)) }
         ensures keeps_depth { KeepsDepth reader self.old self.new result }
     {
         read_optional_after_tag(self, Side::Root, tag, None)
@@ -492,6 +568,8 @@ pub trait Decoder: Sized {
     final fn decode_extension_addition<T: Decode>(&mut self) -> Result<Option<T>, DecodeError>
         ensures read { ReadsOptional reader in_additions (as_it_is T.meaning) T.eq
             self.old self.new result }
+        ensures only { IfOk result (HasReadOptional reader self.old self.new in_additions (as_it_is
+            T.meaning)) }
         ensures keeps_depth { KeepsDepth reader self.old self.new result }
     {
         read_optional(self, Side::Additions, None, None)
@@ -505,6 +583,8 @@ pub trait Decoder: Sized {
     ) -> Result<Option<T>, DecodeError>
         ensures read { ReadsOptional reader in_additions (with_tag tag T.meaning) T.eq
             self.old self.new result }
+        ensures only { IfOk result (HasReadOptional reader self.old self.new in_additions (with_tag
+            tag T.meaning)) }
         ensures keeps_depth { KeepsDepth reader self.old self.new result }
     {
         read_optional(self, Side::Additions, Some(tag), None)
@@ -519,6 +599,8 @@ pub trait Decoder: Sized {
         ensures read { ReadsOptional reader in_additions
             (with_constraints (constraint_set constraints.now) T.meaning) T.eq
             self.old self.new result }
+        ensures only { IfOk result (HasReadOptional reader self.old self.new in_additions
+            (with_constraints (constraint_set constraints.now) T.meaning)) }
         ensures keeps_depth { KeepsDepth reader self.old self.new result }
     {
         read_optional(self, Side::Additions, None, Some(constraints))
@@ -533,6 +615,8 @@ pub trait Decoder: Sized {
     ) -> Result<Option<T>, DecodeError>
         ensures read { ReadsOptional reader in_additions
             (given tag (constraint_set constraints.now) T.meaning) T.eq self.old self.new result }
+        ensures only { IfOk result (HasReadOptional reader self.old self.new in_additions (given tag
+            (constraint_set constraints.now) T.meaning)) }
         ensures keeps_depth { KeepsDepth reader self.old self.new result }
     {
         read_optional(self, Side::Additions, Some(tag), Some(constraints))
@@ -548,6 +632,8 @@ pub trait Decoder: Sized {
         ensures read { ReadsOptional reader in_additions
             (given_after_tag tag (constraint_set constraints.now) T.meaning) T.eq
             self.old self.new result }
+        ensures only { IfOk result (HasReadOptional reader self.old self.new in_additions
+            (given_after_tag tag (constraint_set constraints.now) T.meaning)) }
         ensures keeps_depth { KeepsDepth reader self.old self.new result }
     {
         read_optional_after_tag(self, Side::Additions, tag, Some(constraints))
@@ -561,6 +647,8 @@ pub trait Decoder: Sized {
         requires { F.IsAlwaysCallable default }
         ensures read { ReadsDefault reader in_root (as_it_is T.meaning) (MayAnswer F.FnOnce default)
             T.eq self.old self.new result }
+        ensures only { IfOk result (HasReadDefault reader self.old self.new in_root (as_it_is
+            T.meaning) (MayAnswer F.FnOnce default)) }
         ensures keeps_depth { KeepsDepth reader self.old self.new result }
     {
         read_default(self, Side::Root, None, None, default)
@@ -575,6 +663,8 @@ pub trait Decoder: Sized {
         requires { F.IsAlwaysCallable default }
         ensures read { ReadsDefault reader in_root (with_tag tag T.meaning)
             (MayAnswer F.FnOnce default) T.eq self.old self.new result }
+        ensures only { IfOk result (HasReadDefault reader self.old self.new in_root (with_tag tag
+            T.meaning) (MayAnswer F.FnOnce default)) }
         ensures keeps_depth { KeepsDepth reader self.old self.new result }
     {
         read_default(self, Side::Root, Some(tag), None, default)
@@ -590,6 +680,9 @@ pub trait Decoder: Sized {
         ensures read { ReadsDefault reader in_root
             (with_constraints (constraint_set constraints.now) T.meaning)
             (MayAnswer F.FnOnce default) T.eq self.old self.new result }
+        ensures only { IfOk result (HasReadDefault reader self.old self.new in_root
+            (with_constraints (constraint_set constraints.now) T.meaning) (MayAnswer F.FnOnce
+            default)) }
         ensures keeps_depth { KeepsDepth reader self.old self.new result }
     {
         read_default(self, Side::Root, None, Some(constraints), default)
@@ -604,6 +697,8 @@ pub trait Decoder: Sized {
         ensures read { ReadsDefault reader in_root
             (given tag (constraint_set constraints.now) T.meaning) (MayAnswer F.FnOnce default) T.eq
             self.old self.new result }
+        ensures only { IfOk result (HasReadDefault reader self.old self.new in_root (given tag
+            (constraint_set constraints.now) T.meaning) (MayAnswer F.FnOnce default)) }
         ensures keeps_depth { KeepsDepth reader self.old self.new result }
     {
         read_default(self, Side::Root, Some(tag), Some(constraints), default)
@@ -617,6 +712,8 @@ pub trait Decoder: Sized {
         requires { F.IsAlwaysCallable default }
         ensures read { ReadsDefault reader in_additions (as_it_is T.meaning)
             (MayAnswer F.FnOnce default) T.eq self.old self.new result }
+        ensures only { IfOk result (HasReadDefault reader self.old self.new in_additions (as_it_is
+            T.meaning) (MayAnswer F.FnOnce default)) }
         ensures keeps_depth { KeepsDepth reader self.old self.new result }
     {
         read_default(self, Side::Additions, None, None, default)
@@ -630,6 +727,8 @@ pub trait Decoder: Sized {
         requires { F.IsAlwaysCallable default }
         ensures read { ReadsDefault reader in_additions (with_tag tag T.meaning)
             (MayAnswer F.FnOnce default) T.eq self.old self.new result }
+        ensures only { IfOk result (HasReadDefault reader self.old self.new in_additions (with_tag
+            tag T.meaning) (MayAnswer F.FnOnce default)) }
         ensures keeps_depth { KeepsDepth reader self.old self.new result }
     {
         read_default(self, Side::Additions, Some(tag), None, default)
@@ -644,6 +743,9 @@ pub trait Decoder: Sized {
         ensures read { ReadsDefault reader in_additions
             (with_constraints (constraint_set constraints.now) T.meaning)
             (MayAnswer F.FnOnce default) T.eq self.old self.new result }
+        ensures only { IfOk result (HasReadDefault reader self.old self.new in_additions
+            (with_constraints (constraint_set constraints.now) T.meaning) (MayAnswer F.FnOnce
+            default)) }
         ensures keeps_depth { KeepsDepth reader self.old self.new result }
     {
         read_default(self, Side::Additions, None, Some(constraints), default)
@@ -658,6 +760,8 @@ pub trait Decoder: Sized {
         ensures read { ReadsDefault reader in_additions
             (given tag (constraint_set constraints.now) T.meaning) (MayAnswer F.FnOnce default) T.eq
             self.old self.new result }
+        ensures only { IfOk result (HasReadDefault reader self.old self.new in_additions (given tag
+            (constraint_set constraints.now) T.meaning) (MayAnswer F.FnOnce default)) }
         ensures keeps_depth { KeepsDepth reader self.old self.new result }
     {
         read_default(self, Side::Additions, Some(tag), Some(constraints), default)
@@ -670,6 +774,7 @@ pub trait Decoder: Sized {
         &mut self,
     ) -> Result<Option<C>, DecodeError>
         ensures read { ReadsGroup reader C.components C.eq self.old self.new result }
+        ensures only { IfOk result (HasReadGroup reader self.old self.new C.components) }
         ensures keeps_depth { KeepsDepth reader self.old self.new result }
     {
         if !self.open_group::<C>()? {
@@ -691,8 +796,12 @@ pub trait Decoder: Sized {
     ) -> Result<C, DecodeError>
         ensures components { ReadsComponents reader is_sequence tag C.components C.eq
             self.old self.new result }
+        ensures only { IfOk result (HasReadComponents reader self.old self.new is_sequence tag
+            C.components) }
         ensures as_meant { C.components.kind ≡ is_sequence → (c : ConstraintSet) →
             ReadsValue reader C.meaning C.eq tag c self.old self.new result }
+        ensures only_meant { C.components.kind ≡ is_sequence → (c : ConstraintSet) →
+            IfOk result (HasReadValue reader self.old self.new C.meaning tag c) }
         ensures keeps_depth { KeepsDepth reader self.old self.new result }
         ensures depth_first { NeedsDepth reader self.old result }
     {
@@ -707,6 +816,8 @@ pub trait Decoder: Sized {
     ) -> Result<T, DecodeError>
         ensures read { ReadsChoice reader (constraint_set constraints.now) T.alternatives
             T.pick T.eq self.old self.new result }
+        ensures only { IfOk result (HasReadChoice reader self.old self.new (constraint_set
+            constraints.now) T.alternatives T.pick) }
         ensures keeps_depth { KeepsDepth reader self.old self.new result }
         ensures depth_first { NeedsDepth reader self.old result }
     {
@@ -729,6 +840,8 @@ pub trait Decoder: Sized {
     ) -> Result<T, DecodeError>
         ensures read { ReadsValue reader T.meaning T.eq tag (constraint_set constraints.now)
             self.old self.new result }
+        ensures only { IfOk result (HasReadValue reader self.old self.new T.meaning tag
+            (constraint_set constraints.now)) }
         ensures after_reading { AfterReading reader T.meaning tag (constraint_set constraints.now)
             self.old self.new result }
         ensures depth_first { NeedsDepth reader self.old result }
@@ -746,6 +859,8 @@ pub trait Decoder: Sized {
     ) -> Result<SetOf<T>, DecodeError>
         ensures read { ReadsElements reader (set_of tag (constraint_set constraints.now)) T.meaning
             ⟦<SetOf<T> as PartialEq>⟧.eq self.old self.new result }
+        ensures only { IfOk result (λ w. HasReadList reader self.old self.new (set_of tag
+            (constraint_set constraints.now)) T.meaning w) }
         ensures depth_first { NeedsDepth reader self.old result }
         ensures keeps_depth { KeepsDepth reader self.old self.new result }
     {
@@ -760,8 +875,12 @@ pub trait Decoder: Sized {
     ) -> Result<S, DecodeError>
         ensures components { ReadsComponents reader is_set tag S.components S.eq
             self.old self.new result }
+        ensures only { IfOk result (HasReadComponents reader self.old self.new is_set tag
+            S.components) }
         ensures as_meant { S.components.kind ≡ is_set → (c : ConstraintSet) →
             ReadsValue reader S.meaning S.eq tag c self.old self.new result }
+        ensures only_meant { S.components.kind ≡ is_set → (c : ConstraintSet) →
+            IfOk result (HasReadValue reader self.old self.new S.meaning tag c) }
         ensures depth_first { NeedsDepth reader self.old result }
         ensures keeps_depth { KeepsDepth reader self.old self.new result }
     {

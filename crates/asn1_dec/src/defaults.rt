@@ -2,10 +2,11 @@
 ghost use Rattle.asn1_laws.specs.Defaults.{MayAnswer};
 ghost use Rattle.asn1_laws.specs.GivenTypes.{constraints_or_own, given};
 ghost use Rattle.asn1_laws.specs.Reading.{KeepsDepth};
+ghost use Rattle.asn1_laws.specs.ReadingExactly.{HasReadDefault};
 ghost use Rattle.asn1_laws.specs.ReadingTypes.{ReadsDefault};
 ghost use Rattle.asn1_laws.specs.Sides.{side_of};
 ghost use Rattle.asn1_laws.specs.declared.decode_error.DecodeError.TheVariants.{Memory};
-ghost use Rattle.std.specs.Prelude.{◌≡◌, IfNone, IfSome, MatchResult, Ok, true, unwrap_or};
+ghost use Rattle.std.specs.Prelude.{◌≡◌, IfNone, IfOk, IfSome, MatchResult, Ok, true, unwrap_or};
 
 use crate::decode::Decode;
 use crate::decoder::Decoder;
@@ -51,6 +52,9 @@ pub(crate) fn read_default<T: Decode, D: Decoder, F: FnOnce(Global) -> Result<T,
     ensures read { ReadsDefault D.reader (side_of side) (given (unwrap_or tag T.meaning.tag)
         (constraints_or_own constraints.entry T.meaning) T.meaning) (MayAnswer F.FnOnce default)
         T.eq decoder.old decoder.new result }
+    ensures only { IfOk result (HasReadDefault D.reader decoder.old decoder.new (side_of side)
+        (given (unwrap_or tag T.meaning.tag) (constraints_or_own constraints.entry T.meaning)
+        T.meaning) (MayAnswer F.FnOnce default)) }
     ensures keeps_depth { KeepsDepth D.reader decoder.old decoder.new result }
 {
     let value = read_optional::<T, D>(decoder, side, tag, constraints)?;

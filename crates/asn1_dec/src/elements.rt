@@ -1,7 +1,8 @@
 //! The elements of a list.
+ghost use Rattle.asn1_laws.specs.ReadingExactly.{HasReadElements};
 ghost use Rattle.asn1_laws.specs.ReadingTypes.{ReadsElementsLeft};
 ghost use Rattle.std.specs.Cmp.Lexicographic.{pointwise};
-ghost use Rattle.std.specs.Prelude.{◌≡◌, OnErr, OnOk, true};
+ghost use Rattle.std.specs.Prelude.{◌≡◌, IfOk, OnErr, OnOk, true};
 
 use crate::decode::Decode;
 use crate::decoder::Decoder;
@@ -15,6 +16,8 @@ pub(crate) fn read_elements<T: Decode, D: Decoder>(
 ) -> Result<Vec<T>, DecodeError>
     ensures read { ReadsElementsLeft D.reader bound T.meaning (λ w. pointwise T.eq w.items)
         decoder.old decoder.new result }
+    ensures only { IfOk result (λ w. HasReadElements D.reader decoder.old decoder.new T.meaning
+        w.items) }
     ensures same_depth { OnOk result (D.reader.depth_left decoder.new ≡
         D.reader.depth_left decoder.old) }
     ensures has_failed { OnErr result (D.reader.failed decoder.new ≡ true) }

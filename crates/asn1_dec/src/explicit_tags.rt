@@ -1,7 +1,9 @@
 //! A value after an explicit tag.
 ghost use Rattle.asn1_laws.specs.GivenTypes.{constraints_or_own, given_after_tag};
 ghost use Rattle.asn1_laws.specs.Reading.{KeepsDepth, NeedsDepth};
+ghost use Rattle.asn1_laws.specs.ReadingExactly.{HasReadGiven};
 ghost use Rattle.asn1_laws.specs.ReadingTypes.{Reads};
+ghost use Rattle.std.specs.Prelude.{IfOk};
 
 use crate::decode::Decode;
 use crate::decoder::Decoder;
@@ -20,6 +22,8 @@ pub(crate) fn read_after_explicit_tag<T: Decode, D: Decoder>(
     ensures read { Reads D.reader (given_after_tag tag
         (constraints_or_own constraints.entry T.meaning) T.meaning) T.eq decoder.old decoder.new
         result }
+    ensures only { IfOk result (HasReadGiven D.reader decoder.old decoder.new (given_after_tag tag
+        (constraints_or_own constraints.entry T.meaning) T.meaning)) }
     ensures keeps_depth { KeepsDepth D.reader decoder.old decoder.new result }
     ensures depth_first { NeedsDepth D.reader decoder.old result }
 {

@@ -1,13 +1,14 @@
 //! A component that may be absent, on either side of an extension marker.
 ghost use Rattle.asn1_laws.specs.GivenTypes.{constraints_or_own, given, given_after_tag};
 ghost use Rattle.asn1_laws.specs.Reading.{KeepsDepth, OpensNothing, TellsPresence};
+ghost use Rattle.asn1_laws.specs.ReadingExactly.{HasReadMark, HasReadOptional, HasReadValue};
 ghost use Rattle.asn1_laws.specs.ReadingTypes.{Reads, ReadsOptional};
 ghost use Rattle.asn1_laws.specs.Sides.{side_of};
 ghost use Rattle.asn1_model.specs.Records.{absent, present};
 ghost use Rattle.asn1_model.specs.Tags.{tree_tags};
 ghost use Rattle.asn1_tags.specs.Trees.{shape};
 ghost use Rattle.std.specs.Option.{option_eq};
-ghost use Rattle.std.specs.Prelude.{◌≡◌, OnErr, OnOk, Some, true, unwrap_or};
+ghost use Rattle.std.specs.Prelude.{◌≡◌, IfOk, IsSomeAnd, OnErr, OnOk, Some, true, unwrap_or};
 
 use crate::decode::Decode;
 use crate::decoder::Decoder;
@@ -27,6 +28,8 @@ fn is_there<D: Decoder>(
 ) -> Result<bool, DecodeError>
     ensures read { TellsPresence D.reader decoder.old decoder.new (present (side_of side) tag)
         (absent (side_of side) tag) (tree_tags (shape tree.entry)) result }
+    ensures only { IfOk result (HasReadMark D.reader decoder.old decoder.new
+        (present (side_of side) tag) (absent (side_of side) tag)) }
     ensures opens_nothing { OpensNothing D.reader decoder.old decoder.new result }
 {
     match side {
@@ -46,6 +49,8 @@ fn read_present<T: Decode, D: Decoder>(
     ensures read { Reads D.reader
         (given tag (constraints_or_own constraints.entry T.meaning) T.meaning)
         (λ w v. option_eq T.eq w (Some v)) decoder.old decoder.new result }
+    ensures only { IfOk result (λ w. IsSomeAnd w (HasReadValue D.reader decoder.old decoder.new
+        T.meaning tag (constraints_or_own constraints.entry T.meaning))) }
     ensures same_depth { OnOk result
         (D.reader.depth_left decoder.new ≡ D.reader.depth_left decoder.old) }
     ensures failed_as_before { OnOk result
@@ -69,6 +74,9 @@ pub(crate) fn read_optional<T: Decode, D: Decoder>(
     ensures read { ReadsOptional D.reader (side_of side) (given (unwrap_or tag T.meaning.tag)
         (constraints_or_own constraints.entry T.meaning) T.meaning) T.eq decoder.old decoder.new
         result }
+    ensures only { IfOk result (HasReadOptional D.reader decoder.old decoder.new (side_of side)
+        (given (unwrap_or tag T.meaning.tag) (constraints_or_own constraints.entry T.meaning)
+        T.meaning)) }
     ensures keeps_depth { KeepsDepth D.reader decoder.old decoder.new result }
 {
     let table = T::table();
@@ -90,6 +98,8 @@ pub(crate) fn read_optional_after_tag<T: Decode, D: Decoder>(
     ensures read { ReadsOptional D.reader (side_of side) (given_after_tag tag
         (constraints_or_own constraints.entry T.meaning) T.meaning) T.eq decoder.old decoder.new
         result }
+    ensures only { IfOk result (HasReadOptional D.reader decoder.old decoder.new (side_of side)
+        (given_after_tag tag (constraints_or_own constraints.entry T.meaning) T.meaning)) }
     ensures keeps_depth { KeepsDepth D.reader decoder.old decoder.new result }
 {
     if !is_there(decoder, side, tag, TagTree::Leaf(tag))? {

@@ -1,9 +1,10 @@
 //! A SET, by its components.
 ghost use Rattle.asn1_components.specs.Components.{is_set};
 ghost use Rattle.asn1_laws.specs.Reading.{KeepsDepth, NeedsDepth, ReadsValue};
+ghost use Rattle.asn1_laws.specs.ReadingExactly.{HasReadComponents, HasReadParts, HasReadValue};
 ghost use Rattle.asn1_laws.specs.ReadingTypes.{ReadsComponents, ReadsPartsLeft};
 ghost use Rattle.asn1_model.specs.ConstraintSets.{ConstraintSet};
-ghost use Rattle.std.specs.Prelude.{◌≡◌, OnErr, OnOk, true};
+ghost use Rattle.std.specs.Prelude.{◌≡◌, IfOk, OnErr, OnOk, true};
 
 use crate::decode_set::DecodeSet;
 use crate::decoder::Decoder;
@@ -20,6 +21,8 @@ fn read_parts<S: DecodeSet, D: Decoder>(
 ) -> Result<Vec<S::Part>, DecodeError>
     ensures read { ReadsPartsLeft D.reader bound S.components S.index_of S.is_part_of
         (λ parts. parts.items) decoder.old decoder.new result }
+    ensures only { IfOk result (λ parts. HasReadParts D.reader decoder.old decoder.new
+        S.IsReadAsPart parts.items) }
     ensures same_depth { OnOk result (D.reader.depth_left decoder.new ≡
         D.reader.depth_left decoder.old) }
     ensures has_failed { OnErr result (D.reader.failed decoder.new ≡ true) }
@@ -52,6 +55,8 @@ fn read_parts<S: DecodeSet, D: Decoder>(
 fn read_components<S: DecodeSet, D: Decoder>(decoder: &mut D, tag: Tag) -> Result<S, DecodeError>
     ensures read { ReadsComponents D.reader is_set tag S.components S.eq
         decoder.old decoder.new result }
+    ensures only { IfOk result (HasReadComponents D.reader decoder.old decoder.new is_set tag
+        S.components) }
     ensures depth_first { NeedsDepth D.reader decoder.old result }
     ensures keeps_depth { KeepsDepth D.reader decoder.old decoder.new result }
 {
@@ -74,8 +79,12 @@ pub(crate) fn read_set<S: DecodeSet + ConstructedType, D: Decoder>(
 ) -> Result<S, DecodeError>
     ensures components { ReadsComponents D.reader is_set tag S.components S.eq
         decoder.old decoder.new result }
+    ensures only { IfOk result (HasReadComponents D.reader decoder.old decoder.new is_set tag
+        S.components) }
     ensures as_meant { S.components.kind ≡ is_set → (c : ConstraintSet) →
         ReadsValue D.reader S.meaning S.eq tag c decoder.old decoder.new result }
+    ensures only_meant { S.components.kind ≡ is_set → (c : ConstraintSet) →
+        IfOk result (HasReadValue D.reader decoder.old decoder.new S.meaning tag c) }
     ensures depth_first { NeedsDepth D.reader decoder.old result }
     ensures keeps_depth { KeepsDepth D.reader decoder.old decoder.new result }
 {

@@ -1,8 +1,10 @@
 //! A SET OF.
 ghost use Rattle.asn1_laws.specs.Reading.{KeepsDepth, NeedsDepth};
+ghost use Rattle.asn1_laws.specs.ReadingExactly.{HasReadList};
 ghost use Rattle.asn1_laws.specs.ReadingTypes.{ReadsElements};
 ghost use Rattle.asn1_model.specs.ConstraintSets.{constraint_set};
 ghost use Rattle.asn1_model.specs.Records.{set_of};
+ghost use Rattle.std.specs.Prelude.{IfOk};
 
 use crate::decode::Decode;
 use crate::decoder::Decoder;
@@ -21,6 +23,8 @@ pub(crate) fn read_set_of<T: Decode, D: Decoder>(
 ) -> Result<SetOf<T>, DecodeError>
     ensures read { ReadsElements D.reader (set_of tag (constraint_set constraints.now)) T.meaning
         ⟦<SetOf<T> as PartialEq>⟧.eq decoder.old decoder.new result }
+    ensures only { IfOk result (HasReadList D.reader decoder.old decoder.new
+        (set_of tag (constraint_set constraints.now)) T.meaning) }
     ensures depth_first { NeedsDepth D.reader decoder.old result }
     ensures keeps_depth { KeepsDepth D.reader decoder.old decoder.new result }
 {

@@ -1,7 +1,8 @@
 //! A value under what a call is given.
 ghost use Rattle.asn1_laws.specs.GivenTypes.{constraints_or_own};
 ghost use Rattle.asn1_laws.specs.Reading.{ReadsValue};
-ghost use Rattle.std.specs.Prelude.{◌≡◌, OnOk};
+ghost use Rattle.asn1_laws.specs.ReadingExactly.{HasReadValue};
+ghost use Rattle.std.specs.Prelude.{◌≡◌, IfOk, OnOk};
 
 use crate::decode::Decode;
 use crate::decoder::Decoder;
@@ -18,6 +19,8 @@ pub(crate) fn read_value<T: Decode, D: Decoder>(
 ) -> Result<T, DecodeError>
     ensures read { ReadsValue D.reader T.meaning T.eq tag
         (constraints_or_own constraints.entry T.meaning) decoder.old decoder.new result }
+    ensures only { IfOk result (HasReadValue D.reader decoder.old decoder.new T.meaning tag
+        (constraints_or_own constraints.entry T.meaning)) }
     ensures same_depth { OnOk result
         (D.reader.depth_left decoder.new ≡ D.reader.depth_left decoder.old) }
     ensures failed_as_before { OnOk result

@@ -1,16 +1,17 @@
 -- The form in which a decoder reads DER, and its law.
 use Rattle.std.specs.Prelude.{ℕ, ⊤, false, List, refl}
+use Rattle.std.proofs.Common.{subst, sym}
 use Rattle.asn1_laws.specs.Reading.{Remaining}
 use Rattle.asn1_der_items.proofs.OneElement.{element_of_tag, one_of}
 use Rattle.asn1_der_items.proofs.RecordElements.{is_element_of_record}
 use Rattle.asn1_der_items.specs.Bytes.{HasDer, HaveDer}
-use Rattle.asn1_der_items.specs.Series.{AreElements, AscendByEncoding, AscendByTag, is_one_element}
+use Rattle.asn1_der_items.specs.Series.{AreElements, AscendByEncoding, AscendByTag, IsElementOf, is_one_element}
 use Rattle.asn1_der_items.specs.declared.content_order.ContentOrder.{ContentOrder}
 use Rattle.asn1_der_items.specs.declared.content_order.ContentOrder.TheVariants.{ByTag, ByEncoding}
 use Rattle.asn1_der.specs.declared.form.DerForm.{DerForm}
 use Rattle.asn1_elements.specs.Decoder as elements
-use Rattle.asn1_elements.proofs.Inside.{constructed_inside}
-use Rattle.asn1_elements.specs.ElementForms.{HoldsInside, IsElementForm}
+use Rattle.asn1_elements.proofs.Inside.{constructed_inside, constructed_octets}
+use Rattle.asn1_elements.specs.ElementForms.{HoldsInside, IsElementForm, IsHolder}
 use Rattle.asn1_elements.specs.declared.decoder.ElementDecoder.{ElementDecoder}
 use Rattle.asn1_items.specs.DecodeStates.{ReadForm}
 use Rattle.asn1_model.specs.Records.{Head, Record, held, holding, sequence, set, sequence_of, set_of, explicit_tag, alternative}
@@ -44,6 +45,18 @@ inside_of (alternative t c table n) rs own p =
     let o = one_of t own p.1 in
     record { element = o.element; alone = o.alone; tag = o.tag; inside = own; is = refl; in_order = tt; have = p.0 }
 
+-- the other way round
+holder_of : (h : Head) (rs : List Record) (own : List ℕ) → IsHolder der_form AreInOrder h rs own → HasDer (holding h rs) own
+holder_of (sequence t table n) rs own p = record { contents = p.inside; are = p.have; element = constructed_octets p.element t own p.inside p.octets p.tag p.is }
+holder_of (set t table n) rs own p = record { contents = p.inside; are = (p.have, p.in_order); element = constructed_octets p.element t own p.inside p.octets p.tag p.is }
+holder_of (sequence_of t c n) rs own p = record { contents = p.inside; are = p.have; element = constructed_octets p.element t own p.inside p.octets p.tag p.is }
+holder_of (set_of t c n) rs own p = record { contents = p.inside; are = (p.have, p.in_order); element = constructed_octets p.element t own p.inside p.octets p.tag p.is }
+holder_of (explicit_tag t n) rs own p = record { contents = p.inside; are = p.have; element = constructed_octets p.element t own p.inside p.octets p.tag p.is }
+holder_of (alternative t c table n) rs own p = (
+  subst (λ l. HaveDer (held rs) l) (sym p.is) p.have,
+  subst (λ u. IsElementOf u own) p.tag (element_of_tag p.element.tag p.element.constructed p.element.contents own p.octets),
+)
+
 -- it is a lawful form
 pub der_is_lawful_form : IsElementForm der_form AreInOrder
 der_is_lawful_form = record {
@@ -55,4 +68,8 @@ der_is_lawful_form = record {
   inside = inside_of;
   open_type = λ n bytes own p. p.0;
   mark = λ m own p. p;
+  joins = λ r rs bytes p. p;
+  holds = holder_of;
+  any = λ n own one. (refl, one);
+  unwritten = λ m. refl;
 }

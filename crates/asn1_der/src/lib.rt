@@ -27,7 +27,7 @@
 //! - A decoder of the DER of some records begins before these (`before`), and `finish` succeeds if and only if all has been read (`all_read`).
 //!   It opens a set only if its elements are ascending (`in_order`, and `order` of [`decoder_laws`]).
 //!
-//! No contract covers octets that are not the DER of the type. Tests show that each of these is an error: a length that is
+//! An answer is read of records whose DER the octets are, whatever octets come (`only` of `read_value`). So each of these is an error: a length that is
 //! indefinite or not the shortest, an integer, a tag or an arc that is not the shortest, a BOOLEAN other than 0 and 255, unused
 //! bits that are not 0, a string in pieces, elements of a set in another order, and trailing octets. A component that is present
 //! though it is its DEFAULT is read, and `read_canonical` refuses it.

@@ -25,8 +25,8 @@ pub struct DerReader {
 impl DerReader {
     ghost use Rattle.asn1_der.specs.Format.{Carries};
     ghost use Rattle.asn1_der_items.specs.Series.{is_one_element};
-    ghost use Rattle.asn1_rules.specs.Rules.{ReadsCarried};
-    ghost use Rattle.std.specs.Prelude.{◌≡◌};
+    ghost use Rattle.asn1_rules.specs.Rules.{IsReadOf, ReadsCarried};
+    ghost use Rattle.std.specs.Prelude.{◌≡◌, IfOk};
 
     /// A reader that may open this many nested scopes, with the allocator that values are made by.
     pub fn new(alloc: Global, depth: usize) -> DerReader
@@ -49,8 +49,9 @@ impl DerReader {
 
     /// Reads the value whose bytes these are.
     fn read<D: Decode>(&self, bytes: &[u8]) -> Result<D, DecodeError>
-        ensures { ReadsCarried (λ own. is_one_element own) (Carries bytes.now) D.meaning D.eq
+        ensures read { ReadsCarried (λ own. is_one_element own) (Carries bytes.now) D.meaning D.eq
             self.now.depth result }
+        ensures only { IfOk result (IsReadOf (Carries bytes.now) D.meaning) }
     {
         let decoder = DerDecoder::new(self.alloc, bytes, self.depth);
         read_whole(decoder)

@@ -3,7 +3,8 @@ mod CutIdentifiers
 pub mod Cuts
 mod Comparing
 mod Complements
-mod ElementFronts
+pub mod ElementFronts
+pub mod ElementsRead
 pub mod Encodings
 pub mod Found
 mod Measuring

@@ -1,10 +1,10 @@
 -- The arcs of an OBJECT IDENTIFIER, number by number.
-use Rattle.std.proofs.Common.{◌≡◌, ℕ, ◌+◌, ◌*◌, ◌≤◌, ◌<◌, ◌^◌, List, [], ◌∷◌, ◌++◌, Some, append_assoc, append-nil, length, length-append, sym, ap, subst, ◌∙◌, arith}
+use Rattle.std.proofs.Common.{◌≡◌, ℕ, ◌+◌, ◌*◌, ◌≤◌, ◌<◌, ◌^◌, List, [], ◌∷◌, ◌++◌, Some, append_assoc, append-nil, length, length-append, refl, sym, ap, subst, ◌∙◌, arith}
 use Rattle.std.specs.Prelude.{All, map}
-use Rattle.std.proofs.lemmas.List.Elements.{All-head, All-tail}
+use Rattle.std.proofs.lemmas.List.Elements.{All-cons, All-head, All-nil, All-tail}
 use Rattle.asn1_der_items.proofs.Septets.{base128-found}
 use Rattle.asn1_der_items.specs.Arcs.{AreArcs, AreNumbers}
-use Rattle.asn1_der_items.specs.Base128.{IsBase128, base128_at}
+use Rattle.asn1_der_items.specs.Base128.{BeginWithNumber, Front, IsBase128, base128_at}
 
 -- The arcs that were read, and the octets left: the numbers of the others.
 pub record ArcsRead (list read left : List ℕ) : Type 0 where
@@ -82,3 +82,36 @@ all_read list read left none a = by a.others a.split a.numbers
     by [] split numbers = sym (split ∙ append-nil read)
     by (arc ∷ others) split numbers =
         absurd (omega (arith, number_long arc numbers.first numbers.is_first, ap length none, ap length numbers.are, length-append numbers.first numbers.others))
+
+-- The octets begin with those of the arcs that were read: with numbers of others behind them they are those of all.
+pub record IsBegunWith (octets read left : List ℕ) : Type 0 where
+  pub completed : (others : List ℕ) → AreNumbers others left → All (λ arc. arc < 2 ^ 32) others → AreArcs (read ++ others) octets
+
+-- the first number is two arcs
+pub two_arcs : (first second : ℕ) (octets : List ℕ) (f : Front) → BeginWithNumber f octets → f.number ≡ first * 40 + second → first ≤ 2 → (first < 2 → second < 40) → first < 2 ^ 32 → second < 2 ^ 32 →
+    IsBegunWith octets (([] ++ first ∷ []) ++ second ∷ []) f.rest
+two_arcs first second octets f begin sum small low first_fits second_fits = record {
+  completed = λ others numbers fit. record {
+    first = first;
+    second = second;
+    rest = others;
+    are = refl;
+    numbers = record { first = begin.octets; others = f.rest; is_first = subst (λ n. IsBase128 n begin.octets) sum begin.number; are_others = numbers; are = begin.are };
+    first_of_three = small;
+    second_below = low;
+    fit = All-cons (λ arc. arc < 2 ^ 32) first (second ∷ others) first_fits (All-cons (λ arc. arc < 2 ^ 32) second others second_fits fit);
+  };
+}
+
+-- each that follows is one
+pub one_arc : (octets read left : List ℕ) (f : Front) → BeginWithNumber f left → f.number < 2 ^ 32 → IsBegunWith octets read left → IsBegunWith octets (read ++ f.number ∷ []) f.rest
+one_arc octets read left f begin fits begun = record {
+  completed = λ others numbers fit.
+      subst (λ list. AreArcs list octets) (sym (append_assoc read (f.number ∷ []) others))
+      (begun.completed (f.number ∷ others) (record { first = begin.octets; others = f.rest; is_first = begin.number; are_others = numbers; are = begin.are })
+      (All-cons (λ arc. arc < 2 ^ 32) f.number others fits fit));
+}
+
+-- where nothing is left, the octets are those of the arcs
+pub arcs_are : (octets read left : List ℕ) → left ≡ [] → IsBegunWith octets read left → AreArcs read octets
+arcs_are octets read left none begun = subst (λ list. AreArcs list octets) (append-nil read) (begun.completed [] none (All-nil (λ arc. arc < 2 ^ 32)))

@@ -18,6 +18,12 @@ pub record Front : Type 0 where
   pub number : ℕ
   pub rest : List ℕ
 
+-- The bytes begin with the octets of this number, and what is left follows them.
+pub record BeginWithNumber (f : Front) (bytes : List ℕ) : Type 0 where
+  pub octets : List ℕ
+  pub number : IsBase128 f.number octets
+  pub are : bytes ≡ octets ++ f.rest
+
 -- the number of these octets, where the digits before them are this number
 abbrev pub base128_after : ℕ → List ℕ → Option Front
 base128_after n [] = None

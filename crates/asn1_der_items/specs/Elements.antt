@@ -1,5 +1,6 @@
 -- An element (X.690, 8.1.1): identifier octets, length octets and contents octets.
 use Rattle.std.specs.Prelude.{◌≡◌, ℕ, Bool, Result, MatchResult, Option, None, Some, List, [], ◌∷◌, ◌++◌, length, nat_le, take, drop, if◌then◌else◌}
+use Rattle.std.specs.Int.Digits.{AllBelowBase}
 use Rattle.std.specs.Option.{option_and_then}
 use Rattle.asn1_tags.specs.declared.tags.Tag.{Tag}
 use Rattle.asn1_der_items.specs.Base128.{Front}
@@ -50,11 +51,22 @@ of_identifier i = option_and_then (of_length i) (length_at i.rest)
 abbrev pub element_at : List ℕ → Option Element
 element_at bytes = option_and_then of_identifier (identifier_at bytes)
 
+-- The bytes begin with the octets of this element (8.1.1), and what is left follows them.
+pub record BeginWithElement (e : Element) (bytes : List ℕ) : Type 0 where
+  pub own : List ℕ
+  pub element : IsElement e.tag e.constructed e.contents own
+  pub are : bytes ≡ own ++ e.rest
+
 -- The bytes of an element are found as that element, whatever follows.
 abbrev pub ElementsAreFound : Type 0
 ElementsAreFound =
     (t : Tag) (constructed : Bool) (contents own back : List ℕ) → IsElement t constructed contents own →
     element_at (own ++ back) ≡ Some (record { tag = t; constructed = constructed; contents = contents; rest = back })
+
+-- Octets begin with the octets of the element that is found in them.
+abbrev pub FoundElementsAreElements : Type 0
+FoundElementsAreElements =
+    (bytes : List ℕ) (e : Element) → AllBelowBase 256 bytes → element_at bytes ≡ Some e → BeginWithElement e bytes
 
 -- A call that ends an element. If the element was begun, and its contents octets are the bytes from this index on, the element is
 -- appended to the bytes before it.

@@ -1,8 +1,8 @@
 //! Reading the arcs of an OBJECT IDENTIFIER.
 ghost use Rattle.asn1_der_items.specs.Arcs.{AreArcs};
-ghost use Rattle.asn1_der_items.specs.Base128.{base128_at, Front as FrontView};
+ghost use Rattle.asn1_der_items.specs.Base128.{BeginWithNumber, base128_at, Front as FrontView};
 ghost use Rattle.asn1_items.specs.declared.error.ItemError.TheVariants.{Memory};
-ghost use Rattle.std.specs.Prelude.{◌≡◌, ◌+◌, ◌*◌, ◌<◌, ◌≤◌, ◌^◌, ◌++◌, ◌∷◌, [], IfOk, List, MatchResult, Some, length, ℕ};
+ghost use Rattle.std.specs.Prelude.{◌≡◌, ◌+◌, ◌*◌, ◌<◌, ◌≤◌, ◌^◌, ◌++◌, ◌∷◌, [], IfOk, List, MatchResult, OnOk, Some, length, ℕ};
 
 use crate::base128::{Front, read_base128};
 use asn1_items::ItemError;
@@ -16,6 +16,7 @@ use std::alloc::Global;
 pub fn read_arcs(alloc: Global, octets: &[u8]) -> Result<Vec<u32>, ItemError>
     ensures read { (list : List ℕ) → AreArcs list octets.now →
         MatchResult result (λ arcs. arcs.items ≡ list) (λ e. e ≡ Memory) }
+    ensures only { IfOk result (λ arcs. AreArcs arcs.items octets.now) }
 {
     let front = read_number(octets)?;
     let first = first_of(front.number);
@@ -37,6 +38,7 @@ fn first_of(number: u64) -> u64
         (first < 2 → second < 40) → result ≡ first }
     ensures within { result * 40 ≤ number }
     ensures small { result ≤ 2 }
+    ensures second { result < 2 → number < result * 40 + 40 }
 {
     if number < 40 {
         0
@@ -52,6 +54,8 @@ fn first_of(number: u64) -> u64
 fn read_number(octets: &[u8]) -> Result<Front<'_>, ItemError>
     ensures found { (f : FrontView) → base128_at octets.now ≡ Some f → f.number < 2 ^ 64 →
         MatchResult result (λ x. (x.number ≡ f.number) × (x.rest.now ≡ f.rest)) (λ _. ⊥) }
+    ensures only { IfOk result (λ x.
+        BeginWithNumber (record { number = x.number; rest = x.rest.now }) octets.now) }
     ensures shorter { IfOk result (λ x. length x.rest.now < length octets.now) }
 {
     match read_base128(octets, 0x200_0000_0000_0000) {
@@ -63,8 +67,9 @@ fn read_number(octets: &[u8]) -> Result<Front<'_>, ItemError>
 /// Appends an arc.
 #[inline(always)]
 fn push_arc(arcs: &mut Vec<u32>, number: u64) -> Result<(), ItemError>
-    ensures { number < 2 ^ 32 → MatchResult result
+    ensures pushed { number < 2 ^ 32 → MatchResult result
         (λ _. arcs.new.items ≡ arcs.old.items ++ number ∷ []) (λ e. e ≡ Memory) }
+    ensures only { OnOk result (number < 2 ^ 32) }
 {
     let Ok(arc) = u32::try_from(number) else {
         return Err(ItemError::Malformed);

@@ -1,6 +1,6 @@
 //! An element: identifier octets, length octets and contents octets.
 ghost use Rattle.asn1_items.specs.Numbers.{Appended};
-ghost use Rattle.asn1_der_items.specs.Elements.{Element as ElementView, EndsElement, IsBegun, element_at, element_of};
+ghost use Rattle.asn1_der_items.specs.Elements.{BeginWithElement, Element as ElementView, EndsElement, IsBegun, element_at, element_of};
 ghost use Rattle.asn1_der_items.specs.Contents.{HasContents, HasNoContents};
 ghost use Rattle.asn1_der_items.specs.Series.{HoldsContents, is_one_element};
 ghost use Rattle.asn1_der_items.specs.declared.error.ElementError.TheVariants.{Memory};
@@ -37,6 +37,7 @@ pub struct Element<'a> {
 #[inline(always)]
 pub fn find_element(bytes: &[u8]) -> Result<Element<'_>, ItemError>
     ensures only { IfOk result (λ e. element_at bytes.now ≡ Some (element_of e)) }
+    ensures element { IfOk result (λ e. BeginWithElement (element_of e) bytes.now) }
     ensures found { (e : ElementView) → element_at bytes.now ≡ Some e → IsOk result }
 {
     let identifier = read_identifier(bytes)?;

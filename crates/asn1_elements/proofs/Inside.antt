@@ -61,3 +61,8 @@ constructed_inside F AreInOrder h rs own inside element holds in_order have = re
   in_order = in_order;
   have = have;
 }
+
+-- octets of an element that holds others are those of a constructed element with these inside
+pub constructed_octets : (e : Element) (t : Tag) (own inside : List ℕ) → IsElement e.tag e.constructed e.contents own → e.tag ≡ t → IsHolding e inside → IsElement t true inside own
+constructed_octets e t own inside octets tag holding =
+    subst (λ u. IsElement u true inside own) tag (subst (λ b. IsElement e.tag b inside own) holding.constructed (subst (λ l. IsElement e.tag e.constructed l own) holding.contents octets))

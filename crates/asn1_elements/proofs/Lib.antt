@@ -2,3 +2,5 @@ pub mod Inside
 pub mod ParsedElements
 mod PresenceByTag
 pub mod RemainingElements
+mod ReadExactly
+mod StringsRead

@@ -1,3 +1,4 @@
 pub mod ElementForms
 pub mod Decoder
 pub mod UnreadBytes
+pub mod Strings

@@ -1,14 +1,14 @@
 //! The decoder that reads from the bytes of elements.
 ghost use Rattle.asn1_der_items.specs.Elements.{Element};
 ghost use Rattle.asn1_der_items.specs.Series.{IsAlone};
-ghost use Rattle.asn1_elements.specs.Decoder.{IsReadAs};
+ghost use Rattle.asn1_elements.specs.Decoder.{IsCarriedBy, IsReadAs};
 ghost use Rattle.asn1_elements.specs.ElementForms.{IsParsed};
 ghost use Rattle.asn1_items.specs.declared.error.ItemError.TheVariants.{Memory};
 ghost use Rattle.asn1_model.specs.ConstraintSets.{ConstraintSet};
 ghost use Rattle.asn1_model.specs.Records as model;
 ghost use Rattle.asn1_model.specs.Records.{Name, scalar};
 ghost use Rattle.asn1_tags.specs.declared.tags.Tag.{Tag as Under};
-ghost use Rattle.std.specs.Prelude.{◌≡◌, Decides, IfSome, List, MatchResult, OnOk, ℕ};
+ghost use Rattle.std.specs.Prelude.{◌≡◌, Decides, IfOk, IfSome, List, MatchResult, OnOk, ℕ};
 
 use crate::element_form::ElementForm;
 use crate::from_contents::FromContents;
@@ -46,10 +46,11 @@ pub struct ElementDecoder<'a, F> {
 impl<'a, F: ElementForm> ElementDecoder<'a, F> {
     ghost use Rattle.asn1_laws.specs.DecodeErrors.{custom, reason};
     ghost use Rattle.asn1_laws.specs.Reading.{OpensNothing, TakesDepth, TellsPresence};
+    ghost use Rattle.asn1_laws.specs.ReadingExactly.{HasReadMark};
     ghost use Rattle.asn1_laws.specs.ReadingTypes.{ReadsContent};
     ghost use Rattle.asn1_laws.specs.declared.decode_error.DecodeError.TheVariants.{Failed};
     ghost use Rattle.asn1_der_items.specs.declared.content_order.ContentOrder.TheVariants.{AsDefined};
-    ghost use Rattle.asn1_elements.specs.Decoder.{AreLeft, BeginWithContent, BeginWithScope, IsElementTaken, IsExpected, IsFirstOf, Remains, element_reader, in_one_order};
+    ghost use Rattle.asn1_elements.specs.Decoder.{AreLeft, BeginWithContent, BeginWithScope, CarriesUpToOrder, HasOpenedExpected, IsElementOpened, IsElementTaken, IsExpected, IsFirstOf, IsReadOfElement, IsTaken, Remains, element_reader, in_one_order};
     ghost use Rattle.asn1_elements.specs.UnreadBytes.{unread};
     ghost use Rattle.asn1_items.specs.DecodeStates.{IsWithinBound, OpensExpected, ReadsExpectedHead, ReadsExpectedSet};
     ghost use Rattle.asn1_items.specs.NextTags.{IsNext};
@@ -64,6 +65,8 @@ impl<'a, F: ElementForm> ElementDecoder<'a, F> {
     pub fn new(alloc: Global, bytes: &'a [u8], depth: usize) -> ElementDecoder<'a, F>
         ensures before { (exactly rs : List model.Record) → F.form.Have exactly bytes.now →
             SameRecords exactly rs → Remains F.form result (rs, []) }
+        ensures only { (rs : List model.Record) → Remains F.form result (rs, []) →
+            CarriesUpToOrder F.form rs bytes.now }
         ensures depth_left { (element_reader F.form).depth_left result ≡ depth }
         ensures no_failure { (element_reader F.form).failed result ≡ false }
     {
@@ -105,6 +108,7 @@ impl<'a, F: ElementForm> ElementDecoder<'a, F> {
             (λ _. ⊥) }
         ensures only { IfOk result (λ parsed.
             IsFirstOf parsed (left_inside self.old.state.slices)) }
+        ensures taken { IfOk result (λ parsed. IsTaken parsed self.old.state self.new.state) }
         ensures outside { OnOk result
             (left_outside self.new.state.slices ≡ left_outside self.old.state.slices) }
         ensures opens_nothing { OpensNothing (element_reader F.form) self.old self.new result }
@@ -134,6 +138,7 @@ impl<'a, F: ElementForm> ElementDecoder<'a, F> {
         ensures found { (rs : List model.Record) → self.old.state.failed ≡ false →
             AreLeft F.form rs self.old.state.slices → MatchResult result (IsNext rs) (λ _. ⊥) }
         ensures same_bytes { OnOk result (self.new.state.slices ≡ self.old.state.slices) }
+        ensures no_failure { OnOk result (self.old.state.failed ≡ false) }
         ensures opens_nothing { OpensNothing (element_reader F.form) self.old self.new result }
     {
         if self.state.failed {
@@ -156,6 +161,8 @@ impl<'a, F: ElementForm> ElementDecoder<'a, F> {
             self.old self.new result }
         ensures only { OnOk result (BeginWithContent (F.IsFormOf V.own_kind) tag
             (left_inside self.old.state.slices)) }
+        ensures carried { IfOk result (λ w. IsReadOfElement (element_reader F.form) V.spelled
+            (V.IsReadOf w) tag self.old self.new) }
         ensures opens_nothing { OpensNothing (element_reader F.form) self.old self.new result }
     {
         let element = self.take()?;
@@ -173,6 +180,8 @@ impl<'a, F: ElementForm> ElementDecoder<'a, F> {
     fn tell_presence(&mut self, tree: TagTree<'static>) -> Result<bool, DecodeError>
         ensures read { (there away : PresenceMark) → TellsPresence (element_reader F.form)
             self.old self.new there away (tree_tags (shape tree.entry)) result }
+        ensures only { (there away : PresenceMark) → IfOk result
+            (HasReadMark (element_reader F.form) self.old self.new there away) }
         ensures opens_nothing { OpensNothing (element_reader F.form) self.old self.new result }
     {
         match self.next_tag()? {
@@ -187,6 +196,8 @@ impl<'a, F: ElementForm> ElementDecoder<'a, F> {
             self.old self.new result }
         ensures only { OnOk result
             (BeginWithScope order tag (left_inside self.old.state.slices)) }
+        ensures opened { IfOk result
+            (IsElementOpened order tag self.old.state self.new.state) }
         ensures in_order { OnOk result (F.AreInOrder order (left_inside self.new.state.slices)) }
         ensures takes_depth { TakesDepth (element_reader F.form) self.old self.new result }
     {
@@ -210,6 +221,8 @@ impl<'a, F: ElementForm> ElementDecoder<'a, F> {
     fn open_in_order(&mut self, tag: Tag) -> Result<(), DecodeError>
         ensures read { ReadsExpectedHead (element_reader F.form) (IsExpected AsDefined (Some tag))
             (λ _ _. ⊤) self.old self.new result }
+        ensures only { OnOk result (HasOpenedExpected (element_reader F.form)
+            (IsExpected AsDefined (Some tag)) self.old self.new) }
         ensures takes_depth { TakesDepth (element_reader F.form) self.old self.new result }
     {
         self.open(ContentOrder::AsDefined, Some(tag))?;
@@ -222,6 +235,8 @@ impl<'a, F: ElementForm> ElementDecoder<'a, F> {
             IsWithinBound self.old self.new result }
         ensures read_set { ReadsExpectedSet (element_reader F.form) (IsExpected order (Some tag))
             IsWithinBound self.old self.new result }
+        ensures only { OnOk result (HasOpenedExpected (element_reader F.form)
+            (IsExpected order (Some tag)) self.old self.new) }
         ensures in_order { OnOk result (F.AreInOrder order (left_inside self.new.state.slices)) }
         ensures takes_depth { TakesDepth (element_reader F.form) self.old self.new result }
     {
@@ -240,6 +255,8 @@ fn value_in<F: ElementForm, V: FromContents>(
         IsParsed element.entry e own → F.form.Has (scalar t c n x) own →
         MatchResult result (λ w. V.IsReadOf w y) (λ e. e ≡ Memory) }
     ensures only { OnOk result (F.IsFormOf V.own_kind element.entry.constructed) }
+    ensures carried { IfOk result (λ w. IsCarriedBy F.form V.spelled (V.IsReadOf w)
+        element.entry) }
 {
     let contents = F::contents(alloc, V::kind(), element)?;
     V::from_contents(alloc, contents.octets())
@@ -258,6 +275,7 @@ fn is_under(own: Tag, asked: Option<Tag>) -> bool
 impl<'a, F: ElementForm> Decoder for ElementDecoder<'a, F> {
     ghost use Rattle.asn1_laws.proofs.ReadingUpToOrder.{lawful};
     ghost use Rattle.asn1_laws.specs.Reading.{OpensNothing, ReadsHeadOfSet, TakesDepth, records_in};
+    ghost use Rattle.asn1_laws.specs.ReadingExactly.{HasOpenedNamed, HasReadSpelling};
     ghost use Rattle.asn1_laws.specs.ReadingTypes.{ReadsContent};
     ghost use Rattle.asn1_components.specs.Components.{rows};
     ghost use Rattle.asn1_elements.specs.Decoder.{element_reader, in_one_order};
@@ -265,7 +283,7 @@ impl<'a, F: ElementForm> Decoder for ElementDecoder<'a, F> {
     ghost use Rattle.asn1_items.specs.Slices.{left_inside};
     ghost use Rattle.asn1_model.specs.ConstraintSets.{constraint_set};
     ghost use Rattle.asn1_model.specs.Records.{set, set_of};
-    ghost use Rattle.std.specs.Prelude.{◌≡◌, ◌≤◌, OnOk, true};
+    ghost use Rattle.std.specs.Prelude.{◌≡◌, ◌≤◌, IfOk, OnOk, true};
 
     ghost reader = { element_reader F.form };
 
@@ -337,6 +355,9 @@ impl<'a, F: ElementForm> Decoder for ElementDecoder<'a, F> {
         ensures spelled { ReadsContent (element_reader F.form) tag (constraint_set _constraints.now)
             K.content (λ list. K.AreOfKind (K.units_read list))
             (λ w list. K.units_in w ≡ K.units_read list) self.old self.new result }
+        ensures only { IfOk result (λ w. HasReadSpelling (element_reader F.form) self.old self.new
+            tag (constraint_set _constraints.now) K.content
+            (λ list. K.units_read list ≡ K.units_in w)) }
         ensures opens_nothing { OpensNothing (element_reader F.form) self.old self.new result }
     {
         let StringOf { string } = self.scalar::<StringOf<U, K>>(tag)?;
@@ -386,6 +407,8 @@ impl<'a, F: ElementForm> Decoder for ElementDecoder<'a, F> {
     fn open_set<C: FieldTable>(&mut self, tag: Tag) -> Result<usize, DecodeError>
         ensures read { ReadsHeadOfSet (element_reader F.form) self.old self.new
             (set tag (rows C.components)) (λ items bound. records_in items ≤ bound) result }
+        ensures only { OnOk result (HasOpenedNamed (element_reader F.form) self.old self.new
+            (set tag (rows C.components))) }
         ensures takes_depth { TakesDepth (element_reader F.form) self.old self.new result }
         ensures in_order { OnOk result
             (F.AreInOrder ByTag (left_inside self.new.state.slices)) }
@@ -410,6 +433,8 @@ impl<'a, F: ElementForm> Decoder for ElementDecoder<'a, F> {
         ensures read { ReadsHeadOfSet (element_reader F.form) self.old self.new
             (set_of tag (constraint_set constraints.now)) (λ items bound. records_in items ≤ bound)
             result }
+        ensures only { OnOk result (HasOpenedNamed (element_reader F.form) self.old self.new
+            (set_of tag (constraint_set constraints.now))) }
         ensures takes_depth { TakesDepth (element_reader F.form) self.old self.new result }
         ensures in_order { OnOk result
             (F.AreInOrder ByEncoding (left_inside self.new.state.slices)) }

@@ -4,7 +4,7 @@ ghost use Rattle.asn1_der_items.specs.Contents.{HasContents};
 ghost use Rattle.asn1_der_items.specs.Elements.{Element};
 ghost use Rattle.asn1_der_items.specs.Series.{IsAlone};
 ghost use Rattle.asn1_der_items.specs.declared.content_order.ContentOrder.{ContentOrder};
-ghost use Rattle.asn1_elements.specs.ElementForms.{IsElementForm, IsParsed, octets_of};
+ghost use Rattle.asn1_elements.specs.ElementForms.{Carries, IsElementForm, IsParsed, octets_of};
 ghost use Rattle.asn1_items.specs.DecodeStates.{ReadForm};
 ghost use Rattle.asn1_items.specs.Kinds.{content_kind};
 ghost use Rattle.asn1_items.specs.declared.error.ItemError.TheVariants.{Memory};
@@ -13,7 +13,7 @@ ghost use Rattle.asn1_model.specs.ConstraintSets.{ConstraintSet};
 ghost use Rattle.asn1_model.specs.Records as model;
 ghost use Rattle.asn1_model.specs.Records.{Name, scalar};
 ghost use Rattle.asn1_tags.specs.declared.tags.Tag.{Tag};
-ghost use Rattle.std.specs.Prelude.{◌≡◌, Bool, Decides, List, MatchResult, OnOk, ℕ};
+ghost use Rattle.std.specs.Prelude.{◌≡◌, Bool, Decides, IfOk, List, MatchResult, OnOk, ℕ};
 
 use crate::contents::Contents;
 use crate::parsed_element::ParsedElement;
@@ -54,7 +54,9 @@ pub trait ElementForm: Sized {
             (own : List ℕ) → content_kind x ≡ kind → IsAlone e own →
             IsParsed element.entry e own → form.Has (scalar t c n x) own →
             MatchResult result (λ contents. HasContents x (octets_of contents)) (λ e. e ≡ Memory) }
-        ensures only { OnOk result (IsFormOf kind element.entry.constructed) };
+        ensures only { OnOk result (IsFormOf kind element.entry.constructed) }
+        ensures carried { IfOk result (λ contents.
+            Carries form kind element.entry (octets_of contents)) };
 
     /// Whether these bytes are in an order that what is inside a record may have.
     fn are_in_order(order: ContentOrder, inside: &[u8]) -> bool

@@ -6,6 +6,8 @@ ghost use Rattle.asn1_model.specs.RecordTables.{no_table};
 ghost use Rattle.asn1_model.specs.Records as model;
 ghost use Rattle.asn1_model.specs.Records.{arcs, boolean, discriminant, null, number};
 ghost use Rattle.asn1_types.specs.AnyStrings.{IsMadeAs, IsStringOf, content_kind_of, content_of_string, content_read};
+ghost use Rattle.asn1_elements.specs.Decoder.{IsReadOfOctets};
+ghost use Rattle.asn1_elements.specs.Strings.{IsReadOfBits, IsReadOfString};
 ghost use Rattle.asn1_items.specs.Bits.{AreBits};
 ghost use Rattle.asn1_values.specs.Bits.{EndsInOne, without_trailing_zeros};
 ghost use Rattle.std.specs.Prelude.{◌≡◌, ⊤, Bool, IfOk, List, MatchResult, ℕ, ℤ, refl};
@@ -34,7 +36,8 @@ pub(crate) trait FromContents: FromContent {
     /// [`ItemError::Memory`], and [`ItemError::Malformed`] where the octets are no contents of the kind, or not of the type.
     fn from_contents(alloc: Global, octets: &[u8]) -> Result<Self, ItemError>
         ensures read { (x : Spelling) → MayCome x → HasContents (spelled x) octets.now →
-            MatchResult result (λ w. IsReadOf w x) (λ e. e ≡ Memory) };
+            MatchResult result (λ w. IsReadOf w x) (λ e. e ≡ Memory) }
+        ensures only { IfOk result (λ w. IsReadOfOctets spelled (IsReadOf w) octets.now) };
 
     // The law of a kind: each content is of it.
     ghost spelled_kind: { (x : Spelling) → content_kind (spelled x) ≡ Self.FromContent.own_kind };
@@ -160,6 +163,7 @@ fn read_string(alloc: Global, kind: StringKind, octets: &[u8]) -> Result<AnyStri
         HasContents x octets.now → MatchResult result
         (λ string. IsMadeAs kind string × (content_of_string string ≡ content_read kind x))
         (λ e. e ≡ Memory) }
+    ensures only { IfOk result (λ string. IsReadOfString kind string octets.now) }
 {
     match kind {
         StringKind::Bits => Ok(AnyString::Bits(read_bits(alloc, octets)?)),
@@ -178,6 +182,7 @@ fn read_string(alloc: Global, kind: StringKind, octets: &[u8]) -> Result<AnyStri
 fn read_named_bits(alloc: Global, octets: &[u8]) -> Result<BitVec, ItemError>
     ensures read { (list : List Bool) → AreBits list octets.now → MatchResult result
         (λ v. v ≡ without_trailing_zeros list) (λ e. e ≡ Memory) }
+    ensures only { IfOk result (λ v. IsReadOfBits v octets.now) }
     ensures ends { IfOk result (λ v. EndsInOne v) }
 {
     let bits = read_packed_bits(alloc, octets)?;

@@ -1,9 +1,12 @@
 -- Numbers of four bytes each, read one after another.
-use Rattle.std.proofs.Common.{◌≡◌, ℕ, ◌≤◌, ◌<◌, ◌^◌, List, [], ◌∷◌, ◌++◌, length, get_or, drop, sym, ap, ◌∙◌, arith, append_assoc, append-nil}
-use Rattle.std.proofs.lemmas.Nat.{from_be_bytes-to_be_bytes_4}
-use Rattle.std.proofs.lemmas.List.Elements.{All-head, All-tail}
+use Rattle.std.proofs.Common.{◌≡◌, ℕ, zero, suc, ◌≤◌, ◌<◌, ◌^◌, List, [], ◌∷◌, ◌++◌, length, get_or, drop, refl, sym, ap, subst, ◌∙◌, arith, append_assoc, append-nil}
+use Rattle.std.proofs.lemmas.Grind.{flat_map-append}
+use Rattle.std.proofs.lemmas.Nat.{be_bytes_4, from_be_bytes-to_be_bytes_4}
+use Rattle.std.proofs.lemmas.List.Elements.{All-append, All-cons, All-head, All-nil, All-tail}
 use Rattle.std.specs.Int.{w32, from_be_bytes}
-use Rattle.asn1_items.specs.Numbers.{AreFours}
+use Rattle.std.specs.List.{flat_map}
+use Rattle.std.specs.Prelude.{All}
+use Rattle.asn1_items.specs.Numbers.{AreFours, four_bytes}
 
 -- Some of the numbers were read, and the bytes of the others are left.
 pub record NumbersRead (numbers left list : List ℕ) : Type 0 where
@@ -39,3 +42,41 @@ none_left numbers left list short m = by m.rest m.are m.left_are
     by : (more : List ℕ) → list ≡ numbers ++ more → AreFours more left → (left ≡ []) × (numbers ≡ list)
     by [] are left_are = (left_are.are, sym (are ∙ append-nil numbers))
     by (x ∷ more) are left_are = absurd (omega (arith, ap length left_are.are))
+
+-- each of the bytes is below 256, so each of the first and each of the others is
+low_first : (a b c d : ℕ) (left : List ℕ) → ((i : ℕ) → get_or (a ∷ b ∷ c ∷ d ∷ left) i 0 < 256) → (i : ℕ) → get_or (a ∷ b ∷ c ∷ d ∷ []) i 0 < 256
+low_first a b c d left low zero = low 0
+low_first a b c d left low (suc zero) = low 1
+low_first a b c d left low (suc (suc zero)) = low 2
+low_first a b c d left low (suc (suc (suc zero))) = low 3
+low_first a b c d left low (suc (suc (suc (suc i)))) = omega arith
+
+low_left : (front left : List ℕ) → ((i : ℕ) → get_or (front ++ left) i 0 < 256) → (i : ℕ) → get_or left i 0 < 256
+low_left [] left low i = low i
+low_left (x ∷ front) left low i = low_left front left (λ k. low (suc k)) i
+
+-- The bytes are those of the numbers that were read, and those that are left.
+pub record AreOf (bytes numbers left : List ℕ) : Type 0 where
+  pub are : bytes ≡ flat_map (λ n. four_bytes n) numbers ++ left
+  pub fit : All (λ n. n < 2 ^ 32) numbers
+
+pub none_of : (bytes numbers : List ℕ) → numbers ≡ [] → AreOf bytes numbers bytes
+none_of bytes [] is = record { are = refl; fit = All-nil (λ n. n < 2 ^ 32) }
+none_of bytes (n ∷ numbers) is = cc
+
+-- one more
+pub one_of : (bytes numbers left rest items : List ℕ) (n : ℕ) → items ≡ numbers ++ n ∷ [] → 4 ≤ length left → rest ≡ drop 4 left → n < 2 ^ 32 → ((i : ℕ) → get_or bytes i 0 < 256) →
+    n ≡ from_be_bytes w32 (get_or left 0 0 ∷ get_or left 1 0 ∷ get_or left 2 0 ∷ get_or left 3 0 ∷ []) → AreOf bytes numbers left → AreOf bytes items rest
+one_of bytes numbers (a ∷ b ∷ c ∷ d ∷ left) rest items n items_are long rest_is fits low is of =
+    let own : four_bytes n ≡ a ∷ b ∷ c ∷ d ∷ [] = be_bytes_4 (a ∷ b ∷ c ∷ d ∷ []) n refl (low_first a b c d left (low_left (flat_map (λ n. four_bytes n) numbers) (a ∷ b ∷ c ∷ d ∷ left) (λ i. subst (λ l. get_or l i 0 < 256) of.are (low i)))) is in
+    let all : flat_map (λ n. four_bytes n) items ≡ flat_map (λ n. four_bytes n) numbers ++ a ∷ b ∷ c ∷ d ∷ [] =
+    ap (flat_map (λ n. four_bytes n)) items_are ∙ flat_map-append (λ n. four_bytes n) numbers (n ∷ []) ∙ ap (λ l. flat_map (λ n. four_bytes n) numbers ++ l) (append-nil (four_bytes n) ∙ own) in
+    record {
+      are = of.are ∙ sym (append_assoc (flat_map (λ n. four_bytes n) numbers) (a ∷ b ∷ c ∷ d ∷ []) left) ∙ ap (λ l. l ++ left) (sym all) ∙ ap (λ l. flat_map (λ n. four_bytes n) items ++ l) (sym rest_is);
+      fit = subst (All (λ n. n < 2 ^ 32)) (sym items_are) (All-append (λ n. n < 2 ^ 32) numbers (n ∷ []) of.fit (All-cons (λ n. n < 2 ^ 32) n [] fits (All-nil (λ n. n < 2 ^ 32))));
+    }
+one_of bytes numbers _ rest items n items_are long rest_is fits low is of = absurd (omega arith)
+
+-- all
+pub all_of : (bytes numbers left : List ℕ) → left ≡ [] → AreOf bytes numbers left → AreFours numbers bytes
+all_of bytes numbers left none of = record { are = of.are ∙ ap (λ l. flat_map (λ n. four_bytes n) numbers ++ l) none ∙ append-nil (flat_map (λ n. four_bytes n) numbers); fit = of.fit }

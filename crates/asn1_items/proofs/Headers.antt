@@ -1,5 +1,6 @@
 -- Bytes that begin with a header, and bytes that begin with none.
-use Rattle.std.proofs.Common.{◌≡◌, ℕ, ◌≤◌, ◌<◌, Option, None, Some, List, [], ◌∷◌, length, get_or, drop, refl, sym, ap, ◌∙◌, arith, zero, suc}
+use Rattle.std.proofs.Common.{◌≡◌, ℕ, ◌≤◌, ◌<◌, Option, None, Some, List, [], ◌∷◌, ◌++◌, length, get_or, drop, refl, sym, ap, ◌∙◌, arith, zero, suc}
+use Rattle.std.proofs.lemmas.Nat.{be_bytes_4}
 use Rattle.std.specs.Option.{option_and_then}
 use Rattle.asn1_tags.specs.Tags.{class_number}
 use Rattle.asn1_tags.specs.declared.classes.Class.{Class}
@@ -7,6 +8,7 @@ use Rattle.asn1_tags.specs.declared.classes.Class.TheVariants.{Universal, Applic
 use Rattle.asn1_tags.specs.declared.tags.Tag.{Tag}
 use Rattle.asn1_items.specs.Headers.{Header, class_at, number_at, from_size, of_kind, from_class}
 use Rattle.asn1_items.specs.Kinds.{item_byte, item_kind_at}
+use Rattle.asn1_items.specs.Numbers.{four_bytes}
 use Rattle.asn1_items.specs.declared.kinds.ItemKind.{ItemKind}
 use Rattle.asn1_items.specs.declared.kinds.ItemKind.TheVariants as item
 use Rattle.asn1_items.specs.declared.kinds.ScopeKind.{ScopeKind}
@@ -125,3 +127,31 @@ kind_at-is (suc (suc (suc (suc (suc zero))))) (item.Scope scope.SetOf) e = refl
 kind_at-is (suc (suc (suc (suc (suc (suc zero)))))) (item.Scope scope.ExplicitTag) e = refl
 kind_at-is (suc (suc (suc (suc (suc (suc (suc zero))))))) (item.Scope scope.Alternative) e = refl
 kind_at-is _ kind e = cc
+
+-- The bytes of the header are those of its parts.
+low_bytes : (a b c d : ℕ) → a < 256 → b < 256 → c < 256 → d < 256 → (i : ℕ) → get_or (a ∷ b ∷ c ∷ d ∷ []) i 0 < 256
+low_bytes a b c d p q r s zero = p
+low_bytes a b c d p q r s (suc zero) = q
+low_bytes a b c d p q r s (suc (suc zero)) = r
+low_bytes a b c d p q r s (suc (suc (suc zero))) = s
+low_bytes a b c d p q r s (suc (suc (suc (suc i)))) = omega arith
+
+pub content_header_are : (xs : List ℕ) (class : Class) (value size : ℕ) → 10 ≤ length xs → ((i : ℕ) → get_or xs i 0 < 256) → class_number class ≡ get_or xs 0 0 →
+    value ≡ number_at (get_or xs 1 0) (get_or xs 2 0) (get_or xs 3 0) (get_or xs 4 0) → size ≡ number_at (get_or xs 6 0) (get_or xs 7 0) (get_or xs 8 0) (get_or xs 9 0) →
+    xs ≡ class_number class ∷ four_bytes value ++ get_or xs 5 0 ∷ four_bytes size ++ drop 10 xs
+content_header_are (x0 ∷ x1 ∷ x2 ∷ x3 ∷ x4 ∷ x5 ∷ x6 ∷ x7 ∷ x8 ∷ x9 ∷ xs) class value size long low is of_value of_size =
+    let v = be_bytes_4 (x1 ∷ x2 ∷ x3 ∷ x4 ∷ []) value refl (low_bytes x1 x2 x3 x4 (low 1) (low 2) (low 3) (low 4)) of_value in
+    let s = be_bytes_4 (x6 ∷ x7 ∷ x8 ∷ x9 ∷ []) size refl (low_bytes x6 x7 x8 x9 (low 6) (low 7) (low 8) (low 9)) of_size in
+    ap (λ k. k ∷ x1 ∷ x2 ∷ x3 ∷ x4 ∷ x5 ∷ x6 ∷ x7 ∷ x8 ∷ x9 ∷ xs) (sym is) ∙ ap (λ l. class_number class ∷ l ++ x5 ∷ x6 ∷ x7 ∷ x8 ∷ x9 ∷ xs) (sym v) ∙
+    ap (λ l. class_number class ∷ four_bytes value ++ x5 ∷ l ++ xs) (sym s)
+content_header_are _ class value size long low is of_value of_size = absurd (omega arith)
+
+pub scope_header_are : (xs : List ℕ) (class : Class) (value size : ℕ) → 9 ≤ length xs → ((i : ℕ) → get_or xs i 0 < 256) → class_number class ≡ get_or xs 0 0 →
+    value ≡ number_at (get_or xs 1 0) (get_or xs 2 0) (get_or xs 3 0) (get_or xs 4 0) → size ≡ number_at (get_or xs 5 0) (get_or xs 6 0) (get_or xs 7 0) (get_or xs 8 0) →
+    xs ≡ class_number class ∷ four_bytes value ++ four_bytes size ++ drop 9 xs
+scope_header_are (x0 ∷ x1 ∷ x2 ∷ x3 ∷ x4 ∷ x5 ∷ x6 ∷ x7 ∷ x8 ∷ xs) class value size long low is of_value of_size =
+    let v = be_bytes_4 (x1 ∷ x2 ∷ x3 ∷ x4 ∷ []) value refl (low_bytes x1 x2 x3 x4 (low 1) (low 2) (low 3) (low 4)) of_value in
+    let s = be_bytes_4 (x5 ∷ x6 ∷ x7 ∷ x8 ∷ []) size refl (low_bytes x5 x6 x7 x8 (low 5) (low 6) (low 7) (low 8)) of_size in
+    ap (λ k. k ∷ x1 ∷ x2 ∷ x3 ∷ x4 ∷ x5 ∷ x6 ∷ x7 ∷ x8 ∷ xs) (sym is) ∙ ap (λ l. class_number class ∷ l ++ x5 ∷ x6 ∷ x7 ∷ x8 ∷ xs) (sym v) ∙
+    ap (λ l. class_number class ∷ four_bytes value ++ l ++ xs) (sym s)
+scope_header_are _ class value size long low is of_value of_size = absurd (omega arith)

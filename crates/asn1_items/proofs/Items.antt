@@ -105,7 +105,7 @@ content_item t content inside bytes back own =
     ∙ ap (λ n. Some (record { kind = item.Content; tag = t; content = content; size = n; body = inside ++ back })) size
 
 -- a scope
-scope_item_of : (kind : ScopeKind) (t : Tag) (inside bytes back : List ℕ) → IsItem (item.Scope kind) t [] inside bytes →
+pub scope_item_of : (kind : ScopeKind) (t : Tag) (inside bytes back : List ℕ) → IsItem (item.Scope kind) t [] inside bytes →
     header_at (bytes ++ back) ≡ Some (record { kind = item.Scope kind; tag = t; content = 0; size = length inside; body = inside ++ back })
 scope_item_of kind t inside bytes back own =
     let tag : record { class = t.class; value = number_at_four t.value } ≡ t = ap (λ n. record { class = t.class; value = n }) (from_be_bytes-to_be_bytes_4 t.value own.tag_fits) in

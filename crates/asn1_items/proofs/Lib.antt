@@ -2,6 +2,7 @@ mod Fours
 pub mod Fronts
 mod GroupTags
 mod Headers
+mod HeaderBytes
 pub mod Items
 pub mod OneBits
 mod Lists
@@ -12,3 +13,4 @@ mod Writing
 mod SizedItems
 pub mod DecodeStates
 mod PackedBits
+pub mod ReadExactly

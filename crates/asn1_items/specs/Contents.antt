@@ -11,7 +11,8 @@ use Rattle.asn1_items.specs.declared.kinds.ContentKind.TheVariants as own_kind
 use Rattle.asn1_model.specs.Records as model
 use Rattle.asn1_model.specs.Records.{StringKind, null, boolean, number, discriminant, arcs, bits, units, teletex, bmp}
 use Rattle.asn1_model.specs.RecordTables.{no_table}
-use Rattle.asn1_types.specs.AnyStrings.{IsStringOf, content_kind_of, content_of_str}
+use Rattle.asn1_types.specs.AnyStrings.{IsMadeAs, IsStringOf, content_kind_of, content_of_str, content_of_string}
+use Rattle.asn1_types.specs.declared.any_string.AnyString.{AnyString}
 use Rattle.asn1_types.specs.declared.any_string.StringKind as kind
 use Rattle.asn1_types.specs.declared.any_string.StringKind.TheVariants as kinds
 
@@ -54,3 +55,14 @@ kind_of_string (kinds.Octets k) (units own list) is = ap (λ s. own_kind.String 
 kind_of_string kinds.Bmp (units own list) is = ap (λ s. own_kind.String (string_kind s)) is
 kind_of_string kinds.Teletex (units own list) is = ap (λ s. own_kind.String (string_kind s)) is
 kind_of_string _ _ is = absurd is
+
+-- The answer is a value of whose content these are the bytes.
+pub record IsReadFrom {W V : Type 0} (content : V → model.Content) (Is : W → V → Type 0) (bytes : List ℕ) (w : W) : Type 0 where
+  pub value : V
+  pub is : Is w value
+  pub has_bytes : IsContent (content value) bytes
+
+-- A string was read from the bytes of its content, as strings of this kind are in memory.
+pub record IsStringFrom (k : kind.StringKind) (bytes : List ℕ) (string : AnyString) : Type 0 where
+  pub is_made : IsMadeAs k string
+  pub has_bytes : IsContent (content_of_string string) bytes

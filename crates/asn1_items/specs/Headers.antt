@@ -1,8 +1,8 @@
 -- The header of an item, as a function of the bytes, and the bytes that are one item. Trailing bytes change nothing.
-use Rattle.std.specs.Prelude.{◌≡◌, ℕ, zero, suc, Bool, false, Option, None, Some, List, [], ◌∷◌, nat_eq, length, ⊤}
+use Rattle.std.specs.Prelude.{◌≡◌, ◌<◌, ◌^◌, ◌++◌, ℕ, zero, suc, Bool, false, Option, None, Some, List, [], ◌∷◌, nat_eq, length, ⊤}
 use Rattle.std.specs.Option.{option_and_then}
 use Rattle.std.specs.Int.{w32, from_be_bytes}
-use Rattle.asn1_items.specs.Kinds.{content_byte, item_kind_at}
+use Rattle.asn1_items.specs.Kinds.{content_byte, item_byte, item_kind_at}
 use Rattle.asn1_items.specs.Numbers.{four_bytes}
 use Rattle.asn1_items.specs.declared.header.ExpectedHeader.{ExpectedHeader}
 use Rattle.asn1_items.specs.declared.header.ExpectedHeader.TheVariants as expected
@@ -91,6 +91,24 @@ pub record IsHeaderAfter (kind : ItemKind) (bytes : List ℕ) (found : Found) : 
   pub header : Header
   pub at : from_class kind bytes ≡ Some header
   pub is : IsHeader found header
+
+-- the byte of the content kind, which an item that holds others has not
+abbrev pub content_bytes : ItemKind → ℕ → List ℕ
+content_bytes item.Content content = content ∷ []
+content_bytes (item.Scope kind) content = []
+
+-- The bytes are those of the header that the program found, after the kind, and those after it.
+pub record AreOfHeaderAfter (kind : ItemKind) (bytes : List ℕ) (found : Found) : Type 0 where
+  pub kind_is : found.kind ≡ kind
+  pub are : bytes ≡ tag_bytes found.tag ++ content_bytes kind found.content ++ four_bytes found.size ++ found.body.now
+  pub tag_fits : found.tag.value < 2 ^ 32
+  pub size_fits : found.size < 2 ^ 32
+
+-- The bytes are those of the header that the program found, and those after it.
+pub record AreOfHeader (bytes : List ℕ) (found : Found) : Type 0 where
+  pub are : bytes ≡ item_byte found.kind ∷ tag_bytes found.tag ++ content_bytes found.kind found.content ++ four_bytes found.size ++ found.body.now
+  pub tag_fits : found.tag.value < 2 ^ 32
+  pub size_fits : found.size < 2 ^ 32
 
 -- The header is what is wanted.
 abbrev pub Meets : ExpectedHeader → Header → Type 0

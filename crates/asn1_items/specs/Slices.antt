@@ -1,7 +1,12 @@
 -- The bytes left of the open lists, and the items taken from them.
-use Rattle.std.specs.Prelude.{◌≡◌, ℕ, List, [], ◌∷◌, ◌++◌, MatchResult, Result, Some, length, vec_len}
-use Rattle.asn1_items.specs.Headers.{Header, Meets, header_at}
+use Rattle.std.specs.Prelude.{◌≡◌, ℕ, IsTrue, List, [], ◌∷◌, ◌++◌, MatchResult, Result, Some, length, vec_len}
+use Rattle.asn1_items.specs.Headers.{Header, Meets, header_at, is_one_item}
+use Rattle.asn1_items.specs.Items.{IsItem}
+use Rattle.asn1_items.specs.Kinds.{content_byte}
 use Rattle.asn1_items.specs.declared.header.ExpectedHeader.{ExpectedHeader}
+use Rattle.asn1_items.specs.declared.header.ExpectedHeader.TheVariants as expected
+use Rattle.asn1_items.specs.declared.kinds.ItemKind.TheVariants as item
+use Rattle.asn1_items.specs.declared.kinds.ScopeKind.TheVariants as scope
 use Rattle.asn1_items.specs.declared.slices.Item.{Item}
 use Rattle.asn1_items.specs.declared.slices.Rest.{Rest}
 use Rattle.asn1_items.specs.declared.slices.Slices.{Slices}
@@ -32,5 +37,17 @@ pub record IsItemTaken (i : Item) (t : Tag) (inside back : List ℕ) (old new : 
 
 -- A call that takes the item that is next, and is what is wanted: it does not fail where the item is there whole.
 abbrev pub TakesItem : {E : Type 0} → ExpectedHeader → Slices → Slices → Result Item E → Type 0
-TakesItem expected old new result = (h : Header) (inside back : List ℕ) → header_at (left_inside old) ≡ Some h → h.body ≡ inside ++ back → h.size ≡ length inside → Meets expected h →
+TakesItem wanted old new result = (h : Header) (inside back : List ℕ) → header_at (left_inside old) ≡ Some h → h.body ≡ inside ++ back → h.size ≡ length inside → Meets wanted h →
     MatchResult result (λ i. IsItemTaken i h.tag inside back old new) (λ _. ⊥)
+
+-- The bytes are an item with the expected header, of this tag, with this inside.
+abbrev pub IsExpectedItem : ExpectedHeader → Tag → List ℕ → List ℕ → Type 0
+IsExpectedItem (expected.Content t k) tag inside bytes = (tag ≡ t) × IsItem item.Content tag (content_byte k ∷ []) inside bytes
+IsExpectedItem (expected.Scope k t) tag inside bytes = (tag ≡ t) × IsItem (item.Scope k) tag [] inside bytes
+IsExpectedItem expected.Alternative tag inside bytes = IsItem (item.Scope scope.Alternative) tag [] inside bytes
+IsExpectedItem expected.Any tag inside bytes = IsTrue (is_one_item bytes)
+
+-- The expected item was taken, and nothing else: what was left is its bytes, and those that are left.
+pub record HasTaken (header : ExpectedHeader) (old new : Slices) (i : Item) : Type 0 where
+  pub is : IsExpectedItem header i.tag i.body.now i.bytes.now
+  pub left : left_inside old ≡ i.bytes.now ++ left_inside new

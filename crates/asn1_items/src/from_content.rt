@@ -1,5 +1,5 @@
 //! Types that are read from the content of an item.
-ghost use Rattle.asn1_items.specs.Contents.{IsContent};
+ghost use Rattle.asn1_items.specs.Contents.{IsContent, IsReadFrom, IsStringFrom};
 ghost use Rattle.asn1_items.specs.Kinds.{content_kind};
 ghost use Rattle.asn1_items.specs.declared.error.ItemError.TheVariants.{Memory};
 ghost use Rattle.asn1_items.specs.declared.kinds.ContentKind.{ContentKind as Kind};
@@ -44,7 +44,8 @@ pub trait FromContent: Sized {
     /// [`ItemError::Memory`], and [`ItemError::Malformed`] where the bytes are no content of the kind, or not of the type.
     fn from_content(alloc: Global, bytes: &[u8]) -> Result<Self, ItemError>
         ensures read { (x : Value) → IsOfType x → IsContent (content x) bytes.now →
-            MatchResult result (λ w. Is w x) (λ e. e ≡ Memory) };
+            MatchResult result (λ w. Is w x) (λ e. e ≡ Memory) }
+        ensures only { IfOk result (IsReadFrom content Is bytes.now) };
 
     // The law of a kind: each content is of it.
     ghost has_kind: { (x : Value) → content_kind (content x) ≡ own_kind };
@@ -188,7 +189,7 @@ impl<U, K: CodecString<U>> FromContent for StringOf<U, K> {
 
     ghost IsOfType = { K.AreOfKind };
 
-    ghost Is = { λ w v. K.units_in w.string ≡ v };
+    ghost Is = { λ w v. (K.units_in w.string ≡ v) × (K.units_read v ≡ v) };
 
     ghost own_kind = { kind.String (content_kind_of K.own_kind) };
 
@@ -211,6 +212,7 @@ fn read_string(alloc: Global, kind: StringKind, bytes: &[u8]) -> Result<AnyStrin
     ensures read { (x : model.Content) → IsStringOf kind x → IsContent x bytes.now →
         MatchResult result (λ string. IsMadeAs kind string × (content_of_string string ≡ x))
         (λ e. e ≡ Memory) }
+    ensures only { IfOk result (IsStringFrom kind bytes.now) }
 {
     match kind {
         StringKind::Bits => Ok(AnyString::Bits(read_bits(alloc, bytes)?)),

@@ -1,5 +1,5 @@
 //! The header of an item.
-ghost use Rattle.asn1_items.specs.Headers.{IsHeader, IsHeaderAfter, IsHeaderOf, Meets, from_class, header_at, Header as HeaderView};
+ghost use Rattle.asn1_items.specs.Headers.{AreOfHeader, AreOfHeaderAfter, IsHeader, IsHeaderAfter, IsHeaderOf, Meets, from_class, header_at, Header as HeaderView};
 ghost use Rattle.asn1_items.specs.declared.kinds.ItemKind.TheVariants as item;
 ghost use Rattle.std.specs.Bool.{Decides};
 ghost use Rattle.std.specs.Prelude.{◌≡◌, ◌≤◌, IfOk, IsOkAnd, Some, length, true};
@@ -66,6 +66,7 @@ pub fn find_header(bytes: &[u8]) -> Result<Header<'_>, ItemError>
     ensures found { (h : HeaderView) → header_at bytes.now ≡ Some h →
         IsOkAnd result (λ found. IsHeader found h) }
     ensures only { IfOk result (IsHeaderOf bytes.now) }
+    ensures are { IfOk result (AreOfHeader bytes.now) }
     ensures shorter { IfOk result (λ found. length found.body.now ≤ length bytes.now) }
 {
     let [byte, rest @ ..] = bytes else {
@@ -83,6 +84,7 @@ fn content_header(bytes: &[u8]) -> Result<Header<'_>, ItemError>
     ensures found { (h : HeaderView) → from_class item.Content bytes.now ≡ Some h →
         IsOkAnd result (λ found. IsHeader found h) }
     ensures only { IfOk result (IsHeaderAfter item.Content bytes.now) }
+    ensures are { IfOk result (AreOfHeaderAfter item.Content bytes.now) }
     ensures shorter { IfOk result (λ found. length found.body.now ≤ length bytes.now) }
 {
     let [class, a, b, c, d, content, e, f, g, h, body @ ..] = bytes else {
@@ -108,6 +110,7 @@ fn scope_header(kind: ScopeKind, bytes: &[u8]) -> Result<Header<'_>, ItemError>
     ensures found { (h : HeaderView) → from_class (item.Scope kind) bytes.now ≡ Some h →
         IsOkAnd result (λ found. IsHeader found h) }
     ensures only { IfOk result (IsHeaderAfter (item.Scope kind) bytes.now) }
+    ensures are { IfOk result (AreOfHeaderAfter (item.Scope kind) bytes.now) }
     ensures shorter { IfOk result (λ found. length found.body.now ≤ length bytes.now) }
 {
     let [class, a, b, c, d, e, f, g, h, body @ ..] = bytes else {

@@ -19,13 +19,13 @@
 //! The main promises (docs/PROMISES.md has more):
 //!
 //! - Each kind of content has bytes of its own, which [`Content::append_to`] appends (`appended`) and
-//!   [`FromContent::from_content`] reads (`read`).
-//! - The header of an item is a function of the bytes, which [`find_header`] finds (`found`, `only`).
+//!   [`FromContent::from_content`] reads (`read`); it answers a value only of the bytes of its content (`only`).
+//! - The header of an item is a function of the bytes, which [`find_header`] finds (`found`, `only`), octet for octet (`are`).
 //!   [`ExpectedHeader::is_met_by`] is true if and only if the header is the expected one (`met`).
 //! - A [`Buffer`] has written the records that it was given, in the open lists (`written`, `opened`, `closed`). It refuses what
 //!   is 2^32 bytes or more inside an item (`too_long`), and to close what is not open (`in_no_scope`, `in_no_group`); any other
 //!   error is memory.
-//! - [`Slices::take_item`] cuts an item off by the length in its header (`took`). Tests show that no length in the bytes reserves
+//! - [`Slices::take_item`] cuts an item off by the length in its header (`took`), and nothing else (`only`). Tests show that no length in the bytes reserves
 //!   memory.
 //! - A [`DecodeState`] begins with all bytes left, and [`DecodeState::finish`] succeeds if and only if no call has failed, no
 //!   scope is open and no byte is left (`all_read`).

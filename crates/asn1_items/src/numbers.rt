@@ -128,6 +128,7 @@ pub(crate) fn read_integer(alloc: Global, bytes: &[u8]) -> Result<Integer, ItemE
 pub fn read_twos(alloc: Global, bytes: &[u8]) -> Result<Vec<u16>, ItemError>
     ensures read { (list : List ℕ) → AreTwos list bytes.now →
         MatchResult result (λ v. v.items ≡ list) (λ e. e ≡ Memory) }
+    ensures only { IfOk result (λ v. AreTwos v.items bytes.now) }
 {
     let mut numbers = Vec::new(alloc);
     let mut left = bytes;
@@ -147,6 +148,7 @@ pub fn read_twos(alloc: Global, bytes: &[u8]) -> Result<Vec<u16>, ItemError>
 pub(crate) fn read_fours(alloc: Global, bytes: &[u8]) -> Result<Vec<u32>, ItemError>
     ensures read { (list : List ℕ) → AreFours list bytes.now →
         MatchResult result (λ v. v.items ≡ list) (λ e. e ≡ Memory) }
+    ensures only { IfOk result (λ v. AreFours v.items bytes.now) }
 {
     let mut numbers = Vec::new(alloc);
     let mut left = bytes;

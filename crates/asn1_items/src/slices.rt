@@ -1,9 +1,9 @@
 //! The bytes that are read, list by list, in the packed form.
-ghost use Rattle.asn1_items.specs.Headers.{IsHeader, header_at, Header as HeaderView};
+ghost use Rattle.asn1_items.specs.Headers.{IsHeader, IsHeaderOf, header_at, Header as HeaderView};
 ghost use Rattle.asn1_items.specs.Items.{marks_skipped};
-ghost use Rattle.asn1_items.specs.Slices.{TakesItem, left_inside, left_outside, open_lists};
+ghost use Rattle.asn1_items.specs.Slices.{HasTaken, TakesItem, left_inside, left_outside, open_lists};
 ghost use Rattle.std.specs.Bool.{Decides};
-ghost use Rattle.std.specs.Prelude.{◌≡◌, ◌∷◌, [], IfErr, IsOkAnd, List, MatchResult, OnOk, Some, ℕ, false, suc, true};
+ghost use Rattle.std.specs.Prelude.{◌≡◌, ◌∷◌, [], IfErr, IfOk, IsOkAnd, List, MatchResult, OnOk, Some, ℕ, false, suc, true};
 
 use crate::error::ItemError;
 use crate::header::{ExpectedHeader, Header, find_header};
@@ -86,6 +86,7 @@ impl<'a> Slices<'a> {
     #[inline(always)]
     pub fn take_item(&mut self, expected: ExpectedHeader) -> Result<Item<'a>, ItemError>
         ensures took { TakesItem expected self.old self.new result }
+        ensures only { IfOk result (HasTaken expected self.old self.new) }
         ensures outside { left_outside self.new ≡ left_outside self.old }
         ensures same_lists { open_lists self.new ≡ open_lists self.old }
     {
@@ -113,6 +114,7 @@ impl<'a> Slices<'a> {
     pub fn take_mark(&mut self) -> Result<u8, ItemError>
         ensures took { (byte : ℕ) (back : List ℕ) → left_inside self.old ≡ byte ∷ back →
             MatchResult result (λ b. (b ≡ byte) × (left_inside self.new ≡ back)) (λ _. ⊥) }
+        ensures only { IfOk result (λ b. left_inside self.old ≡ b ∷ left_inside self.new) }
         ensures outside { left_outside self.new ≡ left_outside self.old }
         ensures same_lists { open_lists self.new ≡ open_lists self.old }
     {
@@ -140,6 +142,7 @@ impl<'a> Slices<'a> {
     pub fn next_header(&self) -> Result<Header<'a>, ItemError>
         ensures found { (h : HeaderView) → header_at (left_inside self.now) ≡ Some h →
             IsOkAnd result (λ found. IsHeader found h) }
+        ensures only { IfOk result (IsHeaderOf (left_inside self.now)) }
     {
         find_header(self.left)
     }

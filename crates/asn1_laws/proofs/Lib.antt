@@ -8,6 +8,8 @@ pub mod ReadingComponents
 pub mod ReadingConstructed
 pub mod ReadingDefaults
 pub mod ReadingElements
+pub mod ReadingExactly
+pub mod ReadingWhole
 pub mod ReadingGroups
 pub mod ReadingBoxes
 pub mod ReadingOnce
@@ -33,3 +35,4 @@ pub mod WritingElements
 pub mod WritingNames
 pub mod WritingSteps
 pub mod WritingUpToOrder
+pub mod UnmarkedRecords

@@ -1,6 +1,8 @@
 -- A value that is read into a box.
-use Rattle.std.proofs.Common.{◌≡◌, ◌⊎◌, Bool, true, false, Result, Ok, Err, inl, inr, refl}
+use Rattle.std.proofs.Common.{◌≡◌, ◌⊎◌, Bool, true, false, Result, Ok, Err, inl, inr, refl, subst, sym}
+use Rattle.std.specs.Prelude.{IfOk}
 use Rattle.std.specs.Result.{MatchResult}
+use Rattle.asn1_laws.specs.ReadingExactly.{HasReadValue}
 use Rattle.asn1_tags.specs.declared.tags.Tag.{Tag}
 use Rattle.asn1_model.specs.ConstraintSets.{ConstraintSet}
 use Rattle.asn1_model.specs.Kinds.{wrapper_type, under_own_name}
@@ -61,3 +63,11 @@ module _ {D V W : Type 0} (R : Reader D) (m : Meaning V) (value : W → V) (t : 
       Refuses R refusals t c old new result
   refuses_boxed refusals (Ok v) result refuses boxed = λ rs rest outer e is at. absurd (refuses rs rest outer e is at)
   refuses_boxed refusals (Err f) result refuses boxed = λ rs rest outer e is at. rw boxed (refuses rs rest outer e is at)
+
+  -- what was read is read as the value in the box
+  pub was_read_boxed : (answer : Result V DecodeError) (result : Result W DecodeError) → IfOk answer (HasReadValue R old new m t c) →
+      MatchResult answer (λ v. MatchResult result (λ w. value w ≡ v) (λ e. e ≡ Memory)) (λ e. result ≡ Err e) →
+      IfOk result (HasReadValue R old new (under_own_name (wrapper_type value m)) t c)
+  was_read_boxed (Ok v) (Ok w) only boxed = subst (λ x. HasReadValue R old new m t c x) (sym boxed) only
+  was_read_boxed (Ok v) (Err e) only boxed = tt
+  was_read_boxed (Err e) result only boxed = rw boxed tt

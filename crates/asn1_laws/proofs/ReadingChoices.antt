@@ -1,10 +1,10 @@
 -- How a CHOICE is read by functions of its own: one that opens it, reads the chosen alternative and closes it, and one that does so
 -- after a tag.
 use Rattle.std.proofs.Common.{◌≡◌, ◌≤◌, ◌+◌, ◌++◌, ℕ, Bool, false, suc, List, [], ◌∷◌, Result, Ok, Err, inl, inr, refl, arith, ap, sym, ◌∙◌, subst}
-use Rattle.std.specs.Prelude.{None, Some, ⊤, true}
-use Rattle.asn1_components.specs.Alternatives.{Alternatives, OneOf, CanBeChosen, Each, HaveDistinctTags, ValueMeaning, all_of, chosen, chosen_meaning, table_of}
+use Rattle.std.specs.Prelude.{None, Some, ⊤, true, if◌then◌else◌}
+use Rattle.asn1_components.specs.Alternatives.{Alternative, Alternatives, OneOf, CanBeChosen, Each, HaveDistinctTags, ValueMeaning, all_of, chosen, chosen_meaning, table_of}
 use Rattle.asn1_components.specs.ChoiceTypes.{AgreesWithChoice}
-use Rattle.asn1_components.specs.ChosenTags.{SelectsSameAlternative, chosen_has_own, chosen_tag, selects_chosen}
+use Rattle.asn1_components.specs.ChosenTags.{SelectsSameAlternative, chosen_has_own, chosen_is_one, chosen_tag, selects_chosen}
 use Rattle.asn1_laws.proofs.ReadingAlternatives.{as_tagged, as_untagged}
 use Rattle.asn1_laws.proofs.ReadingSteps.{fails_inside, flat_failure, not_opened, to_end, within_scope}
 use Rattle.asn1_laws.specs.Reading.{Remaining, KeepsDepth, AfterReading, MayFail, HasAdvanced, Outside, Reader, ReadsBack, ReadsValue}
@@ -14,15 +14,45 @@ use Rattle.asn1_laws.specs.declared.decode_error.DecodeError.TheVariants.{Failed
 use Rattle.asn1_model.specs.Composites.{alternative_records}
 use Rattle.asn1_model.specs.ConstraintSets.{ConstraintSet}
 use Rattle.asn1_model.specs.Meaning.{Meaning}
-use Rattle.asn1_model.specs.Records.{Head, Name, Record, alternative, highest, holding, name_or, explicit_tag}
-use Rattle.asn1_model.specs.Tags.{CHOICE, Has, tree_tags}
+use Rattle.asn1_model.specs.Records.{Head, Name, Record, alternative, highest, holding, is_presence_mark, name_or, explicit_tag, open_type, presence_mark, scalar, scope}
+use Rattle.asn1_model.specs.Tags.{CHOICE, Has, IsOneRecord, LiesIn, among, every, first_of, first_tag, first_tags, only, record_tags, tree_tags}
 use Rattle.asn1_tags.specs.Tags.{tag_eq}
+use Rattle.asn1_tags.specs.Trees.{Tree, is_open, leaves}
 use Rattle.asn1_tags.specs.declared.tags.Tag.{Tag}
 
 -- a name, or the same where there is none
 own_name : (n : Name) → name_or n n ≡ n
 own_name None = refl
 own_name (Some text) = refl
+
+-- a record that is no value of an open type begins with one tag alone
+with_one_tag : (ts : List Tag) (r : Record) → is_presence_mark r ≡ false → LiesIn (record_tags r) (among ts) → LiesIn (record_tags r) (only (first_of (record_tags r)))
+with_one_tag ts (scalar t c n x) no_mark within = λ u has. has
+with_one_tag ts (scope h rs) no_mark within = λ u has. has
+with_one_tag ts (open_type n bytes) no_mark within = absurd within
+with_one_tag ts (presence_mark m) no_mark within = cc
+
+begins_with_first : (tree : Tree) (rs : List Record) → is_open tree ≡ false → IsOneRecord (tree_tags tree) rs → IsOneRecord (only (first_tag rs)) rs
+begins_with_first tree rs closed one =
+    let first : first_tags rs ≡ record_tags one.item = ap first_tags one.alone ∙ ap (λ b. if b then among [] else record_tags one.item) one.no_mark in
+    let tags : tree_tags tree ≡ among (leaves tree) = ap (λ b. if b then every else among (leaves tree)) closed in
+    let within : LiesIn (record_tags one.item) (among (leaves tree)) = subst (λ a. LiesIn a (among (leaves tree))) first (subst (λ a. LiesIn (first_tags rs) a) tags one.within) in
+    record {
+      item = one.item;
+      alone = one.alone;
+      no_mark = one.no_mark;
+      within = subst (λ a. LiesIn a (only (first_of a))) (sym first) (with_one_tag (leaves tree) one.item one.no_mark within);
+    }
+
+-- the chosen alternative is no open type
+chosen_is_closed : (alts : List Alternative) → Each CanBeChosen alts → (x : OneOf alts) → is_open (chosen alts x).type.tree ≡ false
+chosen_is_closed [] can x = absurd x
+chosen_is_closed (a ∷ alts) can (inl w) = can.0.1
+chosen_is_closed (a ∷ alts) can (inr x) = chosen_is_closed alts can.1 x
+
+-- what a CHOICE holds is one record, which begins with the chosen tag
+pub held_is_one : (alts : List Alternative) → Each CanBeChosen alts → (x : OneOf alts) → IsOneRecord (only (chosen_tag alts x)) (chosen_meaning alts x).records
+held_is_one alts can x = begins_with_first (chosen alts x).type.tree (chosen_meaning alts x).records (chosen_is_closed alts can x) (chosen_is_one alts can x)
 
 module _ {D V : Type 0} (R : Reader D) {m : Meaning V} {alts : Alternatives} {pick : V → OneOf (all_of alts)} (eq : V → V → Bool) (law : AgreesWithChoice alts pick m) where
   -- the record of the chosen alternative, and the head of the one around it
@@ -43,7 +73,7 @@ module _ {D V : Type 0} (R : Reader D) {m : Meaning V} {alts : Alternatives} {pi
   pub choice_not_opened : (c : ConstraintSet) (old new : D) {e : DecodeError} → ReadsHeadOfChoice R c alts old new (Err e) → ReadsValue R m eq CHOICE c old new (Err e)
   choice_not_opened c old new {e} opens =
       as_untagged R m alts pick eq CHOICE c old new (Err e) law refl (λ v n rest outer distinct can of_type valid at.
-      not_opened (head c n v) (held v) (R.depth_left old) (opens (first v) distinct can n (held v) rest outer at))
+      not_opened (head c n v) (held v) (R.depth_left old) (opens (first v) distinct can n (held v) rest outer (held_is_one (all_of alts) can (pick v)) at))
 
   -- the innermost scope was not closed, or it was
   abbrev pub EndNotRead : D → DecodeError → Type 0
@@ -64,7 +94,7 @@ module _ {D V : Type 0} (R : Reader D) {m : Meaning V} {alts : Alternatives} {pi
       ReadsAlternative R tag alts pick eq mid end (Err e) → ReadsValue R m eq CHOICE c old new (Err e)
   alternative_not_read c old mid end new tag {e} opens less reads =
       as_untagged R m alts pick eq CHOICE c old new (Err e) law refl (λ v n rest outer distinct can of_type valid at.
-      let s = opens (first v) distinct can n (held v) rest outer at in
+      let s = opens (first v) distinct can n (held v) rest outer (held_is_one (all_of alts) can (pick v)) at in
       let r = reads v [] ((head c n v, rest) ∷ outer) distinct can of_type valid (its_tag v can tag s.answer) (to_end R mid (held v) ((head c n v, rest) ∷ outer) s.at) in
       fails_inside (head c n v) (held v) _ _ less r)
 
@@ -73,7 +103,7 @@ module _ {D V : Type 0} (R : Reader D) {m : Meaning V} {alts : Alternatives} {pi
       ReadsAlternative R tag alts pick eq mid end (Ok w) → EndNotRead end e → ReadsValue R m eq CHOICE c old new (Err e)
   choice_not_closed c old mid end new tag {w} {e} opens reads closes =
       as_untagged R m alts pick eq CHOICE c old new (Err e) law refl (λ v n rest outer distinct can of_type valid at.
-      let s = opens (first v) distinct can n (held v) rest outer at in
+      let s = opens (first v) distinct can n (held v) rest outer (held_is_one (all_of alts) can (pick v)) at in
       let r = reads v [] ((head c n v, rest) ∷ outer) distinct can of_type valid (its_tag v can tag s.answer) (to_end R mid (held v) ((head c n v, rest) ∷ outer) s.at) in
       flat_failure _ _ _ (closes (head c n v) rest outer r.at))
 
@@ -82,7 +112,7 @@ module _ {D V : Type 0} (R : Reader D) {m : Meaning V} {alts : Alternatives} {pi
       ReadsAlternative R tag alts pick eq mid end (Ok w) → EndRead end new → ReadsValue R m eq CHOICE c old new (Ok w)
   choice_read c old mid end new tag {w} opens less reads closes =
       as_untagged R m alts pick eq CHOICE c old new (Ok w) law refl (λ v n rest outer distinct can of_type valid at.
-      let s = opens (first v) distinct can n (held v) rest outer at in
+      let s = opens (first v) distinct can n (held v) rest outer (held_is_one (all_of alts) can (pick v)) at in
       let r = reads v [] ((head c n v, rest) ∷ outer) distinct can of_type valid (its_tag v can tag s.answer) (to_end R mid (held v) ((head c n v, rest) ∷ outer) s.at) in
       let k = closes (head c n v) rest outer r.at in
       record { answer = r.answer; at = k.at; within_depth_left = within_scope (head c n v) (held v) _ _ less r.within_depth_left })

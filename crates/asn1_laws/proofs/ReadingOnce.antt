@@ -6,9 +6,9 @@ use Rattle.std.proofs.lemmas.List.Elements.{All-contains, Contains-append_left, 
 use Rattle.std.proofs.lemmas.List.Sums.{sum_by-append, sum_by-cons}
 use Rattle.asn1_components.specs.ComponentTypes.{ComponentType}
 use Rattle.asn1_model.specs.Composites.{option_records}
-use Rattle.asn1_model.specs.Records.{Side}
+use Rattle.asn1_model.specs.Records.{Side, unmarked}
 use Rattle.asn1_model.specs.TaggedTypes.{TaggedType}
-use Rattle.asn1_laws.specs.SetParts.{ArePartsOf, parts_at, unmarked, written_of}
+use Rattle.asn1_laws.specs.SetParts.{ArePartsOf, parts_at, written_of}
 use Rattle.asn1_laws.proofs.SetRecords.{nothing}
 
 -- another element of a list that is gone through

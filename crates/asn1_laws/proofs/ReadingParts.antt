@@ -7,10 +7,10 @@ use Rattle.asn1_components.specs.ComponentTypes.{ComponentType}
 use Rattle.asn1_laws.specs.Reading.{Remaining, MayFail, HasAdvanced, Advances, Reader, ReadsBack, Outside}
 use Rattle.asn1_laws.specs.declared.decode_error.DecodeError.{DecodeError}
 use Rattle.asn1_model.specs.Composites.{option_records}
-use Rattle.asn1_model.specs.Records.{Record, Side}
+use Rattle.asn1_model.specs.Records.{Record, Side, unmarked}
 use Rattle.asn1_model.specs.TaggedTypes.{TaggedType}
 use Rattle.asn1_model.specs.Tags.{IsOneRecord, Tags}
-use Rattle.asn1_laws.specs.SetParts.{ReadsPart, unmarked, written_of}
+use Rattle.asn1_laws.specs.SetParts.{ReadsPart, written_of}
 
 -- one record has no marks
 one_unmarked : (tags : Tags) (rs : List Record) → IsOneRecord tags rs → unmarked rs ≡ rs

@@ -11,11 +11,11 @@ use Rattle.asn1_components.specs.Following.{AllApart, ApartFromEach}
 use Rattle.asn1_laws.specs.Reading.{IsNextTag, MayFail, Advances, Reader, TellsComponent, marks_passed, records_in, Outside}
 use Rattle.asn1_laws.specs.declared.decode_error.DecodeError.{DecodeError}
 use Rattle.asn1_laws.proofs.ReadingSteps.{flat_failure}
-use Rattle.asn1_model.specs.Records.{Record, scalar, scope, open_type, presence_mark, highest, is_presence_mark, presence_marks_alone}
+use Rattle.asn1_model.specs.Records.{Record, scalar, scope, open_type, presence_mark, highest, is_presence_mark, presence_marks_alone, unmarked}
 use Rattle.asn1_model.specs.Tags.{Has, LiesIn, among, first_tags, record_tags, tree_tags}
 use Rattle.asn1_tags.specs.Trees.{Tree}
 use Rattle.asn1_tags.specs.declared.tags.Tag.{Tag}
-use Rattle.asn1_laws.specs.SetParts.{ArePartsOf, CanBeginWith, EachIsOneRecord, parts_at, unmarked, written_of}
+use Rattle.asn1_laws.specs.SetParts.{ArePartsOf, CanBeginWith, EachIsOneRecord, parts_at, written_of}
 use Rattle.asn1_laws.proofs.Rearrangements.{made_of}
 use Rattle.asn1_laws.proofs.SetRecords.{BeginsWithRecord, IsAll, Item, all_are, all_in_front, as_many_as_written, at_most_one, front, is_front, items_at, items_at-permutation, items_from, nothing, records, their_records}
 

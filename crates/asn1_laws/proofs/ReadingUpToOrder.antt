@@ -5,7 +5,7 @@ use Rattle.std.proofs.lemmas.List.Sorted.{IsPermutation-refl}
 use Rattle.asn1_components.specs.ComponentTypes.{ComponentType}
 use Rattle.asn1_laws.specs.ReadingTypes.{ReadsContent, ReadsOpenType}
 use Rattle.asn1_laws.specs.ReadingUpToOrder.{RemainsUpToOrder, up_to_order}
-use Rattle.asn1_laws.specs.Reading.{Remaining, Outside, Reader, SameRemaining, SameOutside, nothing, scope_and, records_in, IsLawful, HasAdvanced, Advances, MayFail, ReadsMark, ReadsEnd, TellsPresence, TellsMore, TellsNextTag, IsNextTag, ReadsHead, ReadsHeadOfSet, SetIsOpen, marks_passed}
+use Rattle.asn1_laws.specs.Reading.{Remaining, Outside, Reader, SameRemaining, SameOutside, nothing, scope_and, records_in, IsLawful, HasAdvanced, Advances, MayFail, ReadsMark, ReadsEnd, TellsPresence, TellsMore, TellsNextTag, IsNextTag, ReadsHead, ReadsHeadOver, ReadsHeadOfSet, SetIsOpen, marks_passed}
 use Rattle.asn1_laws.specs.declared.decode_error.DecodeError.{DecodeError}
 use Rattle.asn1_laws.proofs.RemainingRecords.{SameRemaining-refl, SameRemaining-trans, same_as_record, same_as_scope, same_as_end}
 use Rattle.asn1_laws.proofs.MarksPassed.{same-marks_passed, same-next_tag}
@@ -13,7 +13,7 @@ use Rattle.asn1_laws.proofs.RecordsIn.{records_in-permutation, same-records_in}
 use Rattle.asn1_model.specs.ConstraintSets.{ConstraintSet}
 use Rattle.asn1_model.specs.Orders.{SameRecord, SameRecords, is_unordered}
 use Rattle.asn1_model.specs.Records.{Name, Record, Head, PresenceMark, Content, scalar, open_type, presence_mark, holding, highest}
-use Rattle.asn1_model.specs.Tags.{Tags, BeginsWithin, LiesIn, ShareNone}
+use Rattle.asn1_model.specs.Tags.{Tags, BeginsWithin, IsOneRecord, LiesIn, ShareNone}
 use Rattle.asn1_model.proofs.SameRecords.{same-mark}
 use Rattle.asn1_model.proofs.SameUpToOrder.{same-first_tags, same-marks_alone, same_as_cons, same_as_holding, same_as_mark, same_as_none, same_as_raw, same_as_scalar}
 use Rattle.asn1_tags.specs.declared.tags.Tag.{Tag}
@@ -37,6 +37,17 @@ begins_the_same own rs ss same begins = record {
   some = same-marks_alone rs ss same ∙ begins.some;
   within = subst (λ ts. LiesIn ts own) (sym (same-first_tags rs ss same)) begins.within;
 }
+
+-- and what is one record
+pub one_the_same : (own : Tags) (rs ss : List Record) → SameRecords rs ss → IsOneRecord own ss → IsOneRecord own rs
+one_the_same own rs ss same one =
+    let b = same_as_cons rs one.item [] (subst (λ l. SameRecords rs l) one.alone same) in
+    record {
+      item = b.first;
+      alone = b.is ∙ ap (λ l. b.first ∷ l) (same_as_none b.others b.same_others);
+      no_mark = same-mark b.same_first ∙ one.no_mark;
+      within = subst (λ ts. LiesIn ts own) (sym (same-first_tags rs ss same)) one.within;
+    }
 
 -- nothing is outside where nothing is
 none_outside : {outer : Outside} → SameOutside outer [] → outer ≡ []
@@ -171,13 +182,19 @@ module _ {D : Type 0} (R : Reader D) where
       carried_over old new 0 (a.around, a.others) (rest, outer) (λ _. ⊤) (λ _. ⊤) result (record { here = a.same_around; outside = a.same_outer }) (λ w holds. holds)
       (reads h a.around a.others (subst (λ l. R.remains old l) is at.remains))
 
-  pub opens : {V : Type 0} (old new : D) (head : Name → Head) (Is : List Record → V → Type 0) (result : Result V DecodeError) →
-      ((n : Name) → is_unordered (head n) ≡ false) → HoldsInAnyOrder Is → ReadsHead R old new head Is result → ReadsHead (up_to_order R) old new head Is result
-  opens old new head Is result ordered holds exact n items rest outer at =
+  pub opens_over : {V : Type 0} (old new : D) (head : Name → Head) (Holds : List Record → Type 0) (Is : List Record → V → Type 0) (result : Result V DecodeError) →
+      ((n : Name) → is_unordered (head n) ≡ false) → ((rs ss : List Record) → SameRecords rs ss → Holds ss → Holds rs) → HoldsInAnyOrder Is →
+      ReadsHeadOver R old new head Holds Is result → ReadsHeadOver (up_to_order R) old new head Holds Is result
+  opens_over old new head Holds Is result ordered carry holds exact n items rest outer inside at =
       let a = same_as_opened at.exactly (head n) items rest outer at.same in
       let same : SameRecords a.inner items = subst (λ l. SameRecords a.inner l) (a.in_place (ordered n)) a.same in
       carried_over old new 1 (a.inner, (head n, a.others) ∷ a.outside) (items, (head n, rest) ∷ outer) (Is a.inner) (Is items) result (record { here = same; outside = scope_and (head n) a.same_rest a.same_outer }) (λ w. holds a.inner items items w same (IsPermutation-refl items))
-      (exact n a.inner a.others a.outside (subst (λ l. R.remains old l) a.is at.remains))
+      (exact n a.inner a.others a.outside (carry a.inner items same inside) (subst (λ l. R.remains old l) a.is at.remains))
+
+  pub opens : {V : Type 0} (old new : D) (head : Name → Head) (Is : List Record → V → Type 0) (result : Result V DecodeError) →
+      ((n : Name) → is_unordered (head n) ≡ false) → HoldsInAnyOrder Is → ReadsHead R old new head Is result → ReadsHead (up_to_order R) old new head Is result
+  opens old new head Is result ordered holds exact n items rest outer =
+      opens_over old new head (λ _. ⊤) Is result ordered (λ rs ss same inside. inside) holds (λ n items rest outer inside. exact n items rest outer) n items rest outer tt
 
   in_some_order : {V : Type 0} (old new : D) (order items : List Record) (outer : Outside) (Is : V → Type 0) (result : Result V DecodeError) → IsPermutation order items →
       MatchResult result (λ w. HasAdvanced (up_to_order R) old new 1 (order, outer) (Is w)) (MayFail (R.depth_left old) 1) →

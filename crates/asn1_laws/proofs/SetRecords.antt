@@ -9,9 +9,9 @@ use Rattle.std.proofs.lemmas.List.Sums.{sum_by-cons}
 use Rattle.asn1_components.specs.ComponentLists.{all_records}
 use Rattle.asn1_components.specs.ComponentTypes.{ComponentType}
 use Rattle.asn1_laws.specs.Reading.{marks_passed, records_in}
-use Rattle.asn1_model.specs.Records.{Record, scalar, scope, open_type, presence_mark, highest, is_presence_mark}
+use Rattle.asn1_model.specs.Records.{Record, scalar, scope, open_type, presence_mark, highest, is_presence_mark, unmarked}
 use Rattle.asn1_model.specs.Tags.{first_tags}
-use Rattle.asn1_laws.specs.SetParts.{EachIsOneRecord, unmarked, written_of}
+use Rattle.asn1_laws.specs.SetParts.{EachIsOneRecord, written_of}
 
 -- the index of a component, and a record of it or a mark
 abbrev pub Item : Type 0

@@ -9,6 +9,7 @@ use Rattle.asn1_model.specs.Composites.{explicit_tag_records}
 use Rattle.asn1_model.specs.ConstraintSets.{ConstraintSet, constraint_set}
 use Rattle.asn1_model.specs.Meaning.{Meaning, IsWellTagged, IsWellTaggedUnder}
 use Rattle.asn1_model.specs.OneRecord.{scope_is_one}
+use Rattle.asn1_model.specs.Readings.{IsReadInside, reads_own_inside}
 use Rattle.asn1_model.specs.Records.{Name, explicit_tag}
 use Rattle.asn1_model.specs.TaggedTypes.{TaggedType, explicitly_tagged_as}
 
@@ -26,6 +27,8 @@ given t c m n = record {
   tag = t;
   tree = m.tree t;
   records = λ v. m.records v t c n;
+  IsReadAs = λ v. m.IsReadAs v t c;
+  reads_own = λ v. m.reads_own v t c n;
   IsWellTagged = IsWellTaggedUnder m t;
   IsOfType = m.IsOfType;
   IsValid = m.IsValid;
@@ -56,6 +59,8 @@ given_after_tag t c m n = record {
   tag = t;
   tree = leaf t;
   records = λ v. explicit_tag_records t n (m.records v m.tag c m.name);
+  IsReadAs = IsReadInside (λ v. m.IsReadAs v m.tag c) (explicit_tag t);
+  reads_own = reads_own_inside (λ v. m.IsReadAs v m.tag c) (λ v. m.records v m.tag c m.name) (λ v. m.reads_own v m.tag c m.name) (explicit_tag t) n;
   IsWellTagged = IsWellTagged m;
   IsOfType = m.IsOfType;
   IsValid = m.IsValid;

@@ -5,6 +5,7 @@ pub mod GivenTypes
 pub mod IndexedComponents
 pub mod OpenSequences
 pub mod Reading
+pub mod ReadingExactly
 pub mod ReadingTypes
 pub mod ReadingUpToOrder
 pub mod Refusals

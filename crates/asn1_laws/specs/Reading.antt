@@ -208,6 +208,14 @@ module _ {D : Type 0} (R : Reader D) where
       Advances old new 1 (holding (head n) items ∷ rest, outer) (items, (head n, rest) ∷ outer)
       (Is items) result
 
+  -- the same of a call that opens records in which this holds of what is inside
+  abbrev pub ReadsHeadOver : {V : Type 0} → D → D → (Name → Head) → (List Record → Type 0) →
+      (List Record → V → Type 0) → Result V DecodeError → Type 0
+  ReadsHeadOver old new head Holds Is result =
+      (n : Name) (items rest : List Record) (outer : Outside) → Holds items →
+      Advances old new 1 (holding (head n) items ∷ rest, outer) (items, (head n, rest) ∷ outer)
+      (Is items) result
+
   -- A set has been opened: what is inside remains to be read, in some order.
   pub record SetIsOpen (old new : D) (items : List Record) (outer : Outside) (Answer : Type 0) : Type 0 where
     pub order : List Record

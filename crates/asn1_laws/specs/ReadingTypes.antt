@@ -13,9 +13,9 @@ use Rattle.asn1_model.specs.Composites.{alternative_records, default_records, gr
 use Rattle.asn1_model.specs.ConstraintSets.{ConstraintSet}
 use Rattle.asn1_model.specs.Meaning.{Meaning, IsWellTagged, own_records}
 use Rattle.asn1_model.specs.Records.{Content, Head, Name, Record, Side, absent, alternative, highest, holding, open_type, present, presence_marks_alone, scalar, set}
-use Rattle.asn1_model.specs.Tags.{Has, ShareNone, first_tags, tree_tags}
+use Rattle.asn1_model.specs.Tags.{Has, IsOneRecord, ShareNone, first_tags, only, tree_tags}
 use Rattle.asn1_laws.specs.GivenTypes.{Named}
-use Rattle.asn1_laws.specs.Reading.{Advances, Outside, Reader, ReadsBack, ReadsHead, TellsPresence, records_in}
+use Rattle.asn1_laws.specs.Reading.{Advances, Outside, Reader, ReadsBack, ReadsHeadOver, TellsPresence, records_in}
 use Rattle.asn1_laws.specs.SetParts.{ArePartsOf, CanBeInSet}
 use Rattle.asn1_laws.specs.declared.decode_error.DecodeError.{DecodeError}
 
@@ -36,12 +36,13 @@ module _ {D : Type 0} (R : Reader D) where
       ReadsBack R old new (open_type n bytes ∷ []) rest outer (λ w. Is w bytes) result
 
   -- A call that opens a CHOICE of these alternatives (X.680, 29), which can be told apart, under
-  -- constraints and any name. It answers a tag that the chosen one can begin with, where that can
-  -- begin with its own.
+  -- constraints and any name. Inside is one record, which begins with the tag of the record around
+  -- it. The call answers a tag that the chosen one can begin with, where that can begin with its own.
   abbrev pub ReadsHeadOfChoice : ConstraintSet → Alternatives → D → D → Result Tag DecodeError → Type 0
   ReadsHeadOfChoice c alternatives old new result =
       (tag : Tag) → HaveDistinctTags (all_of alternatives) → Each CanBeChosen (all_of alternatives) →
-      ReadsHead R old new (alternative tag c (table_of alternatives)) (λ _ answered. SelectsSameAlternative tag answered (all_of alternatives)) result
+      ReadsHeadOver R old new (alternative tag c (table_of alternatives)) (IsOneRecord (only tag))
+      (λ _ answered. SelectsSameAlternative tag answered (all_of alternatives)) result
 
 module _ {D : Type 0} (R : Reader D) {V : Type 0} where
   -- A call that reads a value of a well-tagged type, under any name: of each that is of the type

@@ -8,14 +8,9 @@ use Rattle.asn1_fields.specs.declared.presence.FieldPresence.TheVariants.{Requir
 use Rattle.asn1_laws.specs.Reading.{Outside, Reader, ReadsBack, records_in}
 use Rattle.asn1_laws.specs.declared.decode_error.DecodeError.{DecodeError}
 use Rattle.asn1_laws.specs.declared.decode_error.DecodeError.TheVariants.{Memory}
-use Rattle.asn1_model.specs.Records.{Record, is_presence_mark}
+use Rattle.asn1_model.specs.Records.{Record, unmarked}
 use Rattle.asn1_model.specs.Tags.{Has, tree_tags}
 use Rattle.asn1_tags.specs.declared.tags.Tag.{Tag}
-
--- the records without the presence marks among them
-abbrev pub unmarked : List Record → List Record
-unmarked [] = []
-unmarked (r ∷ rs) = if is_presence_mark r then unmarked rs else r ∷ unmarked rs
 
 -- the components can be those of a SET
 abbrev pub CanBeInSet : {V : Type 0} → List (ComponentType V) → Type 0

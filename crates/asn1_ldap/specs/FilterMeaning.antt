@@ -1,7 +1,7 @@
 -- The meaning of `Filter`.
-use Rattle.std.specs.Prelude.{◌≡◌, ◌↔◌, [], ℕ, ⊤, Bool, List, codes, refl}
+use Rattle.std.specs.Prelude.{◌≡◌, ◌↔◌, [], ℕ, Bool, List, codes, refl}
 use Rattle.std.proofs.Common.{◌∙◌, ap}
-use Rattle.asn1_circles.specs.Words.{Alternatives, IsMadeOf, KnotLaws, KnotOf, Meaning, MeansTheSame, OneOf, Record, all_of, choice_itself, choice_knot, each_by, flat_map-map, inner, itself_at_all, knot_is_made, knot_meaning, level, of_type_to, own_records, same_at_all, valid_to, well_formed_alone}
+use Rattle.asn1_circles.specs.Words.{Alternatives, IsMadeOf, KnotLaws, KnotOf, Meaning, MeansTheSame, OneOf, ReadAtSome, Record, Tag, all_of, choice_itself, choice_itself_is_read, choice_knot, chosen_meaning, context, each_by, elements_at_some, explicit_tag, flat_map-map, inner, inside_at_some, itself_at_all, knot_is_made, knot_meaning, own_records, read_level, same_at_all, same_read, set_of, type_level, unconstrained, valid_level}
 use Rattle.asn1_ldap.specs.FilterLists.{filter_of_alternatives, filter_of_pick, filter_of_meaning}
 use Rattle.asn1_ldap.specs.Validity.{EachIsValid, ValidRecords, ValueMeaning, all_valid, valid_records, written_valid}
 use Rattle.asn1_ldap.specs.FilterValidity.{filter_of_is_valid}
@@ -48,16 +48,13 @@ within = inner knot
 abbrev mapped : Knot-F Knot → FilterOf Knot → FilterOf ValidRecords
 mapped f v = (map-Knot Knot ValidRecords folded (record f { 0 = record f.0 { value = v } })).0.value
 
--- the meaning of a value inside another down to a depth
-abbrev type_level : ℕ → Meaning Knot
-type_level n = level knot (of_type_to knot n) (well_formed_alone knot)
+-- what is read as a value inside another
+within_read : (t : Tag) (v : Knot) → ReadAtSome (λ n. (read_level knot n).IsReadAs v t unconstrained) (within.IsReadAs v t unconstrained)
+within_read t v = choice_itself_is_read (codes "Filter") alternatives pick in_knot inside t unconstrained v
 
-abbrev valid_level : ℕ → Meaning Knot
-valid_level n = level knot (λ _. ⊤) (valid_to knot n)
-
-filter_of_of_type : (v : FilterOf Knot) → ((n : ℕ) → (filter_of_meaning (type_level n)).IsOfType v) ↔ (filter_of_meaning within).IsOfType v
-filter_of_of_type (filter_of-And v) = each_by (λ n. (type_level n).IsOfType) (within.IsOfType) (λ e1. itself_at_all) v
-filter_of_of_type (filter_of-Or v) = each_by (λ n. (type_level n).IsOfType) (within.IsOfType) (λ e1. itself_at_all) v
+filter_of_of_type : (v : FilterOf Knot) → ((n : ℕ) → (filter_of_meaning (type_level knot n)).IsOfType v) ↔ (filter_of_meaning within).IsOfType v
+filter_of_of_type (filter_of-And v) = each_by (λ n. (type_level knot n).IsOfType) (within.IsOfType) (λ e1. itself_at_all) v
+filter_of_of_type (filter_of-Or v) = each_by (λ n. (type_level knot n).IsOfType) (within.IsOfType) (λ e1. itself_at_all) v
 filter_of_of_type (filter_of-Not v) = itself_at_all
 filter_of_of_type (filter_of-EqualityMatch v) = same_at_all
 filter_of_of_type (filter_of-Substrings v) = same_at_all
@@ -67,9 +64,9 @@ filter_of_of_type (filter_of-Present v) = same_at_all
 filter_of_of_type (filter_of-ApproxMatch v) = same_at_all
 filter_of_of_type (filter_of-ExtensibleMatch v) = same_at_all
 
-filter_of_valid : (accepts : List ℕ → Bool) (v : FilterOf Knot) → ((n : ℕ) → (filter_of_meaning (valid_level n)).IsValid accepts v) ↔ (filter_of_meaning within).IsValid accepts v
-filter_of_valid accepts (filter_of-And v) = each_by (λ n. (valid_level n).IsValid accepts) (within.IsValid accepts) (λ e1. itself_at_all) v
-filter_of_valid accepts (filter_of-Or v) = each_by (λ n. (valid_level n).IsValid accepts) (within.IsValid accepts) (λ e1. itself_at_all) v
+filter_of_valid : (accepts : List ℕ → Bool) (v : FilterOf Knot) → ((n : ℕ) → (filter_of_meaning (valid_level knot n)).IsValid accepts v) ↔ (filter_of_meaning within).IsValid accepts v
+filter_of_valid accepts (filter_of-And v) = each_by (λ n. (valid_level knot n).IsValid accepts) (within.IsValid accepts) (λ e1. itself_at_all) v
+filter_of_valid accepts (filter_of-Or v) = each_by (λ n. (valid_level knot n).IsValid accepts) (within.IsValid accepts) (λ e1. itself_at_all) v
 filter_of_valid accepts (filter_of-Not v) = itself_at_all
 filter_of_valid accepts (filter_of-EqualityMatch v) = same_at_all
 filter_of_valid accepts (filter_of-Substrings v) = same_at_all
@@ -78,6 +75,18 @@ filter_of_valid accepts (filter_of-LessOrEqual v) = same_at_all
 filter_of_valid accepts (filter_of-Present v) = same_at_all
 filter_of_valid accepts (filter_of-ApproxMatch v) = same_at_all
 filter_of_valid accepts (filter_of-ExtensibleMatch v) = same_at_all
+
+filter_of_read_inside : (v : FilterOf Knot) → ReadAtSome (λ n. (chosen_meaning (all_of (filter_of_alternatives (read_level knot n))) (filter_of_pick (read_level knot n) v)).AreReadAs) (chosen_meaning (all_of (filter_of_alternatives within)) (filter_of_pick within v)).AreReadAs
+filter_of_read_inside (filter_of-And v) = inside_at_some (set_of (context 0) unconstrained) (elements_at_some v (λ e1. within_read within.tag e1))
+filter_of_read_inside (filter_of-Or v) = inside_at_some (set_of (context 1) unconstrained) (elements_at_some v (λ e1. within_read within.tag e1))
+filter_of_read_inside (filter_of-Not v) = inside_at_some (explicit_tag (context 2)) (within_read within.tag v)
+filter_of_read_inside (filter_of-EqualityMatch v) = same_read
+filter_of_read_inside (filter_of-Substrings v) = same_read
+filter_of_read_inside (filter_of-GreaterOrEqual v) = same_read
+filter_of_read_inside (filter_of-LessOrEqual v) = same_read
+filter_of_read_inside (filter_of-Present v) = same_read
+filter_of_read_inside (filter_of-ApproxMatch v) = same_read
+filter_of_read_inside (filter_of-ExtensibleMatch v) = same_read
 
 same_records : (f : Knot-F Knot) (v : FilterOf Knot) → (write (map-Knot Knot ValidRecords folded (record f { 0 = record f.0 { value = v } }))).records ≡ (knot.content Knot within v).records
 same_records f (filter_of-And v0) = rw (flat_map-map (own_records already) folded v0) refl
@@ -95,6 +104,7 @@ pub laws : KnotLaws knot
 laws = record {
   of_type = filter_of_of_type;
   valid_inside = filter_of_valid;
+  read_inside = filter_of_read_inside;
   records = λ v. ap (λ rs. rs.records) (fold_out-Knot ValidRecords write v) ∙ same_records (out-Knot v) (out-Knot v).0.value;
 }
 
@@ -103,16 +113,16 @@ abbrev pub meaning : Meaning Knot
 meaning = knot_meaning (codes "Filter") alternatives pick in_knot inside laws
 
 unrolled : (v : FilterOf Knot) → MeansTheSame (knot.content Knot within v) (knot.content Knot meaning v)
-unrolled (filter_of-And v) = record { records = refl; of_type = (λ h. h, λ h. h); valid = λ _. (λ h. h, λ h. h) }
-unrolled (filter_of-Or v) = record { records = refl; of_type = (λ h. h, λ h. h); valid = λ _. (λ h. h, λ h. h) }
-unrolled (filter_of-Not v) = record { records = refl; of_type = (λ h. h, λ h. h); valid = λ _. (λ h. h, λ h. h) }
-unrolled (filter_of-EqualityMatch v) = record { records = refl; of_type = (λ h. h, λ h. h); valid = λ _. (λ h. h, λ h. h) }
-unrolled (filter_of-Substrings v) = record { records = refl; of_type = (λ h. h, λ h. h); valid = λ _. (λ h. h, λ h. h) }
-unrolled (filter_of-GreaterOrEqual v) = record { records = refl; of_type = (λ h. h, λ h. h); valid = λ _. (λ h. h, λ h. h) }
-unrolled (filter_of-LessOrEqual v) = record { records = refl; of_type = (λ h. h, λ h. h); valid = λ _. (λ h. h, λ h. h) }
-unrolled (filter_of-Present v) = record { records = refl; of_type = (λ h. h, λ h. h); valid = λ _. (λ h. h, λ h. h) }
-unrolled (filter_of-ApproxMatch v) = record { records = refl; of_type = (λ h. h, λ h. h); valid = λ _. (λ h. h, λ h. h) }
-unrolled (filter_of-ExtensibleMatch v) = record { records = refl; of_type = (λ h. h, λ h. h); valid = λ _. (λ h. h, λ h. h) }
+unrolled (filter_of-And v) = record { records = refl; read = λ _. (λ h. h, λ h. h); of_type = (λ h. h, λ h. h); valid = λ _. (λ h. h, λ h. h) }
+unrolled (filter_of-Or v) = record { records = refl; read = λ _. (λ h. h, λ h. h); of_type = (λ h. h, λ h. h); valid = λ _. (λ h. h, λ h. h) }
+unrolled (filter_of-Not v) = record { records = refl; read = λ _. (λ h. h, λ h. h); of_type = (λ h. h, λ h. h); valid = λ _. (λ h. h, λ h. h) }
+unrolled (filter_of-EqualityMatch v) = record { records = refl; read = λ _. (λ h. h, λ h. h); of_type = (λ h. h, λ h. h); valid = λ _. (λ h. h, λ h. h) }
+unrolled (filter_of-Substrings v) = record { records = refl; read = λ _. (λ h. h, λ h. h); of_type = (λ h. h, λ h. h); valid = λ _. (λ h. h, λ h. h) }
+unrolled (filter_of-GreaterOrEqual v) = record { records = refl; read = λ _. (λ h. h, λ h. h); of_type = (λ h. h, λ h. h); valid = λ _. (λ h. h, λ h. h) }
+unrolled (filter_of-LessOrEqual v) = record { records = refl; read = λ _. (λ h. h, λ h. h); of_type = (λ h. h, λ h. h); valid = λ _. (λ h. h, λ h. h) }
+unrolled (filter_of-Present v) = record { records = refl; read = λ _. (λ h. h, λ h. h); of_type = (λ h. h, λ h. h); valid = λ _. (λ h. h, λ h. h) }
+unrolled (filter_of-ApproxMatch v) = record { records = refl; read = λ _. (λ h. h, λ h. h); of_type = (λ h. h, λ h. h); valid = λ _. (λ h. h, λ h. h) }
+unrolled (filter_of-ExtensibleMatch v) = record { records = refl; read = λ _. (λ h. h, λ h. h); of_type = (λ h. h, λ h. h); valid = λ _. (λ h. h, λ h. h) }
 
 -- It is the meaning of what a value is made of.
 pub is_made : IsMadeOf in_knot meaning (filter_of_meaning meaning)

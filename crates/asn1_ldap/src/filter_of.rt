@@ -184,7 +184,7 @@ impl<T: AsnType + Eq + Drop> HoldsItself for FilterOf<T> {
 
     ghost are_cases = { its_cases };
 
-    ghost is_inside = { record { single = tt; records = λ _ _ _ _. refl; of_type = λ _ h. h; valid = λ _ _ h. h; constraints = refl } };
+    ghost is_inside = { record { single = tt; records = λ _ _ _ _. refl; read = λ _ _ _ _ h. h; of_type = λ _ h. h; valid = λ _ _ h. h; constraints = refl } };
 }
 
 impl<T: AsnType + Eq + Drop> DecodeChoiceWith<T> for FilterOf<T> {

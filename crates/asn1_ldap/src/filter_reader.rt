@@ -1,6 +1,6 @@
 //! The reader of `Filter`.
-ghost use Rattle.std.specs.Prelude.{◌<◌};
-ghost use Rattle.asn1_circles.specs.Words.{AfterReading, ReadsValue, constraint_set, said};
+ghost use Rattle.std.specs.Prelude.{◌<◌, IfOk};
+ghost use Rattle.asn1_circles.specs.Words.{AfterReading, HasReadValue, ReadsValue, constraint_set, said};
 ghost use Rattle.asn1_ldap.specs.FilterMeaning.{meaning};
 ghost use Rattle.asn1_ldap.specs.FilterReading.{ReadsKnot};
 
@@ -18,6 +18,8 @@ pub(crate) fn read_filter<E: ReadError, D: Decoder>(
 ) -> Result<Filter, DecodeError>
     ensures read { ReadsValue D.reader meaning ⟦<Filter as PartialEq>⟧.eq tag
         (constraint_set constraints.now) decoder.old decoder.new result }
+    ensures only { IfOk result (HasReadValue D.reader decoder.old decoder.new meaning tag
+        (constraint_set constraints.now)) }
     ensures after_reading { AfterReading D.reader meaning tag (constraint_set constraints.now)
         decoder.old decoder.new result }
 {

@@ -6,7 +6,7 @@ use Rattle.std.specs.Option.{option_map}
 use Rattle.asn1_tags.specs.declared.tags.Tag.{Tag}
 use Rattle.asn1_tags.specs.Tags.{tag_eq, distinct}
 use Rattle.asn1_tags.specs.Trees.{Tree, Trees, leaf, choice, leaves}
-use Rattle.asn1_values.specs.Bits.{EndsInOne}
+use Rattle.asn1_values.specs.Bits.{EndsInOne, without_trailing_zeros}
 use Rattle.asn1_ranges.specs.Members.{IsMember}
 use Rattle.asn1_ranges.specs.declared.bounded.Bounded.{Bounded}
 use Rattle.asn1_model.specs.ConstraintSets.{ConstraintSet, unconstrained, values_of, size_of}
@@ -14,7 +14,8 @@ use Rattle.asn1_model.specs.Records.{Name, Record, name_or, Content, Head, arcs,
 use Rattle.asn1_model.specs.RecordTables.{Label, Row, Table}
 use Rattle.asn1_model.specs.Tags.{universal, CHOICE, Has, HasOwnTag, IsATag, first_tag, tree_tags}
 use Rattle.asn1_model.specs.Composites.{option_records, choice_records}
-use Rattle.asn1_model.specs.Meaning.{Meaning, own_records, IsWellTagged, IsWellTaggedUnder}
+use Rattle.asn1_model.specs.Meaning.{IsReadAsOwn, Meaning, own_is_read, own_records, IsWellTagged, IsWellTaggedUnder}
+use Rattle.asn1_model.specs.Readings.{AreElementsRead, IsReadAsChoice, IsReadAsOption, IsReadInside, IsScalar, reads_own_choice, elements_read_own, reads_own_inside, reads_own_option}
 use Rattle.asn1_model.specs.WellFormed.{AreWellFormed, well_formed_choice, well_formed_elements, well_formed_option, well_formed_scope}
 use Rattle.asn1_model.specs.OneRecord.{scalar_is_one, scope_is_one, choice_is_one}
 
@@ -28,6 +29,8 @@ scalar_type tag constraints name content = record {
   is_choice = false;
   is_present = λ _. true;
   records = λ v t c n. scalar t c n (content v) ∷ [];
+  IsReadAs = λ v t c. IsScalar t c (content v);
+  reads_own = λ v t c n. (n, refl);
   IsSingleRecord = ⊤;
   HasDistinctTags = IsATag;
   IsOfType = λ _. ⊤;
@@ -40,6 +43,8 @@ scalar_type tag constraints name content = record {
 abbrev pub without_constraints : {V : Type 0} → Meaning V → Meaning V
 without_constraints m = record m {
   records = λ v t c n. m.records v t unconstrained n;
+  IsReadAs = λ v t c. m.IsReadAs v t unconstrained;
+  reads_own = λ v t c n. m.reads_own v t unconstrained n;
   one_record = λ v t c n. m.one_record v t unconstrained n;
   well_formed = λ accepts v t c n. m.well_formed accepts v t unconstrained n;
 }
@@ -48,6 +53,7 @@ without_constraints m = record m {
 abbrev pub under_own_name : {V : Type 0} → Meaning V → Meaning V
 under_own_name m = record m {
   records = λ v t c n. m.records v t c (name_or n m.name);
+  reads_own = λ v t c n. m.reads_own v t c (name_or n m.name);
   one_record = λ v t c n. m.one_record v t c (name_or n m.name);
   well_formed = λ accepts v t c n. m.well_formed accepts v t c (name_or n m.name);
 }
@@ -62,9 +68,14 @@ string_type tag name IsUnit content =
 abbrev pub bit_string : Meaning (List Bool)
 bit_string = string_type (universal 3) (codes "BIT_STRING") (λ _. ⊤) bits
 
--- A BIT STRING with named bits (22.7), of which the last is 1, if there is one, since 0 bits at the end mean nothing.
+-- A BIT STRING with named bits (22.7), of which the last is 1, if there is one, since 0 bits at the end mean nothing. With such bits it
+-- is read as the same value (X.690, 8.6.2.4).
 abbrev pub named_bit_string : Meaning (List Bool)
-named_bit_string = record bit_string { IsOfType = EndsInOne }
+named_bit_string = record bit_string {
+  IsReadAs = λ v t c rs. (list : List Bool) × (without_trailing_zeros list ≡ without_trailing_zeros v) × IsScalar t c (bits list) rs;
+  reads_own = λ v t c n. (v, refl, (name_or n bit_string.name, refl));
+  IsOfType = EndsInOne;
+}
 
 -- A UTF8String (X.680, 41), by its bytes, which are those of a text.
 abbrev pub utf8_string : {V : Type 0} → (V → List ℕ) → Meaning V
@@ -96,6 +107,8 @@ wrapper_type target m = record {
   is_choice = m.is_choice;
   is_present = λ w. m.is_present (target w);
   records = λ w. m.records (target w);
+  IsReadAs = λ w. m.IsReadAs (target w);
+  reads_own = λ w. m.reads_own (target w);
   IsSingleRecord = m.IsSingleRecord;
   HasDistinctTags = m.HasDistinctTags;
   IsOfType = λ w. m.IsOfType (target w);
@@ -115,6 +128,8 @@ option_type m = record {
   is_choice = m.is_choice;
   is_present = λ o. is_some o;
   records = λ o t c n. option_records in_root t (option_map (λ v. m.records v t c n) o);
+  IsReadAs = λ o t c. IsReadAsOption (λ v. m.IsReadAs v t c) in_root t o;
+  reads_own = λ o t c n. reads_own_option (λ v. m.IsReadAs v t c) (λ v. m.records v t c n) (λ v. m.reads_own v t c n) in_root t o;
   IsSingleRecord = ⊥;
   HasDistinctTags = IsWellTaggedUnder m;
   IsOfType = λ o. IfSome o m.IsOfType;
@@ -124,10 +139,12 @@ option_type m = record {
       (λ v. m.records v t c n) (λ v. m.well_formed accepts v t c n) o;
 }
 
--- The contents of the values of a type that hold others: their records; whether their types are well tagged,
--- with distinct tags; whether a value's are of their types; and whether they are valid, when their records are well formed.
+-- The contents of the values of a type that hold others: their records, and what is read as they are; whether their types are well
+-- tagged, with distinct tags; whether a value's are of their types; and whether they are valid, when their records are well formed.
 pub record Inside (V : Type 0) : Type 1 where
   pub records : V → List Record
+  pub AreReadAs : V → List Record → Type 0
+  pub read_own : (v : V) → AreReadAs v (records v)
   pub IsWellTagged : Type 0
   pub AreOfType : V → Type 0
   pub AreValid : (List ℕ → Bool) → V → Type 0
@@ -146,6 +163,8 @@ scope_type head at tag constraints name inside = record {
   is_choice = false;
   is_present = λ _. true;
   records = λ v t c n. holding (head t c n) (inside.records v) ∷ [];
+  IsReadAs = λ v t c. IsReadInside inside.AreReadAs (head t c) v;
+  reads_own = λ v t c n. reads_own_inside inside.AreReadAs inside.records inside.read_own (head t c) n v;
   IsSingleRecord = ⊤;
   HasDistinctTags = λ t. IsATag t × inside.IsWellTagged;
   IsOfType = inside.AreOfType;
@@ -162,6 +181,8 @@ abbrev pub elements_type : {V W : Type 0} → (head : Tag → ConstraintSet → 
 elements_type head at tag name constraints elements m =
     under_own_name (scope_type head at tag constraints (Some name) (record {
       records = λ w. flat_map (own_records m) (elements w);
+      AreReadAs = λ w. AreElementsRead (IsReadAsOwn m) (elements w);
+      read_own = λ w. elements_read_own (IsReadAsOwn m) (own_records m) (own_is_read m) (elements w);
       IsWellTagged = IsWellTagged m;
       AreOfType = λ w. All m.IsOfType (elements w);
       AreValid = λ accepts w. All (m.IsValid accepts) (elements w);
@@ -190,6 +211,8 @@ empty_type = record {
   is_choice = false;
   is_present = λ _. true;
   records = λ _ _ _ _. [];
+  IsReadAs = λ _ _ _ rs. rs ≡ [];
+  reads_own = λ _ _ _ _. refl;
   IsSingleRecord = ⊥;
   HasDistinctTags = λ _. ⊥;
   IsOfType = λ _. ⊤;
@@ -232,6 +255,8 @@ choice_type name constraints inside chosen = record {
   is_choice = true;
   is_present = λ _. true;
   records = λ v. choice_records (first_tag (inside.records v)) chosen.table (inside.records v) constraints name;
+  IsReadAs = λ v t c. IsReadAsChoice inside.AreReadAs chosen.table constraints t c v;
+  reads_own = λ v t c n. reads_own_choice inside.AreReadAs inside.records inside.read_own chosen.table constraints name t c n v;
   IsSingleRecord = ⊤;
   HasDistinctTags = λ _. IsTrue (distinct (leaves (choice chosen.alternatives))) × inside.IsWellTagged;
   IsOfType = inside.AreOfType;

@@ -4,7 +4,9 @@ pub mod Records
 pub mod Tags
 pub mod Orders
 pub mod Composites
+pub mod Readings
 pub mod Meaning
+pub mod ReadingLaws
 pub mod Kinds
 pub mod TypeTables
 pub mod OneRecord

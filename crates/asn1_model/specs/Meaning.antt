@@ -21,6 +21,10 @@ pub record Meaning (V : Type 0) : Type 1 where
   pub is_present : V → Bool
   -- the records of a value under a tag, constraints and a name
   pub records : V → Tag → ConstraintSet → Name → List Record
+  -- what is read as a value under a tag and constraints: its own records under whatever name, and those that say the same to a
+  -- reader, as with a default that is written, 0 bits behind named bits, or the components of a SET in another order
+  pub IsReadAs : V → Tag → ConstraintSet → List Record → Type 0
+  pub reads_own : (v : V) (t : Tag) (c : ConstraintSet) (n : Name) → IsReadAs v t c (records v t c n)
   -- each value is a single record. This holds of every type but an option, which may be absent, a type without any
   -- content, and a wrapper of one of these
   pub IsSingleRecord : Type 0
@@ -50,6 +54,13 @@ module _ {V : Type 0} (m : Meaning V) where
   -- the records of a value under the type's own tag, constraints and name
   abbrev pub own_records : V → List Record
   own_records v = m.records v m.tag m.constraints m.name
+
+  -- what is read as a value under the type's own tag and constraints
+  abbrev pub IsReadAsOwn : V → List Record → Type 0
+  IsReadAsOwn v rs = m.IsReadAs v m.tag m.constraints rs
+
+  pub own_is_read : (v : V) → IsReadAsOwn v (own_records v)
+  own_is_read v = m.reads_own v m.tag m.constraints m.name
 
   -- these are the type's own tag, constraints and name
   abbrev pub HasOwn : Tag → ConstraintSet → Name → Type 0

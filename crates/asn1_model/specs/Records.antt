@@ -1,5 +1,5 @@
 -- The meaning of a value to a codec: a list of records and presence marks.
-use Rattle.std.specs.Prelude.{◌≡◌, ℕ, suc, max, ℤ, Bool, true, false, ◌&&◌, List, [], ◌∷◌, Option, None, Some, refl}
+use Rattle.std.specs.Prelude.{◌≡◌, ℕ, suc, max, ℤ, Bool, true, false, ◌&&◌, List, [], ◌∷◌, Option, None, Some, refl, if◌then◌else◌}
 use Rattle.std.proofs.Common.{ap}
 use Rattle.asn1_tags.specs.declared.tags.Tag.{Tag}
 use Rattle.asn1_model.specs.ConstraintSets.{ConstraintSet}
@@ -125,3 +125,8 @@ is_presence_mark (presence_mark m) = true
 abbrev pub presence_marks_alone : List Record → Bool
 presence_marks_alone [] = true
 presence_marks_alone (r ∷ rs) = is_presence_mark r && presence_marks_alone rs
+
+-- the records without the presence marks among them
+abbrev pub unmarked : List Record → List Record
+unmarked [] = []
+unmarked (r ∷ rs) = if is_presence_mark r then unmarked rs else r ∷ unmarked rs

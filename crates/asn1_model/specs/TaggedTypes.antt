@@ -3,7 +3,8 @@ use Rattle.std.specs.Prelude.{ℕ, Bool, List, refl}
 use Rattle.asn1_tags.specs.declared.tags.Tag.{Tag}
 use Rattle.asn1_tags.specs.Trees.{Tree, leaf}
 use Rattle.asn1_model.specs.Composites.{explicit_tag_records}
-use Rattle.asn1_model.specs.Meaning.{Meaning, own_records, IsWellTagged, IsWellTaggedUnder}
+use Rattle.asn1_model.specs.Meaning.{IsReadAsOwn, Meaning, own_is_read, own_records, IsWellTagged, IsWellTaggedUnder}
+use Rattle.asn1_model.specs.Readings.{IsReadInside, reads_own_inside}
 use Rattle.asn1_model.specs.OneRecord.{scope_is_one}
 use Rattle.asn1_model.specs.WellFormed.{AreWellFormed}
 use Rattle.asn1_model.specs.Records.{Name, Record, explicit_tag}
@@ -15,8 +16,10 @@ pub record TaggedType (W : Type 0) : Type 1 where
   pub tag : Tag
   -- the tags with which it can begin
   pub tree : Tree
-  -- the records of a value
+  -- the records of a value, and what is read as it
   pub records : W → List Record
+  pub IsReadAs : W → List Record → Type 0
+  pub reads_own : (w : W) → IsReadAs w (records w)
   -- the type is well tagged
   pub IsWellTagged : Type 0
   -- whether a value meets the type's invariant, and whether it is valid
@@ -34,6 +37,8 @@ tagged t m = record {
   tag = t;
   tree = m.tree t;
   records = λ w. m.records w t m.constraints m.name;
+  IsReadAs = λ w. m.IsReadAs w t m.constraints;
+  reads_own = λ w. m.reads_own w t m.constraints m.name;
   IsWellTagged = IsWellTaggedUnder m t;
   IsOfType = m.IsOfType;
   IsValid = m.IsValid;
@@ -51,6 +56,8 @@ explicitly_tagged_as name t m = record {
   tag = t;
   tree = leaf t;
   records = λ w. explicit_tag_records t name (own_records m w);
+  IsReadAs = IsReadInside (IsReadAsOwn m) (explicit_tag t);
+  reads_own = reads_own_inside (IsReadAsOwn m) (own_records m) (own_is_read m) (explicit_tag t) name;
   IsWellTagged = IsATag t × IsWellTagged m;
   IsOfType = m.IsOfType;
   IsValid = m.IsValid;

@@ -12,6 +12,7 @@ ghost use Rattle.asn1_model.specs.Tags.{universal};
 
 mod invariants;
 mod premises;
+mod readings;
 mod records;
 mod tags;
 
@@ -32,6 +33,10 @@ pub use invariants::{holders_are_of_type_as_their_contents, plain_types_state_th
 pub use premises::{
     holders_are_tagged_as_their_contents, holders_are_valid_as_their_contents,
     types_that_hold_no_others_are_plain,
+};
+pub use readings::{
+    holders_are_read_of_what_their_contents_are, numbers_are_read_of_their_contents,
+    strings_are_read_of_their_units,
 };
 pub use records::{
     holders_have_the_records_of_their_contents, numbers_have_their_records,

@@ -1,2 +1,3 @@
 pub mod InsideItself
 pub mod OpenChoices
+pub mod SomeDepth

@@ -23,8 +23,10 @@
 //!   [`close_choice`], or could not be (`read`), as `Decode` of `asn1_dec` promises (`after_reading`).
 //! - The same of the components of a SEQUENCE (`IsOpenSequence` and `ReadsFields` of `asn1_laws`), and, but for
 //!   `after_reading`, of the elements of a SEQUENCE OF (`IsOpenSequenceOf`; `ReadsElementsLeft`).
+//! - Nothing else was read (`only` of each call): what a call opened was there (`HasOpenedChoiceAt`, and `HasOpenedNamed` of
+//!   `asn1_laws`), and what was read between two calls, and the scope around it, is read as the answer (`HasReadValue`).
 //! - The alternatives of the type are those of its cases (`AreCasesOf` of `specs/InsideItself.antt`), and inside itself the type has
-//!   the same records as elsewhere (`IsInside`).
+//!   the same records as elsewhere, and the same is read as a value (`IsInside`).
 //!
 //! `proofs/ListsRead.antt` has the lemmas for a loop of the type's own over its elements. The crate takes memory for boxes and for
 //! the type's own constraints alone.

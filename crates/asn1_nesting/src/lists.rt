@@ -1,5 +1,6 @@
 //! The calls that open and close a SEQUENCE OF.
 ghost use Rattle.asn1_laws.specs.OpenSequences.{IsOpenSequenceOf};
+ghost use Rattle.asn1_laws.specs.ReadingExactly.{HasOpenedNamed, HasReadElements, HasReadList};
 ghost use Rattle.asn1_laws.specs.ReadingTypes.{ReadsElements, ReadsElementsLeft};
 ghost use Rattle.asn1_model.specs.ConstraintSets.{ConstraintSet, constraint_set};
 ghost use Rattle.asn1_model.specs.Records.{sequence_of};
@@ -23,6 +24,8 @@ pub fn open_sequence_of_at<T: AsnType + Eq, D: Decoder>(
 ) -> Result<usize, DecodeError>
     ensures opened { IfOk result (λ bound. IsOpenSequenceOf D.reader tag (constraint_set
         constraints.now) decoder.old decoder.new bound) }
+    ensures only { OnOk result (HasOpenedNamed D.reader decoder.old decoder.new (sequence_of tag
+        (constraint_set constraints.now))) }
     ensures deeper { OnOk result (D.reader.depth_left decoder.new < D.reader.depth_left
         decoder.old) }
     ensures not_read { IfErr result (λ e. ReadsElements D.reader {W = Vec T} (sequence_of tag
@@ -41,6 +44,11 @@ pub fn close_sequence_of<T: AsnType + Eq + Drop, D: Decoder>(
         D.reader t c old opened bound → ReadsElementsLeft D.reader bound T.meaning
         (λ w. pointwise T.eq w.items) opened decoder.old elements → ReadsElements D.reader
         (sequence_of t c) T.meaning (λ w. pointwise T.eq w.items) old decoder.new result }
+    ensures only { (t : Tag) (c : ConstraintSet) (old opened : D) →
+        HasOpenedNamed D.reader old opened (sequence_of t c) →
+        IfOk elements (λ w. HasReadElements D.reader opened decoder.old T.meaning w.items) →
+        IfOk result (λ w. HasReadList D.reader old decoder.new (sequence_of t c) T.meaning
+        w.items) }
     ensures same_depth { (t : Tag) (c : ConstraintSet) (old opened : D) (bound : ℕ) →
         IsOpenSequenceOf D.reader t c old opened bound → OnOk elements (D.reader.depth_left
         decoder.old ≡ D.reader.depth_left opened) → OnOk result (D.reader.depth_left decoder.new ≡

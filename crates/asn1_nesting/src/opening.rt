@@ -1,8 +1,10 @@
 //! The call that opens a CHOICE.
+ghost use Rattle.asn1_components.specs.Alternatives.{table_of};
 ghost use Rattle.asn1_laws.specs.Reading.{AfterReading, ReadsValue};
+ghost use Rattle.asn1_laws.specs.ReadingExactly.{HasOpenedChoice};
 ghost use Rattle.asn1_model.specs.ConstraintSets.{ConstraintSet, constraint_set};
 ghost use Rattle.asn1_model.specs.Tags.{CHOICE};
-ghost use Rattle.asn1_nesting.specs.OpenChoices.{IsOpen, IsOpenAfter, IsOpenUntagged};
+ghost use Rattle.asn1_nesting.specs.OpenChoices.{HasOpenedChoiceAfterTag, HasOpenedChoiceAt, IsOpen, IsOpenAfter, IsOpenUntagged};
 ghost use Rattle.asn1_tags.specs.Tags.{tag_eq};
 ghost use Rattle.std.specs.Prelude.{◌≡◌, ◌<◌, Err, IfErr, IfOk, OnErr, OnOk, false, true};
 ghost use Rattle.asn1_laws.specs.declared.decode_error.DecodeError.TheVariants.{Failed};
@@ -32,6 +34,8 @@ fn open_untagged<T: ChoiceType + Eq, D: Decoder>(
 ) -> Result<usize, DecodeError>
     ensures opened { IfOk result (λ index. IsOpenUntagged D.reader T.alternatives
         (constraint_set constraints.now) decoder.old decoder.new index) }
+    ensures only { OnOk result (HasOpenedChoice D.reader decoder.old decoder.new
+        (constraint_set constraints.now) (table_of T.alternatives)) }
     ensures not_read { IfErr result (λ e. ReadsValue D.reader T.meaning T.eq CHOICE
         (constraint_set constraints.now) decoder.old decoder.new (Err e)) }
     ensures has_failed { OnErr result (D.reader.failed decoder.new ≡ true) }
@@ -51,6 +55,8 @@ fn open_after_tag<T: ChoiceType + Eq, D: Decoder>(
 ) -> Result<usize, DecodeError>
     ensures opened { IfOk result (λ index. IsOpenAfter D.reader T.alternatives T.meaning.constraints
         tag decoder.old decoder.new index) }
+    ensures only { OnOk result (HasOpenedChoiceAfterTag D.reader decoder.old decoder.new
+        (table_of T.alternatives) T.meaning.constraints tag) }
     ensures not_read { tag_eq tag CHOICE ≡ false → (c : ConstraintSet) → IfErr result (λ e. ReadsValue D.reader T.meaning T.eq tag c
         decoder.old decoder.new (Err e)) }
     ensures has_failed { OnErr result (D.reader.failed decoder.new ≡ true) }
@@ -72,6 +78,8 @@ pub fn open_choice_at<T: ChoiceType + Eq, D: Decoder>(
 ) -> Result<usize, DecodeError>
     ensures opened { IfOk result (λ index. IsOpen D.reader T.alternatives T.meaning.constraints tag
         (constraint_set constraints.now) decoder.old decoder.new index) }
+    ensures only { OnOk result (HasOpenedChoiceAt D.reader decoder.old decoder.new
+        (table_of T.alternatives) T.meaning.constraints tag (constraint_set constraints.now)) }
     ensures deeper { OnOk result (D.reader.depth_left decoder.new < D.reader.depth_left
         decoder.old) }
     ensures not_read { IfErr result (λ e. ReadsValue D.reader T.meaning T.eq tag

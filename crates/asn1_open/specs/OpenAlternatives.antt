@@ -117,7 +117,7 @@ open_agrees (ObjectIdentifier arcs) = means_itself
 open_agrees (OctetString string) = means_itself
 open_agrees (UniversalString string) = means_itself
 open_agrees (VisibleString string) = means_itself
-open_agrees (InstanceOf' cell type_id value) = record { records = refl; of_type = (λ h. h, λ h. h); valid = λ _. (λ h. h, λ h. h) }
+open_agrees (InstanceOf' cell type_id value) = record { records = refl; read = λ _. (λ h. h, λ h. h); of_type = (λ h. h, λ h. h); valid = λ _. (λ h. h, λ h. h) }
 
 -- The meaning of an `Open`.
 abbrev pub open_meaning : Meaning Open

@@ -1,12 +1,13 @@
 //! The reader of an `Open`: four functions that call one another.
 ghost use Rattle.asn1_laws.specs.Reading.{AfterReading, ReadsValue};
+ghost use Rattle.asn1_laws.specs.ReadingExactly.{HasReadFields, HasReadValue};
 ghost use Rattle.asn1_laws.specs.ReadingTypes.{ReadsFields};
 ghost use Rattle.asn1_model.specs.ConstraintSets.{constraint_set};
 ghost use Rattle.asn1_model.specs.TaggedTypes.{untagged};
 ghost use Rattle.asn1_nesting.specs.InsideItself.{eq_in_box};
 ghost use Rattle.asn1_open.specs.OpenAlternatives.{inner_instance, instance_components, open_meaning};
 ghost use Rattle.asn1_slots.specs.Cases.{ReadsCaseAt, ReadsValueOf};
-ghost use Rattle.std.specs.Prelude.{◌≡◌, OnOk};
+ghost use Rattle.std.specs.Prelude.{◌≡◌, IfOk, OnOk};
 
 use crate::open_value::Open;
 use asn1_dec::{Decode, DecodeError, Decoder};
@@ -29,6 +30,8 @@ pub(crate) fn read_open<D: Decoder>(
 ) -> Result<Open, DecodeError>
     ensures read { ReadsValue D.reader open_meaning ⟦<Open as PartialEq>⟧.eq tag
         (constraint_set constraints.now) decoder.old decoder.new result }
+    ensures only { IfOk result (HasReadValue D.reader decoder.old decoder.new open_meaning tag
+        (constraint_set constraints.now)) }
     ensures after_reading { AfterReading D.reader open_meaning tag
         (constraint_set constraints.now) decoder.old decoder.new result }
 {
@@ -90,6 +93,8 @@ fn read_instance<D: Decoder>(decoder: &mut D) -> Result<Box<InstanceOf<Open>>, D
 fn read_components<D: Decoder>(decoder: &mut D) -> Result<InstanceOf<Open>, DecodeError>
     ensures read { ReadsFields D.reader instance_components ⟦<InstanceOf<Open> as PartialEq>⟧.eq
         decoder.old decoder.new result }
+    ensures only { IfOk result (HasReadFields D.reader decoder.old decoder.new
+        instance_components) }
     ensures same_depth { OnOk result (D.reader.depth_left decoder.new ≡
         D.reader.depth_left decoder.old) }
 {

@@ -51,6 +51,7 @@ pub(crate) fn alternative_with(
         alternative.place,
     )?;
     let is_null = is_null(plan, &alternative.definition);
+    let has_explicit_elements = has_explicit_elements(plan, &alternative.definition);
     let held = held_by(plan.alloc, &definition)?;
     Ok(asn1_rust_components::Alternative {
         name: plan.text(texts.name.as_str())?,
@@ -60,6 +61,7 @@ pub(crate) fn alternative_with(
         tagging,
         tree,
         is_null,
+        has_explicit_elements,
         held,
     })
 }
@@ -83,6 +85,46 @@ fn is_null_below_tags(definition: &Type<'_>) -> bool {
         TypeKind::Tagged(_, inner) => is_null_below_tags(inner),
         TypeKind::Null => true,
         _ => false,
+    }
+}
+
+// Whether a type is a list with elements behind an explicit tag, by references, below tags and in other lists too.
+fn has_explicit_elements(plan: &Plan<'_, '_>, definition: &Type<'_>) -> bool {
+    let schema = plan.request.schema;
+    let mut found = what_is_behind(definition, false);
+    for _ in 0..steps_of(plan) {
+        found = match found {
+            Behind::ExplicitElement => return true,
+            Behind::Reference(index, is_element) => match schema.types.get(index) {
+                Some(referred) => what_is_behind(&referred.definition, is_element),
+                None => return false,
+            },
+            Behind::Other => return false,
+        };
+    }
+    false
+}
+
+// What is behind the tags and the lists of a type.
+#[derive(Clone, Copy)]
+enum Behind {
+    // An element behind an explicit tag.
+    ExplicitElement,
+    // A reference, and whether it is in a list.
+    Reference(usize, bool),
+    Other,
+}
+
+// What is behind the tags and the lists of a type, which is in a list or not.
+#[cycle(behind)]
+fn what_is_behind(definition: &Type<'_>, is_element: bool) -> Behind {
+    match &definition.kind {
+        TypeKind::Tagged(tag, _) if is_element && tag.is_explicit => Behind::ExplicitElement,
+        TypeKind::Tagged(_, inner) => what_is_behind(inner, is_element),
+        TypeKind::SequenceOf(element) => what_is_behind(element, true),
+        TypeKind::SetOf(element) => what_is_behind(element, true),
+        TypeKind::Reference(index) => Behind::Reference(*index, is_element),
+        _ => Behind::Other,
     }
 }
 

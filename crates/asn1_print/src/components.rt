@@ -255,7 +255,7 @@ pub(crate) fn tree_of(
         Beginning::Any => {
             plan.error(
                 place,
-                "an open type has no tag by which it is told from others; give it one",
+                "an open type has no tag by which it is told from others; give it a tag",
             )?;
             Ok(Tree::Leaf(universal(0)))
         }
@@ -276,7 +276,7 @@ fn defined_choice_tree(
         _ => {
             plan.error(
                 place,
-                "a CHOICE of another crate has no tag of its own here",
+                "a CHOICE of another crate has no tag of its own here; give it a tag",
             )?;
             choice_tree(plan, "aliases")
         }

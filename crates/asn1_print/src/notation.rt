@@ -252,7 +252,7 @@ pub(crate) fn definition_lines(
     Ok(lines)
 }
 
-// Where a character of a definition is.
+// The place of a character of a definition.
 #[derive(Clone, Copy)]
 struct Nesting {
     // In how many brackets of any kind.

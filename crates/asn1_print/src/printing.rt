@@ -183,7 +183,7 @@ fn content_suffix(definition: &Type<'_>) -> &'static str {
     }
 }
 
-// What a definition is.
+// The kind of a definition.
 fn definition_summary(
     alloc: Global,
     definition: &TypeDefinition<'_>,

@@ -53,7 +53,7 @@ fn is_size(constraint: &Constraint) -> bool {
     }
 }
 
-// Whether a type is a string, but a time or one with named bits.
+// Whether a type is a string, but a time, a UniversalString or one with named bits.
 fn has_size(kind: &TypeKind<'_>) -> bool {
     match kind {
         TypeKind::OctetString => true,
@@ -62,10 +62,12 @@ fn has_size(kind: &TypeKind<'_>) -> bool {
     }
 }
 
-// Whether a type is a string of characters, but a time.
+// Whether a type is a string of characters, but a time or a UniversalString, which is octets in Rust.
 fn has_characters(kind: &TypeKind<'_>) -> bool {
     match kind {
-        TypeKind::String(StringKind::UtcTime | StringKind::GeneralizedTime) => false,
+        TypeKind::String(
+            StringKind::UtcTime | StringKind::GeneralizedTime | StringKind::Universal,
+        ) => false,
         TypeKind::String(_) => true,
         _ => false,
     }

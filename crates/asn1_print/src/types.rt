@@ -162,7 +162,7 @@ pub(crate) fn tag_number(tag: Tag) -> TagNumber {
     }
 }
 
-// The type of a string.
+// The type of a string. The type of a UniversalString is named by its path, as those of contents are.
 fn string_type(
     plan: &mut Plan<'_, '_>,
     kind: StringKind,
@@ -181,7 +181,7 @@ fn string_type(
         StringKind::Graphic => "GraphicString",
         StringKind::Visible => "VisibleString",
         StringKind::General => "GeneralString",
-        StringKind::Universal => "UniversalString",
+        StringKind::Universal => return plan.plain_type("asn1_contents::UniversalString"),
         StringKind::Bmp => "BmpString",
         StringKind::UtcTime => "UtcTime",
         StringKind::GeneralizedTime => "GeneralizedTime",

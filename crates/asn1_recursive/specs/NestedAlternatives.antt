@@ -1,5 +1,5 @@
 -- Nested ::= CHOICE { null NULL, flag BOOLEAN, inner [0] Nested }
-use Rattle.std.specs.Prelude.{[], ◌∷◌, codes}
+use Rattle.std.specs.Prelude.{[], ◌∷◌, codes, refl}
 use Rattle.std.proofs.Common.{inl, inr}
 use Rattle.asn1_model.specs.Tags.{context}
 use Rattle.asn1_model.specs.contracts.impls.null.UnitAsnType.TheImpl.{ghosts as null}
@@ -44,7 +44,7 @@ nested_pick (Inner' place inner) = inr (inr (inl (record { ptr = place.ptr; allo
 pub nested_agrees : (v : Nested) → MeansTheSame (nested_means v) (chosen_meaning (all_of nested_alternatives) (nested_pick v))
 nested_agrees (Null nothing) = means_itself
 nested_agrees (Flag b) = means_itself
-nested_agrees (Inner' place inner) = means_itself
+nested_agrees (Inner' place inner) = record { records = refl; read = λ _. (λ h. h, λ h. h); of_type = (λ h. h, λ h. h); valid = λ _. (λ h. h, λ h. h) }
 
 -- The meaning of a value.
 abbrev pub nested_meaning : Meaning Nested

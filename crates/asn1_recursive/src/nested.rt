@@ -1,7 +1,8 @@
 //! `Nested ::= CHOICE { null NULL, flag BOOLEAN, inner [0] Nested }`
-ghost use Rattle.std.specs.Prelude.{◌≡◌, ◌∷◌, [], Bool, List, OnOk, codes, refl, ℕ};
+ghost use Rattle.std.specs.Prelude.{◌≡◌, ◌∷◌, [], Bool, IfOk, List, OnOk, codes, refl, ℕ};
 ghost use Rattle.asn1_components.specs.ChoiceTypes.{itself_agrees};
 ghost use Rattle.asn1_laws.specs.Reading.{AfterReading, ReadsValue};
+ghost use Rattle.asn1_laws.specs.ReadingExactly.{HasReadValue};
 ghost use Rattle.asn1_model.specs.ConstraintSets.{constraint_set};
 ghost use Rattle.asn1_nesting.specs.InsideItself.{eq_in_box, in_box, its_cases, itself_inside};
 ghost use Rattle.asn1_recursive.specs.NestedAlternatives.{inner_nested, nested_agrees, nested_alternatives, nested_alternatives_with, nested_meaning, nested_means, nested_pick};
@@ -143,6 +144,8 @@ fn read_nested<D: Decoder>(
 ) -> Result<Nested, DecodeError>
     ensures read { ReadsValue D.reader nested_meaning ⟦<Nested as PartialEq>⟧.eq tag
         (constraint_set constraints.now) decoder.old decoder.new result }
+    ensures only { IfOk result (HasReadValue D.reader decoder.old decoder.new nested_meaning tag
+        (constraint_set constraints.now)) }
     ensures after_reading { AfterReading D.reader nested_meaning tag
         (constraint_set constraints.now) decoder.old decoder.new result }
 {

@@ -1,11 +1,12 @@
 //! Values of open types (X.681, 14.6).
 use crate::bits::{binary_bits, characters, hex_bits, octets_of_bits};
 use crate::fault::Fault;
-use crate::governed::Written;
+use crate::followed::Followed;
+use crate::governed::{Governed, Written};
 use crate::resolver::Resolver;
-use asn1_notation::ValueKind;
-use asn1_resolved::Value;
-use std::alloc::Global;
+use asn1_notation::{TypeKind, ValueKind};
+use asn1_resolved::{Severity, Value};
+use std::alloc::{AllocError, Global};
 
 impl<'r, 'a> Resolver<'r, 'a> {
     /// Refuses a value of a type whose values are kept as their contents octets.
@@ -13,6 +14,31 @@ impl<'r, 'a> Resolver<'r, 'a> {
         self.refuse(
             written.place(),
             &[b"a value of ", word, b" is not supported"],
+        )
+    }
+
+    /// Whether a value is one of a type whose values are kept as their contents octets, and so is what its name stands for.
+    pub(crate) fn is_of_contents(
+        &mut self,
+        governed: Governed<'r, 'a>,
+        written: Written<'r, 'a>,
+    ) -> Result<bool, Fault> {
+        let base = self.base(governed)?;
+        if !is_contents(base) {
+            return Ok(false);
+        }
+        match self.follow(base, written)? {
+            Followed::Literal(base, _) => Ok(is_contents(base)),
+            _ => Ok(false),
+        }
+    }
+
+    /// Warns of a DEFAULT of such a type.
+    pub(crate) fn warn_of_contents(&mut self, written: Written<'r, 'a>) -> Result<(), AllocError> {
+        self.report(
+            written.place(),
+            Severity::Warning,
+            &[b"the DEFAULT of this component is not in Rust: it is an option there"],
         )
     }
 
@@ -66,6 +92,14 @@ impl<'r, 'a> Resolver<'r, 'a> {
             written.place(),
             &[b"a value of ", whole_word(word), b" is expected here"],
         )
+    }
+}
+
+/// Whether a type is one whose values are kept as their contents octets.
+pub(crate) fn is_contents(base: Governed<'_, '_>) -> bool {
+    match &base.definition.kind {
+        TypeKind::Contents(_) => true,
+        _ => false,
     }
 }
 

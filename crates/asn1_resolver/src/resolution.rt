@@ -335,6 +335,18 @@ impl<'r, 'a> Resolver<'r, 'a> {
         }
     }
 
+    // The value of a definition. One of a type whose values are kept as their contents octets is NULL, and has no constant.
+    fn defined_value(
+        &mut self,
+        governed: Governed<'r, 'a>,
+        written: Written<'r, 'a>,
+    ) -> Result<Value<'a>, Fault> {
+        if self.is_of_contents(governed, written)? {
+            return Ok(Value::Null);
+        }
+        self.value(governed, written)
+    }
+
     // The definition of a value. One that is in error is NULL.
     fn value_definition(
         &mut self,
@@ -350,7 +362,7 @@ impl<'r, 'a> Resolver<'r, 'a> {
             ..
         } = self.type_definition(defined, None)?;
         let scope = defined.scope;
-        let value = match self.value(defined.governed(), Written { scope, value }) {
+        let value = match self.defined_value(defined.governed(), Written { scope, value }) {
             Ok(value) => value,
             Err(Fault::Refused) => Value::Null,
             Err(Fault::Memory) => return Err(AllocError),

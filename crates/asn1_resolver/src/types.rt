@@ -2,7 +2,7 @@
 use crate::component_list::{ComponentList, Construct, Extent, Listed};
 use crate::fault::Fault;
 use crate::fields::FieldType;
-use crate::governed::{Governed, Scope};
+use crate::governed::{Governed, Scope, Written};
 use crate::relations::Enclosing;
 use crate::resolver::Resolver;
 use crate::values::MAX_DEPTH;
@@ -274,18 +274,32 @@ impl<'r, 'a> Resolver<'r, 'a> {
             asn1_notation::Usage::Required => Ok(Usage::Required),
             asn1_notation::Usage::Optional => Ok(Usage::Optional),
             asn1_notation::Usage::Default(value) => {
-                let written = listed.written(value);
-                if self.is_open_field(written.scope, value) {
-                    self.warn_of_open_field(written)?;
-                    return Ok(Usage::Optional);
-                }
-                match self.value(listed.governed(), written) {
-                    Ok(value) => Ok(Usage::Default(value)),
+                match self.default_usage(listed, listed.written(value)) {
+                    Ok(usage) => Ok(usage),
                     Err(Fault::Refused) => Ok(Usage::Optional),
                     Err(Fault::Memory) => Err(Fault::Memory),
                 }
             }
         }
+    }
+
+    // Whether a component with a DEFAULT may be absent. One whose DEFAULT only an argument tells is OPTIONAL, and so is one of a type whose
+    // values are kept as their contents octets.
+    fn default_usage(
+        &mut self,
+        listed: Listed<'r, 'a>,
+        written: Written<'r, 'a>,
+    ) -> Result<Usage<'a>, Fault> {
+        if self.is_open_field(written.scope, written.value) {
+            self.warn_of_open_field(written)?;
+            return Ok(Usage::Optional);
+        }
+        if self.is_of_contents(listed.governed(), written)? {
+            self.warn_of_contents(written)?;
+            return Ok(Usage::Optional);
+        }
+        let value = self.value(listed.governed(), written)?;
+        Ok(Usage::Default(value))
     }
 }
 

@@ -3,7 +3,7 @@ use crate::component_list::Construct;
 use crate::fault::Fault;
 use crate::followed::Followed;
 use crate::governed::{Governed, Scope, Written};
-use crate::open_values::is_contents_word;
+use crate::open_values::{is_contents, is_contents_word};
 use crate::resolver::Resolver;
 use asn1_modules::{standard_arc, type_of_open_value};
 use asn1_notation::{ComponentItem, ListItem, Span, Type, TypeKind, ValueKind};
@@ -73,7 +73,7 @@ impl<'r, 'a> Resolver<'r, 'a> {
         written: Written<'r, 'a>,
         depth: usize,
     ) -> Result<Value<'a>, Fault> {
-        if let TypeKind::Contents(_) = &base.definition.kind {
+        if is_contents(base) {
             return Err(self.refuse_contents(type_word(&base.definition.kind), written));
         }
         match &written.value.kind {

@@ -72,6 +72,7 @@ module _ {F R V : Type 0} (inner : Fronts F V) (lawful : IsLawful inner) (format
           only_spelling = subst (λ own. AreOctets own → HasOneSpelling format m inner.same v own) all (λ octets. each output v octets of_type valid carried);
           as_deep = belongs.as_deep v;
         };
+    only = λ output w is. belongs.only output w is.0;
     equal = λ w v same. belongs.equal w v same;
     as_deep = λ v. omega arith;
   }

@@ -39,6 +39,7 @@ module _ (IsCut : List ℕ → ℕ → Type 0) (Carries : List ℕ → List Reco
       valid = valid;
       carried = subst (λ l. Carries l (own_records m v)) (sym (take-length output.items)) carried;
     };
+    only = λ output w is. is;
     equal = λ w v same. same;
     as_deep = λ v. omega arith;
   }

@@ -1,5 +1,5 @@
 -- The pieces that are left, and what a call that takes as many values as it can leaves for them.
-use Rattle.std.proofs.Common.{◌≡◌, ℕ, ◌+◌, ◌<◌, ◌≤◌, List, ◌++◌, length, drop, get_or, sym, ap, subst, ◌∙◌, append_assoc, append-nil, refl, arith}
+use Rattle.std.proofs.Common.{◌≡◌, ℕ, ◌+◌, ◌<◌, ◌≤◌, List, [], ◌++◌, length, drop, get_or, sym, ap, subst, ◌∙◌, append_assoc, append-nil, refl, arith}
 use Rattle.std.specs.Borrow.{Bor}
 use Rattle.std.specs.Prelude.{Bool, MatchOption, Option, None, Some, false, not, true}
 use Rattle.std.specs.Option.{is_some}
@@ -7,8 +7,8 @@ use Rattle.std.proofs.lemmas.List.{drop_all, drop_more}
 use Rattle.std.proofs.lemmas.List.Concat.{flat_map-cons}
 use Rattle.asn1_laws.specs.declared.decode_error.DecodeError.{DecodeError}
 use Rattle.asn1_rules.specs.Fronts.{Fronts, IsNoFront, IsSteady}
-use Rattle.asn1_rules.specs.Pieces.{ComeBack, joined}
-use Rattle.asn1_rules.specs.UnreadBytes.{Remains}
+use Rattle.asn1_rules.specs.Pieces.{AreReadOf, ComeBack, joined, rest}
+use Rattle.asn1_rules.specs.UnreadBytes.{AddsRead, Remains}
 use Rattle.asn1_rules.specs.States.{State, appended}
 use Rattle.asn1_rules.proofs.UnreadBytes.{all_came, one_failed}
 
@@ -63,3 +63,26 @@ module _ {R V : Type 0} (F : Fronts R V) (reader : R) where
   come_back_at_end None Z pieces i k n ws vs unread steady all ended before = all_came F reader ws vs (unread ++ joined (drop i pieces)) before
   come_back_at_end (Some e) Z pieces i k n ws vs unread steady all ended before =
       one_failed F reader ws vs unread e steady ended.2 (subst (Remains F reader ws vs) (no_piece_left pieces i unread all) before)
+
+  -- Wherever others are read of what is unread, these values and the others are read of the whole.
+  abbrev pub ReadSoFar : List V → List ℕ → List ℕ → Type 0
+  ReadSoFar ws unread whole = (others : List V) → AreReadOf F reader others unread → AreReadOf F reader (ws ++ others) whole
+
+  -- so these are
+  pub all_read : (ws : List V) (unread whole : List ℕ) → ReadSoFar ws unread whole → AreReadOf F reader ws whole
+  all_read ws unread whole so_far = subst (λ l. AreReadOf F reader l whole) (append-nil ws) (so_far [] rest)
+
+  -- A piece was put after what was unread, and values were read of it.
+  pub piece_was_read : (old new after : State R) (pieces : List (Bor (List ℕ))) (i : ℕ) (d : Bor (List ℕ)) (ws more : List V) (whole : List ℕ) →
+      old.reader ≡ reader → new ≡ appended (get_or pieces i d).now old → i < length pieces → AddsRead F new after ws more →
+      ReadSoFar ws (old.unread ++ joined (drop i pieces)) whole → ReadSoFar more (after.unread ++ joined (drop (i + 1) pieces)) whole
+  piece_was_read old new after pieces i d ws more whole same is_appended lt adds so_far others are =
+      let behind = joined (drop (i + 1) pieces) in
+      let r : new.reader ≡ reader = ap (λ s. s.reader) is_appended ∙ same in
+      let u : new.unread ≡ old.unread ++ (get_or pieces i d).now = ap (λ s. s.unread) is_appended in
+      let both : AreReadOf F reader (adds.taken ++ others) (new.unread ++ behind) =
+      subst (λ w. AreReadOf F w (adds.taken ++ others) (new.unread ++ behind)) r
+      (adds.read others behind (subst (λ w. AreReadOf F w others (after.unread ++ behind)) (sym r) are)) in
+      subst (λ l. AreReadOf F reader l whole) (sym (ap (λ l. l ++ others) adds.are ∙ append_assoc ws adds.taken others))
+      (so_far (adds.taken ++ others)
+      (subst (AreReadOf F reader (adds.taken ++ others)) (ap (λ l. l ++ behind) u ∙ sym (next_piece pieces i d old.unread lt)) both))

@@ -14,14 +14,14 @@ use Rattle.asn1_rules.specs.declared.round_trips.RoundTripError.{RoundTripError}
 use Rattle.asn1_rules.specs.declared.pieces.Pieces.{Pieces}
 use Rattle.asn1_rules.specs.Fronts.{BelongsTo, Fronts, IsSteady}
 use Rattle.asn1_rules.specs.Outputs.{AreOutputs, no_output, output_and}
-use Rattle.asn1_rules.specs.Pieces.{AreFronts, ComeBack, front_and, rest}
+use Rattle.asn1_rules.specs.Pieces.{AreFronts, ComeBack, one_and, rest}
 
 module _ {R V : Type 0} (F : Fronts R V) (reader : R) (format : Format (Vec ℕ Global)) (m : Meaning V) (eq : V → V → Bool) (belongs : BelongsTo F reader format m eq) where
   pub outputs_are_fronts : {depth : ℕ} {vs : List V} {bytes : List ℕ} → AreOutputs format m depth vs bytes →
       All (m.IsValid format.accepts) vs → AreFronts F reader vs bytes
   outputs_are_fronts no_output valid = rest
   outputs_are_fronts (output_and {v = v} {vs} output is others) valid =
-      front_and output.items (belongs.whole output v is.of_type (All-head (m.IsValid format.accepts) v vs valid) is.carried) (outputs_are_fronts others (All-tail (m.IsValid format.accepts) v vs valid))
+      one_and output.items (belongs.whole output v is.of_type (All-head (m.IsValid format.accepts) v vs valid) is.carried) (outputs_are_fronts others (All-tail (m.IsValid format.accepts) v vs valid))
 
   may_fail : (depth : ℕ) (v : V) (e : DecodeError) → MayFail depth (F.height v) e → MayFail depth (highest (own_records m v)) e
   may_fail depth v e (inl memory) = inl memory

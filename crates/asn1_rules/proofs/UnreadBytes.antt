@@ -5,7 +5,7 @@ use Rattle.std.proofs.Math.Seq.{take-append_seam, drop-append_seam}
 use Rattle.std.proofs.lemmas.List.{take-append-le, drop-append-le, take-append-drop}
 use Rattle.asn1_laws.specs.declared.decode_error.DecodeError.{DecodeError}
 use Rattle.asn1_rules.specs.Fronts.{Fronts, IsFront, IsLawful, IsNoFront, IsSteady}
-use Rattle.asn1_rules.specs.Pieces.{AreFronts, ComeBack, front_and}
+use Rattle.asn1_rules.specs.Pieces.{AreFronts, ComeBack, one_and}
 use Rattle.asn1_rules.specs.UnreadBytes.{Remains}
 
 module _ {R V : Type 0} (F : Fronts R V) (reader : R) where
@@ -18,7 +18,7 @@ module _ {R V : Type 0} (F : Fronts R V) (reader : R) where
     others : AreFronts F reader vs behind
 
   opened : {v : V} {vs : List V} {bytes : List ℕ} → AreFronts F reader (v ∷ vs) bytes → Opened v vs bytes
-  opened (front_and {bytes = behind} first front others) = record { first = first; behind = behind; is = refl; front = front; others = others }
+  opened (one_and {bytes = behind} first front others) = record { first = first; behind = behind; is = refl; front = front; others = others }
 
   module _ (law : IsLawful F) (steady : IsSteady F reader) where
     -- A cut of the unread bytes is the first front, which is also one of the unread bytes alone.

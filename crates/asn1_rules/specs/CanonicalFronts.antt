@@ -28,11 +28,13 @@ module _ {F V : Type 0} (inner : Fronts F V) (format : Format (Vec ℕ Global)) 
     pub only_spelling : AreOctets (take n bytes) → HasOneSpelling format m inner.same v (take n bytes)
     pub as_deep : inner.height v ≤ highest (own_records m v)
 
-  -- The fronts of a canonical reader: a cut is one of the inner reader, and its bytes are those that writing some value makes.
+  -- The fronts of a canonical reader: a cut is one of the inner reader, and its bytes are those that writing some value makes. Bytes are
+  -- read as a value if they are to the inner reader, and writing this value makes them.
   abbrev pub canonical_fronts : {R : Type 0} → Fronts (CanonicalReader F R) V
   canonical_fronts = record {
     cut = λ reader bytes n. inner.cut reader.reader bytes n × ((w : V) × IsSpelled format m w (take n bytes));
     front = λ reader bytes v n. IsCanonicalFront reader.reader bytes v n;
+    read_as = λ reader own w. inner.read_as reader.reader own w × IsSpelled format m w own;
     same = inner.same;
     height = λ v. highest (own_records m v);
     depth = λ reader. min (inner.depth reader.reader) reader.depth;

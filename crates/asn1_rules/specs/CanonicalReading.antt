@@ -1,5 +1,5 @@
 -- Bytes that are read only if writing what was read makes the very same bytes.
-use Rattle.std.specs.Prelude.{◌≡◌, ◌≢◌, ◌⊎◌, ℕ, ◌<◌, ◌^◌, All, Bool, true, Err, List, Ok, Result, Vec, slice_get, take}
+use Rattle.std.specs.Prelude.{◌≡◌, ◌≢◌, ◌⊎◌, ℕ, ◌<◌, ◌^◌, All, Bool, true, Err, IfOk, List, Ok, Result, Vec, slice_get, take}
 use Rattle.std.specs.declared.alloc.Global.{Global}
 use Rattle.asn1_laws.specs.Refusals.{Refusals}
 use Rattle.asn1_laws.specs.declared.decode_error.DecodeError.{DecodeError}
@@ -9,7 +9,7 @@ use Rattle.asn1_laws.specs.declared.encode_error.EncodeError.TheVariants as writ
 use Rattle.asn1_model.specs.Meaning.{Meaning, own_records}
 use Rattle.asn1_model.specs.Orders.{SameRecords}
 use Rattle.asn1_model.specs.Records.{highest}
-use Rattle.asn1_rules.specs.Rules.{Format, IsNotWritten, IsWritten, ReadsCarried, RefusesCarried}
+use Rattle.asn1_rules.specs.Rules.{Format, IsNotWritten, IsReadOf, IsWritten, ReadsCarried, RefusesCarried}
 use Rattle.asn1_rules.specs.declared.canonical.CanonicalError.{CanonicalError}
 use Rattle.asn1_rules.specs.declared.canonical.CanonicalError.TheVariants.{Read, Write, NotCanonical}
 
@@ -42,10 +42,11 @@ module _ {V : Type 0} (F : Format (Vec ℕ Global)) (m : Meaning V) where
   module _ (eq : V → V → Bool) (refusals : Refusals) (depth : ℕ) (input : Vec ℕ Global) where
     -- An answer that reading this input may give. Of an input that carries the own records of a valid value it is an equal value,
     -- and of one that carries records which the type refuses it is the error of the type, unless memory runs out or the depth is
-    -- too small. Of any other input it may be any answer.
+    -- too small. Of any other input it may be any error. Whatever the input is, a value is one that was read of it.
     pub record MayAnswer (answer : Result V DecodeError) : Type 0 where
       pub read : ReadsCarried F.accepts (F.carries input) m eq depth answer
       pub refuses : RefusesCarried F.accepts (F.carries input) m refusals depth answer
+      pub only : IfOk answer (IsReadOf (F.carries input) m)
 
     -- A value that was read of the input is not written, as it may.
     pub record ReadIsNotWritten (e : EncodeError) : Type 0 where

@@ -1,19 +1,20 @@
 -- The first bytes of an input that are one value's, and the answer of reading them.
-use Rattle.std.specs.Prelude.{◌≡◌, ℕ, ◌≤◌, Bool, true, List, ◌++◌, length, MatchResult, Result, Vec}
+use Rattle.std.specs.Prelude.{◌≡◌, ℕ, ◌≤◌, Bool, true, List, ◌++◌, length, MatchResult, Result, Vec, take}
 use Rattle.std.specs.declared.alloc.Global.{Global}
 use Rattle.asn1_laws.specs.declared.decode_error.DecodeError.{DecodeError}
 use Rattle.asn1_laws.specs.Reading.{MayFail}
 use Rattle.asn1_model.specs.Meaning.{Meaning, own_records}
 use Rattle.asn1_model.specs.Records.{highest}
-use Rattle.asn1_rules.specs.Rules.{Format}
+use Rattle.asn1_rules.specs.Rules.{Format, IsReadOf}
 
 -- The relations that a reader defines. `cut reader bytes n`: the first n bytes are those of one value.
--- `front reader bytes v n`: they are those of the value v. `same`: an answer is as good as the
--- value that was written. `height`: how many scopes are nested in a value; `depth`: how many the
+-- `front reader bytes v n`: they are those of the value v. `read_as reader own w`: bytes are read as
+-- the value w, all of them. `same`: an answer is as good as the value that was written. `height`: how many scopes are nested in a value; `depth`: how many the
 -- reader opens at most.
 pub record Fronts (R V : Type 0) : Type 1 where
   pub cut : R → List ℕ → ℕ → Type 0
   pub front : R → List ℕ → V → ℕ → Type 0
+  pub read_as : R → List ℕ → V → Type 0
   pub same : V → V → Bool
   pub height : V → ℕ
   pub depth : R → ℕ
@@ -24,10 +25,11 @@ module _ {R V : Type 0} (F : Fronts R V) where
     pub is_cut : (reader : R) (bytes : List ℕ) (v : V) (n : ℕ) → F.front reader bytes v n → F.cut reader bytes n
     pub within : (reader : R) (bytes : List ℕ) (n : ℕ) → F.cut reader bytes n → n ≤ length bytes
 
-  -- The answer is a value and a length that is a cut; if the input has a front, that is its
-  -- length, and the value is the same.
+  -- The answer is a value and a length that is a cut, and the bytes of this cut are read as the value.
+  -- If the input has a front, that is its length, and the value is the same.
   pub record IsFront (reader : R) (bytes : List ℕ) (answer : V × ℕ) : Type 0 where
     pub cut : F.cut reader bytes answer.1
+    pub is_read : F.read_as reader (take answer.1 bytes) answer.0
     pub as_written : (v : V) (n : ℕ) → F.front reader bytes v n → (answer.1 ≡ n) × (F.same answer.0 v ≡ true)
 
   -- A front of the input was not read because memory ran out, or because its value is nested deeper
@@ -46,10 +48,12 @@ module _ {R V : Type 0} (F : Fronts R V) where
     pub one_cut : (bytes : List ℕ) (m n : ℕ) → F.cut reader bytes m → F.cut reader bytes n → m ≡ n
 
   -- The reader belongs to the rules of this format, for a type of this meaning and equality: an
-  -- output that carries the own records of a valid value is a front of that value, whole; what is
-  -- the same is equal; and a value is nested no deeper than its records.
+  -- output that carries the own records of a valid value is a front of that value, whole; an output
+  -- whose bytes are read as a value carries records that are read as it; what is the same is equal;
+  -- and a value is nested no deeper than its records.
   pub record BelongsTo (reader : R) (format : Format (Vec ℕ Global)) (m : Meaning V) (eq : V → V → Bool) : Type 0 where
     pub whole : (output : Vec ℕ Global) (v : V) → m.IsOfType v → m.IsValid format.accepts v →
         format.carries output (own_records m v) → F.front reader output.items v (length output.items)
+    pub only : (output : Vec ℕ Global) (w : V) → F.read_as reader output.items w → IsReadOf (format.carries output) m w
     pub equal : (w v : V) → F.same w v ≡ true → eq w v ≡ true
     pub as_deep : (v : V) → F.height v ≤ highest (own_records m v)

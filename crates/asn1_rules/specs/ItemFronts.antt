@@ -3,6 +3,7 @@ use Rattle.std.specs.Prelude.{◌≤◌, ◌≡◌, ◌++◌, ℕ, Bool, List, l
 use Rattle.asn1_model.specs.Meaning.{Meaning, IsWellTagged, own_records}
 use Rattle.asn1_model.specs.Records.{Record, highest}
 use Rattle.asn1_rules.specs.Fronts.{Fronts}
+use Rattle.asn1_rules.specs.Rules.{IsReadOf}
 
 -- The laws of cutting items off: a cut is no longer than the bytes, trailing bytes change nothing, and there is one cut at most.
 pub record CutsItems (IsCut : List ℕ → ℕ → Type 0) : Type 0 where
@@ -24,6 +25,7 @@ module _ (IsCut : List ℕ → ℕ → Type 0) (Carries : List ℕ → List Reco
   item_fronts depth m eq = record {
     cut = λ reader bytes n. IsCut bytes n;
     front = λ reader bytes v n. IsFrontOf m bytes v n;
+    read_as = λ reader own w. IsReadOf (Carries own) m w;
     same = eq;
     height = λ v. highest (own_records m v);
     depth = depth;

@@ -10,11 +10,20 @@ use Rattle.asn1_rules.specs.Fronts.{Fronts}
 abbrev pub joined : List (Bor (List ℕ)) → List ℕ
 joined pieces = flat_map (λ piece. piece.now) pieces
 
--- The bytes are fronts of these values, one after another, and any rest.
-pub data AreFronts {R V : Type 0} (F : Fronts R V) (reader : R) : List V → List ℕ → Type 0 where
-  rest : {bytes : List ℕ} → AreFronts F reader [] bytes
-  front_and : {v : V} {vs : List V} {bytes : List ℕ} (front : List ℕ) → F.front reader front v (length front) →
-      AreFronts F reader vs bytes → AreFronts F reader (v ∷ vs) (front ++ bytes)
+-- The bytes are those of these values, by a relation of bytes and a value: one after another, and any rest.
+pub data AreInTurn {V : Type 0} (AreOf : List ℕ → V → Type 0) : List V → List ℕ → Type 0 where
+  rest : {bytes : List ℕ} → AreInTurn AreOf [] bytes
+  one_and : {v : V} {vs : List V} {bytes : List ℕ} (own : List ℕ) → AreOf own v →
+      AreInTurn AreOf vs bytes → AreInTurn AreOf (v ∷ vs) (own ++ bytes)
+
+module _ {R V : Type 0} (F : Fronts R V) (reader : R) where
+  -- The bytes are fronts of these values, one after another, and any rest.
+  abbrev pub AreFronts : List V → List ℕ → Type 0
+  AreFronts vs bytes = AreInTurn (λ front v. F.front reader front v (length front)) vs bytes
+
+  -- The bytes are read as these values, one after another, and any rest is not read.
+  abbrev pub AreReadOf : List V → List ℕ → Type 0
+  AreReadOf vs bytes = AreInTurn (λ own v. F.read_as reader own v) vs bytes
 
 -- The values that came are the same as those that were written, one by one, as far as both go.
 -- If one is missing, and an error was the last answer, memory ran out, or the first missing value is

@@ -1,9 +1,10 @@
 -- Values that are read by one codec and written by another.
 use Rattle.std.specs.Prelude.{◌≡◌, ◌⊎◌, ⊤, ℕ, Bool, true, ◌<◌, MatchResult, Result}
 use Rattle.asn1_laws.specs.declared.decode_error.DecodeError.TheVariants.{Memory, Depth}
+use Rattle.asn1_laws.specs.declared.encode_error.EncodeError.{EncodeError}
 use Rattle.asn1_model.specs.Meaning.{Meaning, IsWellTagged, own_records}
 use Rattle.asn1_model.specs.Records.{highest}
-use Rattle.asn1_rules.specs.Rules.{Format, IsWritten, IsNotWritten}
+use Rattle.asn1_rules.specs.Rules.{Format, IsNotWritten, IsReadOf, IsWritten}
 use Rattle.asn1_rules.specs.declared.recoding.RecodeError.{RecodeError}
 use Rattle.asn1_rules.specs.declared.recoding.RecodeError.TheVariants.{Read, Write}
 
@@ -26,7 +27,21 @@ module _ {O V : Type 0} (F : Format O) (m : Meaning V) where
       (v : V) → IsWellTagged m → m.IsOfType v → m.IsValid from.accepts v → from.carries input (own_records m v) →
       MatchResult result (IsRecoded eq v depth) (RecodingFails eq v depth)
 
-  -- Whatever the input was: where writing failed, it was as it may for some value.
-  abbrev pub WritingFailsAsItMay : ℕ → RecodeError → Type 0
-  WritingFailsAsItMay depth (Read e) = ⊤
-  WritingFailsAsItMay depth (Write e) = (w : V) × IsNotWritten F (own_records m w) depth e
+  -- The same of any input.
+  module _ {I : Type 0} (from : Format I) (input : I) (depth : ℕ) where
+    -- The output carries the own records of a value that was read of the input.
+    pub record IsRecodedFrom (output : O) : Type 0 where
+      pub value : V
+      pub is_read : IsReadOf (from.carries input) m value
+      pub written : IsWritten F (own_records m value) (m.IsOfType value) depth output
+
+    -- A value that was read of the input is not written, as it may.
+    pub record ReadIsNotRecoded (e : EncodeError) : Type 0 where
+      pub value : V
+      pub is_read : IsReadOf (from.carries input) m value
+      pub not_written : IsNotWritten F (own_records m value) depth e
+
+    -- Where writing failed, it was as it may for a value that was read.
+    abbrev pub WritingFailsAsItMay : RecodeError → Type 0
+    WritingFailsAsItMay (Read e) = ⊤
+    WritingFailsAsItMay (Write e) = ReadIsNotRecoded e

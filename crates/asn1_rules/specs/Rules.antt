@@ -6,7 +6,7 @@ use Rattle.asn1_laws.specs.declared.encode_error.EncodeError.TheVariants as writ
 use Rattle.asn1_laws.specs.declared.decode_error.DecodeError.{DecodeError}
 use Rattle.asn1_laws.specs.Reading.{MayFail}
 use Rattle.asn1_laws.specs.Refusals.{Refusals}
-use Rattle.asn1_model.specs.Meaning.{Meaning, IsWellTagged, own_records}
+use Rattle.asn1_model.specs.Meaning.{IsReadAsOwn, Meaning, IsWellTagged, own_records}
 use Rattle.asn1_model.specs.Orders.{SameRecords}
 use Rattle.asn1_model.specs.Records.{Record, Head, highest, holding, presence_marks_alone}
 use Rattle.asn1_model.specs.WellFormed.{AreWellFormed}
@@ -53,6 +53,13 @@ ReadsWhole height depth Is result =
 -- The answer is this error of the type; or there was no memory, or the records are nested deeper than the depth.
 abbrev pub RefusesWhole : {V : Type 0} → ℕ → ℕ → DecodeError → Result V DecodeError → Type 0
 RefusesWhole height depth own result = MatchResult result (λ _. ⊥) (λ e. MayFail depth height e ⊎ (e ≡ own))
+
+-- A value was read of an input, and of all of it: the input carries records that are read as this value, under the type's own tag and
+-- constraints. They are the value's own records, or others that say the same to a reader.
+pub record IsReadOf {V : Type 0} (Carried : List Record → Type 0) (m : Meaning V) (w : V) : Type 0 where
+  pub records : List Record
+  pub are : IsReadAsOwn m w records
+  pub carried : Carried records
 
 -- A call that reads a whole input as a value of a type: `accepts` is the codec's test of the bytes of
 -- an open type, and `Carried` holds of the records that the input carries.

@@ -27,8 +27,9 @@ pub enum CanonicalError {
 
 /// Reads a value, writes it again, and compares: the value is answered only if the two byte strings are the same.
 ///
-/// A value that is answered is one that `read_value` may answer of the input (`answered`), and writing it makes the input
-/// (`canonical`), which are octets (`octets`). Reading and writing open at most this many nested scopes.
+/// A value that is answered is one that `read_value` may answer of the input, so one that was read of records which the input carries
+/// (`answered`), and writing it makes the input (`canonical`), which are octets (`octets`). Reading and writing open at most this many
+/// nested scopes.
 ///
 /// A valid value of a well-tagged type whose only spelling is the input is read back equal, unless memory runs out or its records are
 /// nested deeper than the depth (`read`). The law `what_is_written_is_the_only_spelling` of a codec's crate says of which values the

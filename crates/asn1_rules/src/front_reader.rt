@@ -6,14 +6,14 @@ use asn1_dec::DecodeError;
 
 /// Reads one value at the front of an input, and tells how many bytes it is.
 ///
-/// A reader defines which first bytes of an input are one value's (`cut` of `fronts`), and of which
-/// value they are (`front`).
+/// A reader defines which first bytes of an input are one value's (`cut` of `fronts`), of which
+/// value they are (`front`), and as which values bytes are read (`read_as`).
 ///
 /// An input that comes in pieces is read again with each piece, until it begins with a whole value.
 /// A reader that would look at the same bytes each time keeps in its `Progress` how far it came.
 /// The progress of any other reader is `()`.
 pub trait FrontReader<D> {
-    // The first bytes that are one value's, and the relation of an answer to that value.
+    // The first bytes that are one value's, the relation of an answer to that value, and the bytes that are read as a value.
     ghost fronts: { Fronts Self D };
 
     /// How far a reader came in bytes that do not hold a whole value.
@@ -23,12 +23,12 @@ pub trait FrontReader<D> {
     ghost came: { Self → Self.Progress → List ℕ → Type 0 };
 
     /// Reads the value at the front of the input, and answers it with its length in bytes, which is
-    /// at most that of the input.
+    /// at most that of the input. So many first bytes of any input are read as the value.
     ///
     /// # Errors
     /// If the input begins with a value that was written: [`DecodeError::Depth`] only if that value
-    /// is nested deeper than the reader's depth, and otherwise [`DecodeError::Memory`]. No contract
-    /// covers other inputs.
+    /// is nested deeper than the reader's depth, and otherwise [`DecodeError::Memory`]. No contract says
+    /// by which error other inputs are refused.
     fn read_front(&self, input: &[u8]) -> Result<(D, usize), DecodeError>
         ensures read { ReadsFront fronts self.now input.now result };
 

@@ -23,17 +23,21 @@
 //! - The same of an output from elsewhere that carries the own records of such a value, if the value meets its type's invariant
 //!   too (`read` of `read_value`); [`recode`] makes of it an output of an equal value, or fails as reading and writing may
 //!   (`recoded`).
+//! - Whatever an output is, it carries records that are read as the answer of `read_value` (`only`; `IsReadOf`): the value's own, or
+//!   others that say the same to a reader, as a default that is written. So [`recode`] answers an output that carries the own records of
+//!   a value that was read of the input (`only`).
 //! - [`read_canonical`] answers a value only if writing it makes the input (`canonical`), and only one that the contract of
 //!   `read_value` allows (`answered`), which allows the reason of an error too (`departs`). Such a value whose only spelling is
 //!   the input is read back equal, unless memory or depth refuses (`read`).
 //! - Valid values that were written come back equal and in their order, however their bytes are cut, by each steady reader that
 //!   belongs to the codec's rules; one is missing only if memory ran out or it is nested deeper than the reader's depth (`back`
-//!   of [`round_trip_in_pieces`]).
+//!   of [`round_trip_in_pieces`]). Whatever the pieces are, the values that come were read of their bytes, one after another (`only` of
+//!   [`read_pieces`]).
 //! - `next` takes a value with its bytes, or answers an error and changes nothing (`next_gives`). Bytes that are kept after
 //!   reading are never more than the unread ones (`kept` of [`Iter::unread`]).
 //!
 //! A reader is steady if trailing bytes change nothing, and an input has one front at most (`IsSteady`). It belongs to rules if
-//! each output is a front of its value (`BelongsTo`).
+//! each output is a front of its value, and what it reads of the bytes of an output was read of records that this carries (`BelongsTo`).
 #![tactic(auto)]
 
 mod buffer;

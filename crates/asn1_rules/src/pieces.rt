@@ -2,8 +2,8 @@
 ghost use Rattle.asn1_laws.specs.declared.decode_error.DecodeError.TheVariants.{Memory};
 ghost use Rattle.asn1_rules.specs.Fronts.{IsNoFront, IsSteady};
 ghost use Rattle.asn1_rules.specs.Iters.{state};
-ghost use Rattle.asn1_rules.specs.Pieces.{AreFronts, FrontsComeBack, joined};
-ghost use Rattle.asn1_rules.specs.UnreadBytes.{KeepsRemaining};
+ghost use Rattle.asn1_rules.specs.Pieces.{AreFronts, AreReadOf, FrontsComeBack, joined};
+ghost use Rattle.asn1_rules.specs.UnreadBytes.{AddsRead, KeepsRemaining};
 ghost use Rattle.std.specs.Prelude.{◌≡◌, ◌≤◌, ◌<◌, ◌↔◌, ◌⊎◌, [], IfErr, IfOk, List, MatchOption, None, length};
 
 use crate::front_reader::FrontReader;
@@ -21,7 +21,8 @@ pub struct Pieces<D> {
 }
 
 /// Reads up to `n` values from pieces of bytes: appends piece after piece to an [`Iter`], and after
-/// each takes values until an error comes, or until `n` have come.
+/// each takes values until an error comes, or until `n` have come. Whatever the pieces are, the values were read of their bytes, one
+/// after another (`only`).
 ///
 /// # Errors
 /// [`DecodeError::Memory`], if there is no memory for a piece or a value.
@@ -38,6 +39,8 @@ pub fn read_pieces<D: Drop, R: FrontReader<D> + Drop>(
     ensures ended { IfOk result (λ read.
         (read.last ≡ None) ↔ ((length read.values.items ≡ n) ⊎ (pieces.now ≡ []))) }
     ensures no_piece { IfOk result (λ read. pieces.now ≡ [] → read.values.items ≡ []) }
+    ensures only { IfOk result (λ read.
+        AreReadOf R.fronts reader read.values.items (joined pieces.now)) }
     ensures memory { IfErr result (λ e. e ≡ Memory) }
 {
     let mut iter = Iter::new(alloc, &[], reader);
@@ -65,6 +68,8 @@ fn read_more<D: Drop, R: FrontReader<D> + Drop>(
     requires { length values.old.items ≤ n }
     ensures same_reader { (state iter.new).reader ≡ (state iter.old).reader }
     ensures remains { IfOk result (λ _. KeepsRemaining R.fronts (state iter.old) (state iter.new)
+        values.old.items values.new.items) }
+    ensures only { IfOk result (λ _. AddsRead R.fronts (state iter.old) (state iter.new)
         values.old.items values.new.items) }
     ensures ended { IfOk result (λ last. MatchOption last (length values.new.items ≡ n)
         (λ e. (length values.new.items < n) ×

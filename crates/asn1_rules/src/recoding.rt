@@ -1,6 +1,6 @@
 //! From one codec to another.
-ghost use Rattle.asn1_rules.specs.Recoding.{Recodes, WritingFailsAsItMay};
-ghost use Rattle.std.specs.Prelude.{IfErr};
+ghost use Rattle.asn1_rules.specs.Recoding.{IsRecodedFrom, Recodes, WritingFailsAsItMay};
+ghost use Rattle.std.specs.Prelude.{IfErr, IfOk};
 
 use crate::rules::Rules;
 use asn1_dec::{Decode, DecodeError};
@@ -21,8 +21,8 @@ pub enum RecodeError {
 /// Reads a value by the rules of one codec and writes it by those of another, each with at most this many nested scopes.
 ///
 /// If the input carries the own records of a valid value of a type that is well tagged, the output carries those of a value that
-/// is equal, by the type's own equality (`recoded`). For any other input the contract says only that writing fails as it may
-/// (`writing`).
+/// is equal, by the type's own equality (`recoded`). Whatever the input is, the output carries the own records of a value that was
+/// read of it (`only`), or writing such a value fails as it may (`writing`).
 ///
 /// # Errors
 /// [`RecodeError::Read`] with the error of reading: of such an input [`DecodeError::Depth`] only where the value's records are
@@ -35,7 +35,9 @@ pub fn recode<T: Encode + Decode, A: Rules, B: Rules>(
     depth: usize,
 ) -> Result<B::Output, RecodeError>
     ensures recoded { Recodes B.format T.meaning A.format input.now T.eq depth result }
-    ensures writing { IfErr result (WritingFailsAsItMay B.format T.meaning depth) }
+    ensures only { IfOk result (IsRecodedFrom B.format T.meaning A.format input.now depth) }
+    ensures writing { IfErr result (WritingFailsAsItMay B.format T.meaning A.format input.now
+        depth) }
 {
     let value: T = from.read_value(input, depth).map_err(RecodeError::Read)?;
     to.write_value(&value, depth).map_err(RecodeError::Write)

@@ -1,8 +1,8 @@
 //! The round trip: a written value is read back.
 ghost use Rattle.asn1_model.specs.Meaning.{IsWellTagged, own_records};
 ghost use Rattle.asn1_model.specs.Records.{highest};
-ghost use Rattle.asn1_rules.specs.RoundTrips.{FailsAs, WritesFirst};
-ghost use Rattle.std.specs.Prelude.{◌≡◌, ◌≤◌, true, MatchResult, OnOk};
+ghost use Rattle.asn1_rules.specs.RoundTrips.{FailsAs, IsReadBack, WritesFirst};
+ghost use Rattle.std.specs.Prelude.{◌≡◌, ◌≤◌, true, IfOk, MatchResult, OnOk};
 
 use crate::rules::Rules;
 use asn1_dec::{Decode, DecodeError};
@@ -25,7 +25,8 @@ pub enum RoundTripError {
 /// The round trip: for every codec, and every type that is well tagged, a valid value whose writing succeeds is read back
 /// equal, by the type's own equality, unless memory runs out or the value's records are nested deeper than the depth of reading
 /// (`back`). A value that is read back was nested no deeper than that (`within_depth`). Whatever the type and the value, one that was
-/// written is nested no deeper than the depth of writing, and writing fails as it may (`written`).
+/// written is nested no deeper than the depth of writing, and writing fails as it may (`written`); and the answer was read of an output
+/// that carries the own records of the value (`only`).
 ///
 /// # Errors
 /// [`RoundTripError::Writing`] with the error of writing, and [`RoundTripError::Reading`] with that of reading.
@@ -41,6 +42,7 @@ pub fn round_trip<R: Rules, T: Encode + Decode>(
     ensures within_depth { IsWellTagged T.meaning → T.meaning.IsValid R.format.accepts value.now →
         OnOk result (highest (own_records T.meaning value.now) ≤ read_depth) }
     ensures written { WritesFirst R.format (own_records T.meaning value.now) write_depth result }
+    ensures only { IfOk result (IsReadBack R.format T.meaning value.now write_depth) }
 {
     let output = rules
         .write_value(value, write_depth)

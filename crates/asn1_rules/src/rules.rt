@@ -1,6 +1,7 @@
 //! A codec as a whole.
 ghost use Rattle.asn1_model.specs.Meaning.{own_records};
-ghost use Rattle.asn1_rules.specs.Rules.{Format, IsLawful, ReadsCarried, RefusesCarried, WritesWhole};
+ghost use Rattle.asn1_rules.specs.Rules.{Format, IsLawful, IsReadOf, ReadsCarried, RefusesCarried, WritesWhole};
+ghost use Rattle.std.specs.Prelude.{IfOk};
 
 use asn1_dec::{Decode, DecodeError};
 use asn1_enc::{Encode, EncodeError};
@@ -9,7 +10,8 @@ use asn1_enc::{Encode, EncodeError};
 ///
 /// An output carries lists of records. `write_value` answers an output that carries the value's own records. `read_value` makes an
 /// equal value of an output that carries the own records of a valid value of a well-tagged type, which meets the type's invariant.
-/// It refuses well-formed records that a type refuses by the error of the type.
+/// It refuses well-formed records that a type refuses by the error of the type. Each answer was read of records that the
+/// output carries.
 ///
 /// # Depth
 /// A type that holds itself takes room on the machine's stack for each nested scope, in writing and in reading, and the depth is
@@ -32,18 +34,20 @@ pub trait Rules {
         ensures { WritesWhole format (own_records T.meaning value.now)
             (T.meaning.IsOfType value.now) depth result };
 
-    /// Reads a value, with at most this many nested scopes.
+    /// Reads a value, with at most this many nested scopes. Any output carries records that are read as the answer
+    /// (`only`): the value's own, or others that say the same to a reader.
     ///
     /// # Errors
     /// If the output carries the own records of a valid value of a well-tagged type, which meets the type's invariant:
     /// [`DecodeError::Depth`] only if these are nested deeper than the depth, and otherwise [`DecodeError::Memory`]. If it carries
-    /// well-formed records that the type refuses: the error of the type, or one of these two in the same way. No contract covers
-    /// other outputs.
+    /// well-formed records that the type refuses: the error of the type, or one of these two in the same way. Other outputs are refused
+    /// unless `only` allows an answer; no contract says by which error.
     fn read_value<T: Decode>(&self, output: &Self::Output, depth: usize) -> Result<T, DecodeError>
         ensures read { ReadsCarried format.accepts (format.carries output.now) T.meaning T.eq depth
             result }
         ensures refuses { RefusesCarried format.accepts (format.carries output.now) T.meaning
-            T.refusals depth result };
+            T.refusals depth result }
+        ensures only { IfOk result (IsReadOf (format.carries output.now) T.meaning) };
 
     // The law of a codec.
     ghost lawful: { IsLawful format };

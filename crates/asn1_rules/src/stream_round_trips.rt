@@ -2,7 +2,7 @@
 ghost use Rattle.asn1_rules.specs.Fronts.{BelongsTo, IsSteady};
 ghost use Rattle.asn1_rules.specs.Pieces.{joined};
 ghost use Rattle.asn1_rules.specs.Outputs.{OutputsAreFronts};
-ghost use Rattle.asn1_rules.specs.StreamRoundTrips.{FailsInPieces, ValuesComeBack};
+ghost use Rattle.asn1_rules.specs.StreamRoundTrips.{AreReadBack, FailsInPieces, ValuesComeBack};
 ghost use Rattle.std.specs.Prelude.{◌≡◌, ◌≤◌, ◌<◌, ◌↔◌, All, IfErr, IfOk, None, length, ℕ};
 
 use crate::front_reader::FrontReader;
@@ -18,7 +18,8 @@ use std::alloc::{AllocError, Global};
 ///
 /// The round trip of streams: for every codec, and every steady reader that belongs to it, valid
 /// values that were written are read back equal, in their order, however their bytes are cut,
-/// unless memory runs out, or a value is nested deeper than the reader's depth (`back`).
+/// unless memory runs out, or a value is nested deeper than the reader's depth (`back`). Values that
+/// come were read of the outputs of these, valid or not (`only`).
 ///
 /// # Errors
 /// [`RoundTripError::Writing`] with the error of [`write_list`], and [`RoundTripError::Reading`]
@@ -41,6 +42,8 @@ pub fn round_trip_in_pieces<
     ensures at_most { IfOk result (λ read. length read.values.items ≤ length values.now) }
     ensures ended { IfOk result (λ read.
         (read.last ≡ None) ↔ (length read.values.items ≡ length values.now)) }
+    ensures only { IfOk result (λ read. AreReadBack F.fronts reader R.format T.meaning depth
+        values.now read.values.items) }
     ensures fails { IfErr result (FailsInPieces R.format T.meaning depth values.now) }
 {
     let bytes = write_list(alloc, rules, values, depth).map_err(RoundTripError::Writing)?;

@@ -221,7 +221,7 @@ fn append_case_list(draft: &mut Draft, subject: ChoiceSubject<'_>) -> Result<(),
         "
     ghost are_cases = {{ its_cases }};
 
-    ghost is_inside = {{ record {{ single = tt; records = λ _ _ _ _. refl; of_type = λ _ h. h; valid = λ _ _ h. h; constraints = refl }} }};
+    ghost is_inside = {{ record {{ single = tt; records = λ _ _ _ _. refl; read = λ _ _ _ _ h. h; of_type = λ _ h. h; valid = λ _ _ h. h; constraints = refl }} }};
 }}
 
 "

@@ -441,9 +441,9 @@ pub(crate) fn reader_file(
     } else {
         "decode_sequence_with"
     };
-    draft.use_signs(&["◌<◌"])?;
+    draft.use_signs(&["◌<◌", "IfOk"])?;
     draft.use_ghost(
-        "ghost use Rattle.asn1_circles.specs.Words.{AfterReading, ReadsValue, constraint_set, said};",
+        "ghost use Rattle.asn1_circles.specs.Words.{AfterReading, HasReadValue, ReadsValue, constraint_set, said};",
     )?;
     draft.use_ghost(format!(in alloc;
         "ghost use Rattle.{crate_name}.specs.{name}Meaning.{{meaning}};"
@@ -468,6 +468,8 @@ pub(crate) fn read_{module}<E: ReadError, D: Decoder>(
 ) -> Result<{name}, DecodeError>
     ensures read {{ ReadsValue D.reader meaning ⟦<{name} as PartialEq>⟧.eq tag
         (constraint_set constraints.now) decoder.old decoder.new result }}
+    ensures only {{ IfOk result (HasReadValue D.reader decoder.old decoder.new meaning tag
+        (constraint_set constraints.now)) }}
     ensures after_reading {{ AfterReading D.reader meaning tag (constraint_set constraints.now)
         decoder.old decoder.new result }}
 {{

@@ -193,6 +193,8 @@ pub struct Alternative {
     pub tree: Tree,
     /// Whether its type is NULL, under a name of its own too.
     pub is_null: bool,
+    /// Whether its type is a list with elements behind an explicit tag, under names of their own too.
+    pub has_explicit_elements: bool,
     /// How its type holds the parameter of the type that it is in, if it does.
     pub held: Option<Held>,
 }

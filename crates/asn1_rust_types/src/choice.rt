@@ -8,7 +8,8 @@ use asn1_rust_components::{
 };
 use std::alloc::AllocError;
 
-/// The greatest number of alternatives that are read with a question mark, if there are several and none is behind an explicit tag.
+/// The greatest number of alternatives that are read with a question mark, if there are several and none is behind an explicit tag, nor
+/// are elements of one.
 const FEW: usize = 8;
 
 /// A CHOICE with its file.
@@ -132,9 +133,9 @@ fn append_reader(draft: &mut Draft, subject: ChoiceSubject<'_>) -> Result<(), Al
     draft.blank()
 }
 
-// Whether an alternative is behind an explicit tag.
+// Whether an alternative is behind an explicit tag, or elements of it are.
 fn is_behind_tag(alternative: &Alternative) -> bool {
-    matches!(alternative.tagging, Tagging::Explicit(_))
+    matches!(alternative.tagging, Tagging::Explicit(_)) || alternative.has_explicit_elements
 }
 
 /// Appends the list of alternatives with their variants.

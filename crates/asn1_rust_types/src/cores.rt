@@ -27,6 +27,7 @@ const SINGLE: &[&str] = &[
     "asn1_contents::Real",
     "asn1_contents::RelativeOid",
     "asn1_contents::TimeOfDay",
+    "asn1_contents::UniversalString",
     "bool",
     "i16",
     "i32",
@@ -194,8 +195,6 @@ fn leaf_at(text: &str, depth: usize) -> Option<Leaf> {
         Some(Leaf::Null)
     } else if text == "Utf8String" {
         Some(Leaf::Text(depth))
-    } else if text == "UniversalString" {
-        Some(Leaf::Text(depth.saturating_add(1)))
     } else if BITS.contains(&text) {
         Some(Leaf::Bits)
     } else if SINGLE.contains(&text) || text.starts_with("ConstrainedInteger<") {

@@ -1,4 +1,5 @@
 pub mod ChosenRecords
+mod ComingParts
 pub mod NodeHeights
 pub mod NodeLaws
 pub mod NodeValidity

@@ -1,6 +1,6 @@
 -- Node ::= SEQUENCE { label UTF8String OPTIONAL, children SEQUENCE OF Node }
-use Rattle.std.specs.Prelude.{◌≡◌, ◌↔◌, ◌++◌, ℕ, ⊤, Bool, List, [], ◌∷◌, Option, None, Some, IfSome, All, codes, refl}
-use Rattle.std.proofs.Common.{ap, sym, ◌∙◌, subst}
+use Rattle.std.specs.Prelude.{◌≡◌, ◌↔◌, ◌⊎◌, ◌++◌, ℕ, zero, suc, ⊤, Bool, List, [], ◌∷◌, Option, None, Some, IfSome, All, codes, refl}
+use Rattle.std.proofs.Common.{ap, inl, inr, sym, ◌∙◌, subst}
 use Rattle.std.proofs.lemmas.List.Elements.{All-nil, All-cons}
 use Rattle.std.proofs.lemmas.List.Folds.{flat_map-map}
 use Rattle.std.specs.List.{flat_map}
@@ -9,7 +9,7 @@ use Rattle.std.specs.String.{string_bytes}
 use Rattle.std.specs.declared.alloc.Global.{Global}
 use Rattle.std.specs.declared.string.String.{String}
 use Rattle.asn1_components.proofs.ContentsOfValues.{all_own_and_inside}
-use Rattle.asn1_components.specs.ComponentLists.{all_well_formed}
+use Rattle.asn1_components.specs.ComponentLists.{AreReadInTurn, all_read_own, all_well_formed}
 use Rattle.asn1_components.specs.Components.{AgreesWithComponents, Components, all_components, component_records, components_with_itself, head_of_kind, holding_itself, inside_itself, is_sequence, sequence, table_with_itself}
 use Rattle.asn1_components.specs.ComponentTypes.{optional, required}
 use Rattle.asn1_samples.specs.declared.node.Node.{Node, Node-F, out-Node, fold-Node, fold_out-Node}
@@ -17,11 +17,12 @@ use Rattle.asn1_model.specs.Composites.{list_records, option_records, sequence_r
 use Rattle.asn1_model.specs.ConstraintSets.{unconstrained}
 use Rattle.asn1_model.specs.Kinds.{Inside, list_type, utf8_string}
 use Rattle.asn1_model.specs.Meaning.{Meaning, own_records}
-use Rattle.asn1_model.specs.Records.{Record, holding, in_root}
+use Rattle.asn1_model.specs.Records.{Record, holding, in_root, sequence as sequence_head, sequence_of}
 use Rattle.asn1_model.specs.RecordTables.{Row, Table}
 use Rattle.asn1_model.specs.TaggedTypes.{untagged}
 use Rattle.asn1_model.specs.Tags.{universal}
 use Rattle.asn1_model.specs.WellFormed.{AreWellFormed}
+use Rattle.asn1_nesting.specs.SomeDepth.{ReadAtSome, elements_at_some, in_turn_at_some, inside_at_some, same_read}
 
 -- what a label means
 abbrev pub text : Meaning (String Global)
@@ -48,6 +49,8 @@ node_table = table_with_itself {W = WrittenNode} (codes "Node") is_sequence
 abbrev pub written_child : Meaning WrittenNode
 written_child = inside_itself (codes "Node") is_sequence node_table (record {
   records = λ child. child.records;
+  AreReadAs = λ child rs. rs ≡ child.records;
+  read_own = λ _. refl;
   IsWellTagged = ⊤;
   AreOfType = λ _. ⊤;
   AreValid = λ _ _. ⊤;
@@ -93,17 +96,38 @@ node_is_of_type n = All (λ label. IfSome label text.IsOfType) (labels n)
 abbrev pub node_is_valid : (List ℕ → Bool) → Node → Type 0
 node_is_valid accepts n = All (λ label. IfSome label (text.IsValid accepts)) (labels n)
 
--- what is inside a node's record
-abbrev pub own_inside : Inside Node
-own_inside = record {
+-- Which records are read as the components of a node, its own among them.
+pub record NodesRead : Type 1 where
+  pub are : Node → List Record → Type 0
+  pub own : (n : Node) → are n (node_records n)
+
+-- what is inside a node's record, and the node's components, where each child is a node
+abbrev pub inside_by : NodesRead → Inside Node
+inside_by read = record {
   records = node_records;
+  AreReadAs = read.are;
+  read_own = read.own;
   IsWellTagged = ⊤;
   AreOfType = node_is_of_type;
   AreValid = node_is_valid;
   well_formed = λ accepts n _. (written_node n).well_formed accepts;
 }
 
--- A node's components, where each child is a node.
+abbrev pub components_by : NodesRead → Components Node
+components_by read = components_with_itself (codes "Node") is_sequence (components_with out-Node) (inside_by read)
+
+-- Down to a depth, below which a child's own records alone are read as it; and down to some depth.
+abbrev pub read_to : ℕ → NodesRead
+read_to zero = record { are = λ n rs. rs ≡ node_records n; own = λ n. refl }
+read_to (suc depth) = record {
+  are = λ n rs. (read_to depth).are n rs ⊎ AreReadInTurn (all_components (components_by (read_to depth))) n rs;
+  own = λ n. inl ((read_to depth).own n);
+}
+
+abbrev pub own_inside : Inside Node
+own_inside = inside_by (record { are = λ n rs. (depth : ℕ) × (read_to depth).are n rs; own = λ n. (0, refl) })
+
+-- A node's components.
 abbrev pub node_components : Components Node
 node_components = components_with_itself (codes "Node") is_sequence (components_with out-Node) own_inside
 
@@ -116,6 +140,22 @@ node_records_are n =
     ap (λ (written : WrittenNode). written.records) (fold_out-Node WrittenNode write_node n)
     ∙ ap (λ children. option_records in_root (universal 12) (option_map (own_records text) (out-Node n).label) ++ (list_records (universal 16) unconstrained (Some (codes "SEQUENCE_OF")) children ++ []))
     (flat_map-map (own_records written_child) written_node (out-Node n).children.items)
+
+-- What is read as a node is read as it down to some depth, and so are its components.
+node_at_some : (n : Node) → ReadAtSome (λ depth. (read_to depth).are n) (own_inside.AreReadAs n)
+node_at_some n = record { at = λ rs. record { grows = λ _ are. inl are; within = λ depth are. (depth, are); reached = λ are. are } }
+
+components_at_some : (n : Node) → ReadAtSome (λ depth. AreReadInTurn (all_components (components_by (read_to depth))) n) (AreReadInTurn (all_components node_components) n)
+components_at_some n = in_turn_at_some same_read (in_turn_at_some
+    (inside_at_some (sequence_of (universal 16) unconstrained) (elements_at_some (out-Node n).children.items (λ child. inside_at_some (sequence_head (universal 16) node_table) (node_at_some child)))) same_read)
+
+read_at_depth : (depth : ℕ) (n : Node) (rs : List Record) → (read_to depth).are n rs → AreReadInTurn (all_components node_components) n rs
+read_at_depth zero n rs is = subst (AreReadInTurn (all_components node_components) n) (sym (is ∙ node_records_are n)) (all_read_own (all_components node_components) n)
+read_at_depth (suc depth) n rs (inl before) = read_at_depth depth n rs before
+read_at_depth (suc depth) n rs (inr are) = ((components_at_some n).at rs).within depth are
+
+read_are : (n : Node) (rs : List Record) → own_inside.AreReadAs n rs ↔ AreReadInTurn (all_components node_components) n rs
+read_are n rs = (λ (depth, are). read_at_depth depth n rs are, λ are. let (depth, at) = ((components_at_some n).at rs).reached are in (suc depth, inr at))
 
 labels_are : (n : Node) → labels n ≡ (out-Node n).label ∷ flat_map labels (out-Node n).children.items
 labels_are n =
@@ -137,6 +177,10 @@ node_agrees = record {
   records = λ v t c n. ap
       (λ components. holding (head_of_kind is_sequence t node_table n) components ∷ [])
       (node_records_are v);
+  read = λ v t c rs. (
+    λ (n, items, are, is). (n, items, (read_are v items).0 are, is),
+    λ (n, items, are, is). (n, items, (read_are v items).1 are, is),
+  );
   distinct_tags = λ t. (λ h. h, λ h. h);
   of_type = each_label (λ label. IfSome label text.IsOfType);
   valid = λ accepts. each_label (λ label. IfSome label (text.IsValid accepts));

@@ -1,10 +1,13 @@
 //! `Badge ::= SET { id INTEGER (0..4294967295), label VisibleString OPTIONAL, shape Shape }`
-ghost use Rattle.std.specs.Prelude.{◌≡◌, [], ◌∷◌, OnOk, map, codes};
+ghost use Rattle.std.specs.Prelude.{◌≡◌, [], ◌∷◌, IfOk, List, OnOk, map, codes};
 ghost use Rattle.asn1_types.specs.Words.{untagged, required, optional, set, constructed_type, constructed_agrees, IsWellTagged};
+ghost use Rattle.asn1_components.specs.ComponentLists.{AreReadInAnyOrder};
 ghost use Rattle.asn1_components.specs.Components.{all_components, root_views, table};
 ghost use Rattle.asn1_laws.specs.SetParts.{EachFits, MakesValue};
 ghost use Rattle.asn1_fields.specs.CanonicalOrder.{IsCanonical};
 ghost use Rattle.asn1_fields.specs.FieldViews.{component_of};
+ghost use Rattle.asn1_model.specs.Readings.{AreElementsRead};
+ghost use Rattle.asn1_model.specs.Records.{Record};
 
 use crate::shape::Shape;
 use asn1_dec::{Decode, DecodeError, DecodeSet, Decoder, keep_once};
@@ -115,7 +118,7 @@ impl EncodeFields for Badge {
 
 /// A badge is read by parts: each component by itself, and then all are put together.
 impl DecodeSet for Badge {
-    ghost use Rattle.asn1_samples.specs.BadgeParts.{IsBadgePart, badge_index};
+    ghost use Rattle.asn1_samples.specs.BadgeParts.{IsBadgePart, IsReadAsBadgePart, badge_index};
     ghost use Rattle.asn1_laws.proofs.OneRecordEach.{optional_is_one};
     ghost use Rattle.std.proofs.Common.{rules, lit≤};
 
@@ -124,6 +127,8 @@ impl DecodeSet for Badge {
     ghost index_of = { badge_index };
 
     ghost is_part_of = { IsBadgePart };
+
+    ghost IsReadAsPart = { IsReadAsBadgePart };
 
     ghost one_record_each = { λ badge can. (lit≤ tt, (Prim.search (rules, optional_is_one), (lit≤ tt, tt))) };
 
@@ -143,6 +148,9 @@ impl DecodeSet for Badge {
     fn from_fields(_alloc: Global, parts: Vec<BadgePart>) -> Result<Badge, DecodeError>
         ensures made { MakesValue (all_components ⟦<Badge as FieldTable>⟧.components) badge_index
             IsBadgePart ⟦<Badge as PartialEq>⟧.eq parts.items result }
+        ensures only { IfOk result (λ badge. (rs : List Record) →
+            AreElementsRead IsReadAsBadgePart parts.items rs →
+            AreReadInAnyOrder (all_components ⟦<Badge as FieldTable>⟧.components) badge rs) }
         ensures fitting { OnOk result (EachFits (all_components ⟦<Badge as FieldTable>⟧.components)
             badge_index 0 parts.items) }
     {

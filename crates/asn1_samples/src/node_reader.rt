@@ -1,12 +1,13 @@
 //! The reader of a node: four functions that call one another.
 ghost use Rattle.asn1_laws.specs.Reading.{AfterReading, ReadsValue};
+ghost use Rattle.asn1_laws.specs.ReadingExactly.{HasReadElements, HasReadFields, HasReadList, HasReadValue};
 ghost use Rattle.asn1_laws.specs.ReadingTypes.{ReadsElements, ReadsElementsLeft, ReadsFields};
 ghost use Rattle.asn1_model.specs.ConstraintSets.{constraint_set, unconstrained};
 ghost use Rattle.asn1_model.specs.Records.{sequence_of};
 ghost use Rattle.asn1_model.specs.Tags.{universal};
 ghost use Rattle.asn1_samples.specs.NodeComponents.{node_components, node_meaning};
 ghost use Rattle.std.specs.Cmp.Lexicographic.{pointwise};
-ghost use Rattle.std.specs.Prelude.{◌≡◌, OnOk};
+ghost use Rattle.std.specs.Prelude.{◌≡◌, IfOk, OnOk};
 
 use crate::node::Node;
 use asn1_dec::{DecodeError, Decoder};
@@ -22,6 +23,8 @@ pub(crate) fn read_node<D: Decoder>(
 ) -> Result<Node, DecodeError>
     ensures read { ReadsValue D.reader node_meaning ⟦<Node as PartialEq>⟧.eq tag
         (constraint_set _constraints.now) decoder.old decoder.new result }
+    ensures only { IfOk result (HasReadValue D.reader decoder.old decoder.new node_meaning tag
+        (constraint_set _constraints.now)) }
     ensures after_reading { AfterReading D.reader node_meaning tag
         (constraint_set _constraints.now) decoder.old decoder.new result }
 {
@@ -35,6 +38,7 @@ pub(crate) fn read_node<D: Decoder>(
 pub(crate) fn read_components<D: Decoder>(decoder: &mut D) -> Result<Node, DecodeError>
     ensures read { ReadsFields D.reader node_components ⟦<Node as PartialEq>⟧.eq decoder.old
         decoder.new result }
+    ensures only { IfOk result (HasReadFields D.reader decoder.old decoder.new node_components) }
     ensures same_depth { OnOk result (D.reader.depth_left decoder.new ≡
         D.reader.depth_left decoder.old) }
 {
@@ -48,6 +52,8 @@ pub(crate) fn read_components<D: Decoder>(decoder: &mut D) -> Result<Node, Decod
 fn read_children<D: Decoder>(decoder: &mut D) -> Result<Vec<Node>, DecodeError>
     ensures read { ReadsElements D.reader (sequence_of (universal 16) unconstrained) node_meaning
         (λ w. pointwise ⟦<Node as PartialEq>⟧.eq w.items) decoder.old decoder.new result }
+    ensures only { IfOk result (λ w. HasReadList D.reader decoder.old decoder.new
+        (sequence_of (universal 16) unconstrained) node_meaning w.items) }
     ensures same_depth { OnOk result (D.reader.depth_left decoder.new ≡
         D.reader.depth_left decoder.old) }
 {
@@ -61,6 +67,8 @@ fn read_children<D: Decoder>(decoder: &mut D) -> Result<Vec<Node>, DecodeError>
 fn read_nodes<D: Decoder>(decoder: &mut D, bound: usize) -> Result<Vec<Node>, DecodeError>
     ensures read { ReadsElementsLeft D.reader bound node_meaning
         (λ w. pointwise ⟦<Node as PartialEq>⟧.eq w.items) decoder.old decoder.new result }
+    ensures only { IfOk result (λ w. HasReadElements D.reader decoder.old decoder.new node_meaning
+        w.items) }
     ensures same_depth { OnOk result (D.reader.depth_left decoder.new ≡
         D.reader.depth_left decoder.old) }
 {

@@ -6,7 +6,7 @@ use Rattle.asn1_tags.specs.Trees.{Tree}
 use Rattle.asn1_model.proofs.TagSets.{lies_has}
 use Rattle.asn1_model.specs.DistinctSets.{AreDistinct, HaveDistinctTags, SetsAreDistinct, SharesNoTag}
 use Rattle.asn1_model.specs.Meaning.{Meaning}
-use Rattle.asn1_model.specs.Records.{PresenceMark, Record, Records, held, more, none, open_type, presence_mark, presence_marks_alone, scalar, scope}
+use Rattle.asn1_model.specs.Records.{PresenceMark, Record, Records, held, more, none, open_type, presence_mark, presence_marks_alone, scalar, scope, unmarked}
 use Rattle.asn1_model.specs.Tags.{Has, LiesIn, ShareNone, Tags, among, first_tags, record_tags, tree_tags}
 use Rattle.asn1_components.proofs.DistinctFollowers.{set_apart}
 use Rattle.asn1_components.proofs.DistinctSets.{constructed_distinct}
@@ -16,7 +16,7 @@ use Rattle.asn1_components.specs.Components.{AgreesWithComponents, AreDistinctIn
 use Rattle.asn1_components.specs.DistinctSets.{EachIsDistinct, IsDistinct}
 use Rattle.asn1_components.specs.Following.{AllApart, ApartFromEach}
 use Rattle.asn1_laws.specs.Reading.{records_in}
-use Rattle.asn1_laws.specs.SetParts.{EachIsOneRecord, unmarked}
+use Rattle.asn1_laws.specs.SetParts.{EachIsOneRecord}
 use Rattle.asn1_slots.proofs.Layouts.{slots_of_type}
 use Rattle.asn1_slots.proofs.ReadInSets.{apart_slots, distinct_slots, records_slots, well_tagged_slots}
 use Rattle.asn1_slots.specs.SlotsInStep.{each_is_one, each_well_tagged, parts_apart, written_in_parts}

@@ -2,6 +2,7 @@ pub mod FilledSlots
 pub mod Layouts
 pub mod NamedErrors
 pub mod ReadByIndex
+pub mod ReadExactly
 pub mod ReadChoices
 pub mod ReadInSets
 pub mod WrittenAlike
@@ -9,3 +10,4 @@ pub mod DistinctSets
 mod TreesWithTags
 pub mod SetItems
 pub mod FilledGroups
+mod ComingExactly

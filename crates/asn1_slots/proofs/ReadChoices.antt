@@ -1,9 +1,10 @@
 -- How a CHOICE is read by the index of its alternative.
 use Rattle.std.proofs.Common.{◌≡◌, ◌<◌, ◌+◌, arith, length, ℕ, zero, suc, Bool, true, List, [], ◌∷◌, Result, Ok, Err, inl, inr, ◌∙◌, subst}
-use Rattle.std.specs.Prelude.{⊤}
+use Rattle.std.specs.Prelude.{⊤, IfOk}
 use Rattle.asn1_components.specs.Alternatives.{Alternative, CanBeChosen, Each, HaveDistinctTags, OneOf, chosen, chosen_meaning, trees_of}
 use Rattle.asn1_components.specs.ChosenTags.{LacksTag}
 use Rattle.asn1_laws.specs.Reading.{Outside, Reader, ReadsBack}
+use Rattle.asn1_laws.specs.ReadingExactly.{HasReadAlternative, WasRead}
 use Rattle.asn1_laws.specs.declared.decode_error.DecodeError.{DecodeError}
 use Rattle.asn1_model.proofs.TagSets.{has_leaf, leaf_has}
 use Rattle.asn1_model.specs.Records.{Record}
@@ -12,7 +13,7 @@ use Rattle.asn1_tags.proofs.TagListTests.{apart-from_distinct, distinct-after}
 use Rattle.asn1_tags.specs.Trees.{leaves, leaves_of}
 use Rattle.asn1_tags.specs.declared.tags.Tag.{Tag}
 use Rattle.asn1_slots.proofs.TreesWithTags.{is_leaf}
-use Rattle.asn1_slots.specs.Cases.{Case, FailsAt, HasReadAt, IsMade, ReadsCaseAt, alternatives_of}
+use Rattle.asn1_slots.specs.Cases.{Case, FailsAt, HasReadAt, IsMade, ReadsCaseAt, alternatives_of, choice_of_cases}
 use Rattle.asn1_slots.specs.TagIndices.{BeginsAt}
 
 -- the index of the chosen alternative
@@ -59,6 +60,20 @@ pub lacks : (alts : List Alternative) (index : ℕ) (t : Tag) → Each (LacksTag
 lacks [] index t none at = at
 lacks (a ∷ alts) zero t none at = none.0 (has_leaf a.type.tree t at)
 lacks (a ∷ alts) (suc index) t none at = lacks alts index t none.1 at
+
+-- Records that were read as the value of an alternative are read as the value that is made of it.
+alternative_was_read : {D V : Type 0} (R : Reader D) (old new : D) (hs : List (Case V)) (index : ℕ) (x : OneOf (alternatives_of hs)) → HasReadAt R hs index old new x →
+    WasRead R old new (chosen_meaning (alternatives_of hs) x).AreReadAs
+alternative_was_read R old new [] index x read = absurd x
+alternative_was_read R old new (h ∷ hs) zero (inl w) read = read.exactly
+alternative_was_read R old new (h ∷ hs) zero (inr x) read = absurd read
+alternative_was_read R old new (h ∷ hs) (suc index) (inl w) read = absurd read
+alternative_was_read R old new (h ∷ hs) (suc index) (inr x) read = alternative_was_read R old new hs index x read
+
+pub case_was_read : {D V : Type 0} (R : Reader D) (old new : D) (hs : List (Case V)) (case_of : V → OneOf (alternatives_of hs)) (index : ℕ) (result : Result V DecodeError) →
+    ReadsCaseAt R hs case_of index old new result → IfOk result (HasReadAlternative R old new (choice_of_cases hs) case_of)
+case_was_read R old new hs case_of index (Ok v) read = alternative_was_read R old new hs index (case_of v) read
+case_was_read R old new hs case_of index (Err e) read = tt
 
 module _ {D V : Type 0} (R : Reader D) (eq : V → V → Bool) (old new : D) (v : V) (rest : List Record) (outer : Outside) where
   -- the chosen alternative was read, and a value was made of what came

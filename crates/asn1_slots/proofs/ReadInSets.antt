@@ -13,10 +13,10 @@ use Rattle.asn1_laws.proofs.ReadingSteps.{in_other_words}
 use Rattle.asn1_laws.proofs.Rearrangements.{made_of}
 use Rattle.asn1_laws.proofs.SetRecords.{IsAll, Item, all_are, as_many_as_written, at_most_one, items_at-permutation, items_from, records, their_records}
 use Rattle.asn1_laws.specs.Reading.{Advances, HasAdvanced, IsNextTag, MayFail, Outside, Reader, ReadsBack, Remaining, TellsComponent, TellsTree, marks_passed, records_in}
-use Rattle.asn1_laws.specs.SetParts.{CanBeginWith, parts_at, unmarked, written_of}
+use Rattle.asn1_laws.specs.SetParts.{CanBeginWith, parts_at, written_of}
 use Rattle.asn1_laws.specs.declared.decode_error.DecodeError.{DecodeError}
 use Rattle.asn1_laws.specs.declared.decode_error.DecodeError.TheVariants.{Depth, Memory}
-use Rattle.asn1_model.specs.Records.{Record, highest}
+use Rattle.asn1_model.specs.Records.{Record, highest, unmarked}
 use Rattle.asn1_model.specs.Tags.{Has, ShareNone, Tags, first_tags, tree_tags}
 use Rattle.asn1_tags.specs.Tags.{distinct}
 use Rattle.asn1_tags.specs.Trees.{Tree, Trees, leaves, more, none}

@@ -5,8 +5,7 @@ use Rattle.std.specs.List.{All}
 use Rattle.std.proofs.lemmas.List.Elements.{All-cons, All-head, All-nil, All-tail}
 use Rattle.asn1_components.specs.ComponentTypes.{ComponentType}
 use Rattle.asn1_laws.proofs.SetRecords.{IsAll, Item, items_at, records}
-use Rattle.asn1_laws.specs.SetParts.{unmarked}
-use Rattle.asn1_model.specs.Records.{Record, is_presence_mark, open_type, presence_mark, scalar, scope}
+use Rattle.asn1_model.specs.Records.{Record, is_presence_mark, open_type, presence_mark, scalar, scope, unmarked}
 
 -- the items without the marks
 abbrev pub unmarked_items : List Item → List Item

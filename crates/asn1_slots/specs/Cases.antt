@@ -1,8 +1,9 @@
 -- The cases of a CHOICE: its alternatives, each with the values that are made of it.
-use Rattle.std.specs.Prelude.{◌≡◌, ◌<◌, ℕ, zero, suc, ⊤, Bool, true, List, [], ◌∷◌, drop, length, take, Result, Ok, Err}
+use Rattle.std.specs.Prelude.{◌≡◌, ◌<◌, ℕ, zero, suc, ⊤, Bool, true, List, [], ◌∷◌, drop, length, take, IfOk, Result, Ok, Err}
 use Rattle.std.proofs.Common.{inl, inr}
 use Rattle.asn1_components.specs.Alternatives.{Alternative, Alternatives, OneOf, alternative, all_of, closed, extensible, trees_of}
 use Rattle.asn1_laws.specs.Reading.{Reader}
+use Rattle.asn1_laws.specs.ReadingExactly.{WasRead}
 use Rattle.asn1_laws.specs.declared.decode_error.DecodeError.{DecodeError}
 use Rattle.asn1_model.specs.TaggedTypes.{TaggedType}
 use Rattle.asn1_tags.specs.Order.{structures_cmp}
@@ -10,10 +11,11 @@ use Rattle.std.specs.Ordering.{is_eq}
 use Rattle.asn1_slots.specs.Filling.{ReadsComponent}
 
 -- A call that reads the value of an alternative: of each that is of the type and valid it answers
--- an equal one.
+-- an equal one, and after each success nothing was read but what is read as its answer.
 pub record ReadsValueOf {D W : Type 0} (R : Reader D) (type : TaggedType W) (eq : W → W → Bool)
     (old new : D) (result : Result W DecodeError) : Type 0 where
   pub reads : ReadsComponent R type (λ v w. eq w v ≡ true) old new result
+  pub exactly : IfOk result (λ w. WasRead R old new (type.IsReadAs w))
 
 -- An alternative of the values V (X.680, 29.1): its name, the value that is made of one of its type,
 -- this type, and when two of the type are equal.

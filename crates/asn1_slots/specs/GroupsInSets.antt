@@ -1,12 +1,12 @@
 -- A group of additions of a SET (X.680, 25.1 and 27): its components come one by one, in any order among the others.
-use Rattle.std.specs.Prelude.{◌≡◌, ◌≢◌, ◌<◌, ◌⊎◌, ◌&&◌, ℕ, zero, suc, Bool, true, false, not, IsTrue, List, [], ◌∷◌, ◌++◌, length, Option, None, Some, IfSome, OnOk, Result, Ok, Err, refl, if◌then◌else◌}
+use Rattle.std.specs.Prelude.{◌≡◌, ◌≢◌, ◌<◌, ◌⊎◌, ◌&&◌, ⊤, IsPermutation, ℕ, zero, suc, Bool, true, false, not, IsTrue, List, [], ◌∷◌, ◌++◌, length, Option, None, Some, IfSome, OnOk, Result, Ok, Err, refl, if◌then◌else◌}
 use Rattle.std.proofs.Common.{◌∙◌, ◌+◌, ◌≤◌, ap, append-nil, arith, inl, inr, subst, sym}
 use Rattle.std.proofs.lemmas.Bool.{and_parts}
 use Rattle.std.specs.Option.{option_eq, option_map}
 use Rattle.asn1_components.proofs.DistinctSets.{groups_distinct}
 use Rattle.asn1_components.proofs.WrittenAlike.{groups_alike}
 use Rattle.asn1_components.proofs.PartsApart.{apart_if_closed, each_is_distinct}
-use Rattle.asn1_components.specs.ComponentLists.{CanBeInSequence, EachCanBeOn, EachIsOfType, EachIsValid, EachIsWellTagged, all_records, group_fits, group_of, trees_of}
+use Rattle.asn1_components.specs.ComponentLists.{CanBeInSequence, EachCanBeOn, EachIsOfType, EachIsValid, EachIsWellTagged, IsReadAsGroup, all_records, group_fits, group_of, trees_of}
 use Rattle.asn1_components.specs.ComponentTypes.{ComponentType, Fits}
 use Rattle.asn1_components.specs.Components.{rows}
 use Rattle.asn1_components.specs.Following.{AllApart, ApartFromEach}
@@ -14,12 +14,12 @@ use Rattle.asn1_fields.specs.declared.presence.FieldPresence.TheVariants.{Option
 use Rattle.asn1_laws.proofs.ReadingSets.{unmarked-marks}
 use Rattle.asn1_laws.proofs.ReadingSteps.{in_other_words}
 use Rattle.asn1_laws.specs.Reading.{Outside, Reader, ReadsBack, records_in}
-use Rattle.asn1_laws.specs.SetParts.{CanBeginWith, EachIsOneRecord, unmarked, written_of}
+use Rattle.asn1_laws.specs.SetParts.{CanBeginWith, EachIsOneRecord, written_of}
 use Rattle.asn1_laws.specs.declared.decode_error.DecodeError.{DecodeError}
 use Rattle.asn1_model.proofs.TagSets.{has_first, has_later}
 use Rattle.asn1_model.specs.Composites.{group_records}
 use Rattle.asn1_model.specs.DistinctSets.{AreDistinct}
-use Rattle.asn1_model.specs.Records.{Record, group_absent, group_end, group_start, in_root, open_type, presence_mark, presence_marks_alone, scalar, scope}
+use Rattle.asn1_model.specs.Records.{Record, group_absent, group_end, group_start, in_root, open_type, presence_mark, presence_marks_alone, scalar, scope, unmarked}
 use Rattle.asn1_model.specs.RecordTables.{Row, Table}
 use Rattle.asn1_model.specs.Tags.{Has, tree_tags}
 use Rattle.asn1_model.specs.WellFormed.{AreWellFormed}
@@ -28,8 +28,14 @@ use Rattle.asn1_tags.specs.Tags.{distinct}
 use Rattle.asn1_tags.specs.Trees.{Tree, choice, is_any_open, leaves, more, none}
 use Rattle.asn1_tags.specs.declared.tags.Tag.{Tag}
 use Rattle.asn1_slots.specs.SlotsInStep.{each_is_one, each_well_tagged, hold_at_end, none_came, part_is_read, parts_apart, place_of, times_in_step, trees_in_parts, written_below, written_in_parts}
-use Rattle.asn1_slots.specs.PartsInSets.{AreOwnParts, ReadInSet, one_more, unmarked-append}
-use Rattle.asn1_slots.specs.Slots.{AreEmpty, AreInStep, HoldBefore, OthersAreKept, ReadsOnceAt, Slot, can_be_in_set, components_of, parts_of_slots, sequence_of_slots}
+use Rattle.asn1_slots.specs.PartsInSets.{AreOwnParts, ReadInSet, one_more}
+use Rattle.asn1_laws.proofs.ReadingWhole.{these_were_read, was_read_as}
+use Rattle.asn1_laws.proofs.UnmarkedRecords.{unmarked-append}
+use Rattle.asn1_laws.specs.ReadingExactly.{WasRead}
+use Rattle.asn1_slots.specs.ComingInSets.{CanBePutInTurn}
+use Rattle.asn1_slots.specs.SlotsComing.{added_at, comes_at, kept_have_come, none_have_come, read_in_any_order, slots_of_own}
+use Rattle.std.proofs.lemmas.List.Sorted.{IsPermutation-refl}
+use Rattle.asn1_slots.specs.Slots.{AllAreKept, AreEmpty, AreInStep, AreOf, ComesAt, HaveCome, HoldBefore, OthersAreKept, ReadsOnceAt, Slot, can_be_in_set, components_of, parts_of_slots, sequence_of_slots}
 
 -- A tag of one of the components is one of a CHOICE of their trees.
 begins_choice : {V : Type 0} (cs : List (ComponentType V)) (k : ℕ) (t : Tag) → CanBeginWith cs k t → Has (tree_tags (choice (trees_of cs))) t
@@ -42,6 +48,15 @@ begins_choice (c ∷ d ∷ ds) (suc k) t begins = has_later c.tree d.tree (trees
 abbrev pub where_some : {W : Type 0} → ComponentType W → Option W → List Record
 where_some c None = []
 where_some c (Some w) = c.records w
+
+-- what is read as it
+abbrev pub IsReadWhereSome : {W : Type 0} → ComponentType W → Option W → List Record → Type 0
+IsReadWhereSome c None rs = rs ≡ []
+IsReadWhereSome c (Some w) rs = c.IsReadAs w rs
+
+pub where_some_read_own : {W : Type 0} (c : ComponentType W) (o : Option W) → IsReadWhereSome c o (where_some c o)
+where_some_read_own c None = refl
+where_some_read_own c (Some w) = c.reads_own w
 
 pub fits_where_some : {W : Type 0} (c : ComponentType W) → c.IsWellTagged → (o : Option W) → Fits Optional c.tree (where_some c o)
 fits_where_some c can None = inr (refl, refl)
@@ -64,6 +79,8 @@ in_group get c = record {
   tree = c.tree;
   parts = more c.tree none;
   records = λ v. where_some c (get v);
+  IsReadAs = λ v. IsReadWhereSome c (get v);
+  reads_own = λ v. where_some_read_own c (get v);
   IsWellTagged = c.IsWellTagged;
   IsOfType = λ v. IfSome (get v) c.IsOfType;
   IsValid = λ accepts v. IfSome (get v) (c.IsValid accepts);
@@ -197,6 +214,36 @@ module _ {S W : Type 0} where
   GroupInStep hs times (Some s) None = ⊥
   GroupInStep hs times (Some s) (Some w) = AreInStep hs times s w
 
+  -- Nothing was read of a group, or the component at an index.
+  abbrev pub IsPartRead : {D A : Type 0} → Reader D → List (Slot S W) → Tag → D → D → S → S → Result A DecodeError → Type 0
+  IsPartRead R hs t old new starts ends result =
+      ((new ≡ old) × AllAreKept hs starts ends) ⊎
+      ((index : ℕ) × (index < length hs) × ReadsOnceAt R hs index t old new starts ends result × OthersAreKept hs index starts ends)
+
+  -- A value has what the slot of a group has.
+  abbrev pub IsOfGroup : List (Slot S W) → Option S → Option W → Type 0
+  IsOfGroup hs None None = ⊤
+  IsOfGroup hs None (Some w) = ⊥
+  IsOfGroup hs (Some s) None = ⊥
+  IsOfGroup hs (Some s) (Some w) = AreOf hs s w
+
+  -- what has come for a group, and what a call adds to it
+  abbrev pub HasComeGroup : List (Slot S W) → Option S → List Record → Type 0
+  HasComeGroup hs None rs = unmarked rs ≡ []
+  HasComeGroup hs (Some s) rs = HaveCome hs s rs
+
+  -- these records are those of a component, or there are none
+  abbrev pub IsPartAdded : List (Slot S W) → S → S → List Record → Type 0
+  IsPartAdded hs starts ends added =
+      ((added ≡ []) × AllAreKept hs starts ends) ⊎ ((index : ℕ) × ComesAt hs index starts ends added × OthersAreKept hs index starts ends)
+
+  pub record ComesInGroup (hs : List (Slot S W)) (before after : Option S) (added : List Record) : Type 0 where
+    pub starts : S
+    pub ends : S
+    pub first : (before ≡ Some starts) ⊎ ((before ≡ None) × AreEmpty hs starts)
+    pub filled : after ≡ Some ends
+    pub is_added : IsPartAdded hs starts ends added
+
   -- A call that reads the component of a group that can begin with the tag, into the slots of the
   -- group, which are empty if none came before.
   pub record FillsPart {D A : Type 0} (R : Reader D) (hs : List (Slot S W)) (t : Tag) (old new : D) (before after : Option S) (result : Result A DecodeError) : Type 0 where
@@ -206,12 +253,61 @@ module _ {S W : Type 0} where
     pub reads : (index : ℕ) → AllApart (components_of hs) → CanBeginWith (components_of hs) index t → ReadsOnceAt R hs index t old new starts ends result
     pub kept : (index : ℕ) → AllApart (components_of hs) → CanBeginWith (components_of hs) index t → OthersAreKept hs index starts ends
     pub filled : OnOk result (after ≡ Some ends)
+    pub exactly : OnOk result (IsPartRead R hs t old new starts ends result)
 
 -- what was read, with where it is kept
 with_kept : {D A : Type 0} (R : Reader D) (old new : D) (rs rest : List Record) (outer : Outside) (P Is As : Type 0) (result : Result A DecodeError) →
     OnOk result P → (P → Is → As) → ReadsBack R old new rs rest outer (λ _. Is) result → ReadsBack R old new rs rest outer (λ _. As) result
 with_kept R old new rs rest outer P Is As (Ok x) kept turn moves = in_other_words R old new _ _ _ (Ok x) (λ _ is. turn kept is) moves
 with_kept R old new rs rest outer P Is As (Err e) kept turn moves = moves
+
+-- The records that come for the components of a group add up, and are read as the group.
+module _ {Sl W : Type 0} (hs : List (Slot Sl W)) (can : can_be_in_set hs ≡ true) where
+  part_was_read : {D A : Type 0} (R : Reader D) (t : Tag) (old new : D) (starts ends : Sl) (x : A) → IsPartRead R hs t old new starts ends (Ok x) → WasRead R old new (IsPartAdded hs starts ends)
+  part_was_read R t old new starts ends x (inl (same, kept)) =
+      these_were_read R old new [] (IsPartAdded hs starts ends) (inl (refl, kept)) (λ rest outer at. subst (λ d. R.remains d (rest, outer)) same at)
+  part_was_read R t old new starts ends x (inr (index, low, reads, kept)) =
+      was_read_as R old new (ComesAt hs index starts ends) (IsPartAdded hs starts ends) (λ rs comes. inr (index, comes, kept)) (comes_at R t old new x hs index starts ends low can reads)
+
+  pub group_comes : {D A : Type 0} (R : Reader D) (t : Tag) (old new : D) (before after : Option Sl) (x : A) → FillsPart R hs t old new before after (Ok x) → WasRead R old new (ComesInGroup hs before after)
+  group_comes R t old new before after x fills =
+      was_read_as R old new (IsPartAdded hs fills.starts fills.ends) (ComesInGroup hs before after)
+      (λ rs is. record { starts = fills.starts; ends = fills.ends; first = fills.first; filled = fills.filled; is_added = is })
+      (part_was_read R t old new fills.starts fills.ends x fills.exactly)
+
+  began : (before : Option Sl) (starts : Sl) (rs : List Record) → (before ≡ Some starts) ⊎ ((before ≡ None) × AreEmpty hs starts) → HasComeGroup hs before rs → HaveCome hs starts rs
+  began before starts rs (inl is) has = subst (λ slot. HasComeGroup hs slot rs) is has
+  began before starts rs (inr (is, empty)) has = nothing_but_marks rs (subst (λ slot. HasComeGroup hs slot rs) is has) hs starts (none_have_come hs can starts empty)
+    where
+      nothing_but_marks : (rs : List Record) → unmarked rs ≡ [] → (gs : List (Slot Sl W)) (s : Sl) → HaveCome gs s [] → HaveCome gs s rs
+      nothing_but_marks rs empty_now [] s have = empty_now
+      nothing_but_marks rs empty_now (h ∷ gs) s (own, others, one, are, moved) =
+          (own, others, one, are, subst (λ l. IsPermutation l (unmarked own ++ unmarked others)) (sym empty_now) moved)
+
+  grown : (starts ends : Sl) (rs added : List Record) → HaveCome hs starts rs → IsPartAdded hs starts ends added → HaveCome hs ends (rs ++ added)
+  grown starts ends rs added have (inl (empty_now, kept)) =
+      subst (λ l. HaveCome hs ends l) (sym (append-nil rs) ∙ ap (λ l. rs ++ l) (sym empty_now)) (kept_have_come hs starts ends rs kept have)
+  grown starts ends rs added have (inr (index, comes, kept)) = added_at hs can index starts ends rs added kept comes have
+
+  pub group_came : (before after : Option Sl) (rs added : List Record) → HasComeGroup hs before rs → ComesInGroup hs before after added → HasComeGroup hs after (rs ++ added)
+  group_came before after rs added has comes =
+      subst (λ slot. HasComeGroup hs slot (rs ++ added)) (sym comes.filled) (grown comes.starts comes.ends rs added (began before comes.starts rs comes.first has) comes.is_added)
+
+  pub group_in_turn : (slot : Option Sl) (o : Option W) (rs : List Record) → IsOfGroup hs slot o → HasComeGroup hs slot rs →
+      CanBePutInTurn (IsReadAsGroup (rows (sequence_of_slots hs)) (components_of hs) o) rs
+  group_in_turn None None rs is empty_now = record {
+    in_turn = presence_mark (group_absent (rows (sequence_of_slots hs))) ∷ [];
+    are = refl;
+    moved = subst (λ l. IsPermutation l []) (sym empty_now) (IsPermutation-refl []);
+  }
+  group_in_turn None (Some w) rs is has = absurd is
+  group_in_turn (Some s) None rs is has = absurd is
+  group_in_turn (Some s) (Some w) rs is has =
+      let (turn, reads, moved) = read_in_any_order (components_of hs) hs (slots_of_own hs) can s w rs is has in record {
+        in_turn = presence_mark (group_start (rows (sequence_of_slots hs))) ∷ turn ++ presence_mark group_end ∷ [];
+        are = inr (turn, reads, refl);
+        moved = subst (λ l. IsPermutation (unmarked rs) l) (sym (unmarked-append turn (presence_mark group_end ∷ []) ∙ append-nil (unmarked turn))) moved;
+      }
 
 module _ {Sl V W : Type 0} (name : List ℕ) (get : V → Option W) (hs : List (Slot Sl W)) where
   abbrev pub group_component : ComponentType V
@@ -351,6 +447,19 @@ module _ {Sl V W : Type 0} (name : List ℕ) (get : V → Option W) (hs : List (
     Reads = λ R old new s result. ⊥;
     reads = λ R old new s result wrong. absurd wrong;
     fills = λ R old new s x wrong. absurd wrong;
+    IsReadAs = λ s rs. ⊥;
+    reads_exactly = λ R old new s x wrong. absurd wrong;
+    IsOf = λ s v. IsOfGroup hs s (get v);
+    read_as_component = λ s v rs is wrong. absurd wrong;
+    HasCome = HasComeGroup hs;
+    Comes = ComesInGroup hs;
+    comes_in_set = λ is.
+        let can = (and_parts (can_be_in_set hs) (not (is_any_open (trees_of (components_of hs)))) is).0 in record {
+          nothing = refl;
+          comes = λ D A R t old new before after x fills. group_comes hs can R t old new before after x fills;
+          came = group_came hs can;
+          in_turn = λ s v rs of has. group_in_turn hs can s (get v) rs of has;
+        };
     parts = group_parts;
     ReadsOnce = λ R t old new before after result. FillsPart R hs t old new before after result;
     InStep = λ times s v. GroupInStep hs times s (get v);

@@ -3,10 +3,9 @@ use Rattle.std.specs.Prelude.{◌≡◌, ◌≢◌, ◌≤◌, ℕ, Bool, true, 
 use Rattle.std.proofs.Common.{◌∙◌, ap, arith, cond, subst, sym}
 use Rattle.std.specs.Option.{option_eq, option_map}
 use Rattle.asn1_laws.specs.Reading.{Outside, Reader, ReadsBack, records_in}
-use Rattle.asn1_laws.specs.SetParts.{unmarked}
 use Rattle.asn1_laws.specs.declared.decode_error.DecodeError.{DecodeError}
 use Rattle.asn1_model.specs.Composites.{default_records, option_records}
-use Rattle.asn1_model.specs.Records.{Record, Side}
+use Rattle.asn1_model.specs.Records.{Record, Side, unmarked}
 use Rattle.asn1_model.specs.TaggedTypes.{TaggedType}
 use Rattle.asn1_model.specs.Tags.{IsOneRecord, Tags}
 use Rattle.asn1_slots.specs.Filling.{FillsOnce}

@@ -1,4 +1,5 @@
 pub mod Cases
+pub mod ComingInSets
 pub mod Filling
 pub mod InSets
 pub mod ReadSlots
@@ -8,3 +9,4 @@ pub mod Taggings
 pub mod GroupsInSets
 pub mod PartsInSets
 pub mod SlotsInStep
+pub mod SlotsComing

@@ -5,10 +5,11 @@ use Rattle.asn1_components.specs.ComponentLists.{EachIsWellTagged, all_records, 
 use Rattle.asn1_components.specs.ComponentTypes.{ComponentType}
 use Rattle.asn1_components.specs.Following.{AllApart}
 use Rattle.asn1_laws.proofs.ReadingSteps.{in_other_words}
+use Rattle.asn1_laws.proofs.UnmarkedRecords.{unmarked-append, unmarked-last}
 use Rattle.asn1_laws.specs.Reading.{Outside, Reader, ReadsBack, records_in}
-use Rattle.asn1_laws.specs.SetParts.{CanBeginWith, EachIsOneRecord, unmarked, written_of}
+use Rattle.asn1_laws.specs.SetParts.{CanBeginWith, EachIsOneRecord, written_of}
 use Rattle.asn1_laws.specs.declared.decode_error.DecodeError.{DecodeError}
-use Rattle.asn1_model.specs.Records.{Record, open_type, presence_mark, scalar, scope}
+use Rattle.asn1_model.specs.Records.{Record, open_type, presence_mark, scalar, scope, unmarked}
 use Rattle.asn1_model.specs.Tags.{Has, tree_tags}
 use Rattle.asn1_tags.specs.Tags.{distinct}
 use Rattle.asn1_tags.specs.Trees.{leaves, more, none}
@@ -50,21 +51,6 @@ module _ {V Content : Type 0} where
     -- where all have come that are there, it has what the value has
     pub holds_at_end : (accepts : List ℕ → Bool) (times : ℕ → ℕ) (slot : Option Content) (v : V) → c.IsWellTagged → c.IsValid accepts v →
         InStep times slot v → ((j : ℕ) → written_of parts v j ≢ [] → times j ≢ 0) → holds slot v ≡ true
-
--- the marks among records that follow one another
-pub unmarked-append : (rs ss : List Record) → unmarked (rs ++ ss) ≡ unmarked rs ++ unmarked ss
-unmarked-append [] ss = refl
-unmarked-append (scalar t c n x ∷ rs) ss = ap (λ l. scalar t c n x ∷ l) (unmarked-append rs ss)
-unmarked-append (scope h inner ∷ rs) ss = ap (λ l. scope h inner ∷ l) (unmarked-append rs ss)
-unmarked-append (open_type n bytes ∷ rs) ss = ap (λ l. open_type n bytes ∷ l) (unmarked-append rs ss)
-unmarked-append (presence_mark m ∷ rs) ss = unmarked-append rs ss
-
-pub unmarked-last : (rs : List Record) → unmarked rs ≡ unmarked (rs ++ [])
-unmarked-last [] = refl
-unmarked-last (scalar t c n x ∷ rs) = ap (λ l. scalar t c n x ∷ l) (unmarked-last rs)
-unmarked-last (scope h inner ∷ rs) = ap (λ l. scope h inner ∷ l) (unmarked-last rs)
-unmarked-last (open_type n bytes ∷ rs) = ap (λ l. open_type n bytes ∷ l) (unmarked-last rs)
-unmarked-last (presence_mark m ∷ rs) = unmarked-last rs
 
 -- the slot of one that is its own part: empty until it has come, and then it has what the value has
 abbrev pub alone_in_step : {V Content : Type 0} → (Option Content → V → Bool) → (ℕ → ℕ) → Option Content → V → Type 0

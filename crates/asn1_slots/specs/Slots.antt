@@ -1,11 +1,11 @@
 -- The components of a SEQUENCE or a group, each read into a slot of its own.
-use Rattle.std.specs.Prelude.{◌≡◌, ◌&&◌, ◌+◌, ◌++◌, ℕ, zero, suc, ⊤, Bool, true, false, List, [], ◌∷◌, drop, length, take, Option, None, Some, IfSome, Result, Ok, MatchResult, Vec, is_some, if◌then◌else◌, refl}
+use Rattle.std.specs.Prelude.{◌≡◌, ◌&&◌, ◌+◌, ◌++◌, ℕ, zero, suc, ⊤, Bool, true, false, List, [], ◌∷◌, drop, length, take, Option, None, Some, IfSome, IsPermutation, IsSomeAnd, Result, Ok, MatchResult, Vec, is_some, if◌then◌else◌, refl}
 use Rattle.std.specs.Cmp.Lexicographic.{pointwise}
 use Rattle.std.specs.Option.{option_eq}
 use Rattle.std.specs.Result.{IsErrAnd}
 use Rattle.asn1_components.proofs.DistinctSets.{default_distinct, groups_distinct, optional_distinct, required_distinct}
 use Rattle.asn1_components.proofs.WrittenAlike.{default_alike, groups_alike, optional_alike, required_alike}
-use Rattle.asn1_components.specs.ComponentLists.{EachIsWellTagged}
+use Rattle.asn1_components.specs.ComponentLists.{EachIsWellTagged, IsReadAsGroup}
 use Rattle.asn1_components.specs.Components.{Components, all_components, component_records, extensible_sequence, extensible_set, group, rows, sequence, set}
 use Rattle.asn1_components.specs.ComponentTypes.{ComponentType, default_in, optional_in, required}
 use Rattle.asn1_components.specs.Following.{BeginsApart, When}
@@ -13,16 +13,20 @@ use Rattle.asn1_components.specs.DistinctSets.{IsDistinct}
 use Rattle.asn1_components.specs.WrittenAlike.{IsAlike}
 use Rattle.asn1_laws.specs.DecodeErrors.{missing_field, reason}
 use Rattle.asn1_laws.specs.Reading.{Outside, Reader, ReadsBack}
+use Rattle.asn1_laws.specs.ReadingExactly.{WasRead}
 use Rattle.asn1_laws.specs.ReadingTypes.{ReadsSetLeft}
 use Rattle.asn1_laws.proofs.ReadingSteps.{in_other_words}
 use Rattle.asn1_laws.specs.declared.decode_error.DecodeError.{DecodeError}
 use Rattle.asn1_laws.specs.declared.decode_error.DecodeError.TheVariants.{Memory}
 use Rattle.asn1_fields.specs.FieldViews.{may_be_absent}
 use Rattle.asn1_model.specs.Composites.{default_records}
-use Rattle.asn1_model.specs.Records.{Record, Side, in_additions, in_root}
+use Rattle.asn1_model.specs.Readings.{IsReadAsDefault, IsReadAsOption}
+use Rattle.asn1_model.specs.Records.{Record, Side, in_additions, in_root, unmarked}
+use Rattle.std.proofs.Common.{inl, inr, subst}
 use Rattle.asn1_model.specs.TaggedTypes.{TaggedType}
 use Rattle.asn1_model.specs.DistinctSets.{AreDistinct, SetsAreDistinctInside}
 use Rattle.asn1_model.specs.WrittenAlike.{AreAlikeInside, HaveSameRecords}
+use Rattle.asn1_slots.specs.ComingInSets.{CanBePutInTurn, ComesAs, ComesInSet, HasComeAs, comes_once, default_in_turn, once_is_read, optional_in_turn, required_in_turn, written_default_in_turn}
 use Rattle.asn1_slots.specs.Filling.{Fills, FillsGroup, FillsOnce, FillsOptional}
 use Rattle.asn1_slots.specs.InSets.{one_default, one_optional, one_required, slot_of_absent, slot_of_present, unless_default, written_default, written_optional, written_required}
 use Rattle.asn1_slots.specs.PartsInSets.{ReadInSet, alone, alone_in_step}
@@ -59,6 +63,14 @@ pub record Slot (S V : Type 0) : Type 1 where
   -- after a success the slot is filled, whatever was read
   pub fills : {D A : Type 0} (R : Reader D) (old new : D) (slot : Option Content) (x : A) →
       Reads R old new slot (Ok x) → is_filled slot ≡ true
+  -- what is read as what the slot has: after a success nothing else was read
+  pub IsReadAs : Option Content → List Record → Type 0
+  pub reads_exactly : {D A : Type 0} (R : Reader D) (old new : D) (slot : Option Content) (x : A) →
+      Reads R old new slot (Ok x) → WasRead R old new (IsReadAs slot)
+  -- the value has what the slot has, itself and not what is equal; so what is read as the slot is read as the component
+  pub IsOf : Option Content → V → Type 0
+  pub read_as_component : (slot : Option Content) (v : V) (rs : List Record) → IsOf slot v → IsReadAs slot rs →
+      component.IsReadAs v rs
   -- in a SET: the parts that come one by one, and what a call promises that reads the one of a tag,
   -- by the slot before and after
   pub parts : List (ComponentType V)
@@ -69,6 +81,11 @@ pub record Slot (S V : Type 0) : Type 1 where
   -- which is enough
   pub in_set : is_in_set ≡ true → ReadInSet component parts holds
       (λ D A R t old new before after result. ReadsOnce R t old new before after result) InStep
+  -- what has come for the slot in a SET, and what a call adds to it, marks apart; which is enough
+  pub HasCome : Option Content → List Record → Type 0
+  pub Comes : Option Content → Option Content → List Record → Type 0
+  pub comes_in_set : is_in_set ≡ true → ComesInSet component IsOf None HasCome Comes
+      (λ D A R t old new before after result. ReadsOnce R t old new before after result)
   -- whether two values have equal components
   pub equal : V → V → Bool
   -- what is asked of the component's type so that these are written alike, which is enough
@@ -83,6 +100,33 @@ pub record Slot (S V : Type 0) : Type 1 where
 abbrev pub holds_or_passes : {W : Type 0} → (W → W → Bool) → (W → Bool) → Option W → W → Bool
 holds_or_passes eq test None w = test w
 holds_or_passes eq test (Some x) w = eq x w
+
+-- The value is what the slot of a component with a default has, or passes the test where the slot is empty.
+abbrev pub IsOfDefault : {W : Type 0} → (W → Bool) → Option W → W → Type 0
+IsOfDefault test None w = test w ≡ true
+IsOfDefault test (Some x) w = x ≡ w
+
+-- what is read as a slot that has to be full
+abbrev pub IsReadAsFull : {W : Type 0} → TaggedType W → Option W → List Record → Type 0
+IsReadAsFull type slot rs = IsSomeAnd slot (λ w. type.IsReadAs w rs)
+
+pub full_was_read : {D W : Type 0} (R : Reader D) (old new : D) (type : TaggedType W) (slot : Option W) →
+    IsSomeAnd slot (λ w. WasRead R old new (type.IsReadAs w)) → WasRead R old new (IsReadAsFull type slot)
+full_was_read R old new type None was = absurd was
+full_was_read R old new type (Some w) was = was
+
+pub full_is_component : {W : Type 0} (type : TaggedType W) (slot : Option W) (w : W) (rs : List Record) → slot ≡ Some w → IsReadAsFull type slot rs → type.IsReadAs w rs
+full_is_component type slot w rs is read = subst (λ s. IsReadAsFull type s rs) is read
+
+pub default_is_component : {W : Type 0} (side : Side) (type : TaggedType W) (test : W → Bool) (slot : Option W) (w : W) (rs : List Record) → IsOfDefault test slot w →
+    IsReadAsOption type.IsReadAs side type.tag slot rs → IsReadAsDefault type.IsReadAs side type.tag (test w) w rs
+default_is_component side type test None w rs passes read = inl (passes, read)
+default_is_component side type test (Some x) w rs is read = inr (subst (λ y. IsReadAsOption type.IsReadAs side type.tag (Some y) rs) is read)
+
+pub default_slot_in_turn : {W : Type 0} (side : Side) (type : TaggedType W) (test : W → Bool) (slot : Option W) (w : W) (rs : List Record) → IsOfDefault test slot w →
+    HasComeAs type slot rs → CanBePutInTurn (IsReadAsDefault type.IsReadAs side type.tag (test w) w) rs
+default_slot_in_turn side type test None w rs passes none = default_in_turn type side (test w) w rs passes none
+default_slot_in_turn side type test (Some x) w rs is has = written_default_in_turn type side (test w) w rs (subst (λ y. type.IsReadAs y rs) is has)
 
 -- the test of one value
 abbrev pub holds_or_default : {W : Type 0} → (W → W → Bool) → W → Option W → W → Bool
@@ -156,6 +200,10 @@ module _ {S V W : Type 0} (name : List ℕ) where
     reads = λ R old new s result fills v rest outer can of_type valid apart.
         fills.reads (get v) rest outer can of_type valid;
     fills = λ R old new s x fills. fills.is_full;
+    IsReadAs = IsReadAsFull type;
+    reads_exactly = λ R old new s x fills. full_was_read R old new type s fills.exactly;
+    IsOf = λ s v. s ≡ Some (get v);
+    read_as_component = λ s v rs is read. full_is_component type s (get v) rs is read;
     parts = required name get type ∷ [];
     ReadsOnce = λ R t old new before after result.
         FillsOnce R name type eq old new before after result;
@@ -166,6 +214,14 @@ module _ {S V W : Type 0} (name : List ℕ) where
         slot_of_present type R name eq old new None after result fills refl (Some (get v))
         _ rest outer can of_type valid (written_required type can (get v)) some)
         (λ v can none. slot_of_absent type can eq None (Some (get v)) _ (written_required type can (get v)) refl none);
+    HasCome = HasComeAs type;
+    Comes = ComesAs type;
+    comes_in_set = λ _. record {
+      nothing = refl;
+      comes = λ D A R t old new before after x fills. once_is_read type R name eq old new before after x fills;
+      came = comes_once type;
+      in_turn = λ s v rs is has. required_in_turn type s (get v) rs is has;
+    };
     equal = λ v w. eq (get v) (get w);
     CanBeAlike = AreAlikeInside type eq;
     alike = λ each. required_alike name get type each;
@@ -187,6 +243,10 @@ module _ {S V W : Type 0} (name : List ℕ) where
     reads = λ R old new s result fills v rest outer can of_type valid apart.
         fills.reads (get v) rest outer can of_type valid apart;
     fills = λ R old new s x fills. refl;
+    IsReadAs = IsReadAsOption type.IsReadAs side type.tag;
+    reads_exactly = λ R old new s x fills. fills.exactly;
+    IsOf = λ s v. s ≡ get v;
+    read_as_component = λ s v rs is read. subst (λ o. IsReadAsOption type.IsReadAs side type.tag o rs) is read;
     parts = optional_in side name get type ∷ [];
     ReadsOnce = λ R t old new before after result.
         FillsOnce R name type eq old new before after result;
@@ -197,6 +257,14 @@ module _ {S V W : Type 0} (name : List ℕ) where
         slot_of_present type R name eq old new None after result fills refl (get v)
         _ rest outer can of_type valid (written_optional type can side (get v)) some)
         (λ v can none. slot_of_absent type can eq None (get v) _ (written_optional type can side (get v)) refl none);
+    HasCome = HasComeAs type;
+    Comes = ComesAs type;
+    comes_in_set = λ _. record {
+      nothing = refl;
+      comes = λ D A R t old new before after x fills. once_is_read type R name eq old new before after x fills;
+      came = comes_once type;
+      in_turn = λ s v rs is has. optional_in_turn type side s (get v) rs is has;
+    };
     equal = λ v w. option_eq eq (get v) (get w);
     CanBeAlike = AreAlikeInside type eq;
     alike = λ each. optional_alike side name get type each;
@@ -226,6 +294,10 @@ module _ {S V W : Type 0} (name : List ℕ) where
         reads_default R side type eq test old new s result fills (get v) rest outer (test (get v))
         refl can of_type valid apart;
     fills = λ R old new s x fills. refl;
+    IsReadAs = IsReadAsOption type.IsReadAs side type.tag;
+    reads_exactly = λ R old new s x fills. fills.exactly;
+    IsOf = λ s v. IsOfDefault test s (get v);
+    read_as_component = λ s v rs is read. default_is_component side type test s (get v) rs is read;
     parts = default_in side name get (λ v. test (get v)) type ∷ [];
     ReadsOnce = λ R t old new before after result.
         FillsOnce R name type eq old new before after result;
@@ -241,6 +313,14 @@ module _ {S V W : Type 0} (name : List ℕ) where
         (λ v can none. default_is_read eq test (get v) None
         (slot_of_absent type can eq None (unless_default (test (get v)) (get v)) _
         (written_default type can side (test (get v)) (get v)) refl none));
+    HasCome = HasComeAs type;
+    Comes = ComesAs type;
+    comes_in_set = λ _. record {
+      nothing = refl;
+      comes = λ D A R t old new before after x fills. once_is_read type R name eq old new before after x fills;
+      came = comes_once type;
+      in_turn = λ s v rs is has. default_slot_in_turn side type test s (get v) rs is has;
+    };
     equal = λ v w. eq (get v) (get w);
     CanBeAlike = PassTogether eq test × AreAlikeInside type eq;
     alike = λ each. default_alike side name get test type each.0 each.1;
@@ -270,10 +350,17 @@ module _ {S V W : Type 0} (name : List ℕ) where
     reads = λ R old new s result fills v rest outer can of_type valid apart.
         fills.reads (get v) rest outer can.0 of_type valid apart;
     fills = λ R old new s x fills. refl;
+    IsReadAs = IsReadAsGroup (rows components) (all_components components);
+    reads_exactly = λ R old new s x fills. fills.exactly;
+    IsOf = λ s v. s ≡ get v;
+    read_as_component = λ s v rs is read. subst (λ o. IsReadAsGroup (rows components) (all_components components) o rs) is read;
     parts = [];
     ReadsOnce = λ R t old new before after result. ⊤;
     InStep = λ times slot v. ⊤;
     in_set = λ wrong. no_group wrong;
+    HasCome = λ s rs. ⊤;
+    Comes = λ before after own. ⊤;
+    comes_in_set = λ wrong. no_group wrong;
     equal = λ v w. option_eq eq (get v) (get w);
     CanBeAlike = EachIsWellTagged (all_components components) → HaveSameRecords eq (component_records components);
     alike = λ each can v w same. groups_alike (rows components) (component_records components) (each can.0.0) (get v) (get w) same;
@@ -410,6 +497,31 @@ module _ {S V : Type 0} where
   ReadsAt R (h ∷ hs) zero old new s result = h.Reads R old new (h.content s) result
   ReadsAt R (h ∷ hs) (suc index) old new s result = ReadsAt R hs index old new s result
 
+  -- what is read as the slots before this index, one after another
+  abbrev pub AreReadBefore : List (Slot S V) → ℕ → S → List Record → Type 0
+  AreReadBefore [] index s rs = rs ≡ []
+  AreReadBefore (h ∷ hs) zero s rs = rs ≡ []
+  AreReadBefore (h ∷ hs) (suc index) s rs =
+      (first : List Record) × (later : List Record) × h.IsReadAs (h.content s) first × AreReadBefore hs index s later × (rs ≡ first ++ later)
+
+  -- what has come for all slots in a SET, in any order, marks apart
+  abbrev pub HaveCome : List (Slot S V) → S → List Record → Type 0
+  HaveCome [] s rs = unmarked rs ≡ []
+  HaveCome (h ∷ hs) s rs =
+      (own : List Record) × (others : List Record) × h.HasCome (h.content s) own × HaveCome hs s others ×
+      IsPermutation (unmarked rs) (unmarked own ++ unmarked others)
+
+  -- these records are added to what has come for the slot at this index
+  abbrev pub ComesAt : List (Slot S V) → ℕ → S → S → List Record → Type 0
+  ComesAt [] index before after own = ⊥
+  ComesAt (h ∷ hs) zero before after own = h.Comes (h.content before) (h.content after) own
+  ComesAt (h ∷ hs) (suc index) before after own = ComesAt hs index before after own
+
+  -- the value has what each slot has
+  abbrev pub AreOf : List (Slot S V) → S → V → Type 0
+  AreOf [] s v = ⊤
+  AreOf (h ∷ hs) s v = h.IsOf (h.content s) v × AreOf hs s v
+
   -- the name of the first component that is always there and whose slot is empty
   abbrev pub first_missing : List (Slot S V) → S → Option (List ℕ)
   first_missing [] s = None
@@ -440,7 +552,7 @@ SameComponent {V = V} c d = ((v : V) →
     × ((accepts : List ℕ → Bool) → c.IsValid accepts v → d.IsValid accepts v)
     × ((rest : List Record) → When (may_be_absent c.presence) (BeginsApart c.tree rest) →
     When (may_be_absent d.presence) (BeginsApart d.tree rest))
-    × (c.records v ≡ d.records v)) × (c.tree ≡ d.tree) × (c.parts ≡ d.parts)
+    × (c.records v ≡ d.records v) × ((rs : List Record) → d.IsReadAs v rs → c.IsReadAs v rs)) × (c.tree ≡ d.tree) × (c.parts ≡ d.parts)
 
 -- The slots are those of these components.
 abbrev pub AreSlotsOf : {S V : Type 0} → List (ComponentType V) → List (Slot S V) → Type 0

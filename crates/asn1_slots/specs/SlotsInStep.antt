@@ -8,13 +8,14 @@ use Rattle.asn1_components.specs.ComponentTypes.{ComponentType}
 use Rattle.asn1_components.specs.Following.{AllApart, ApartFromEach}
 use Rattle.asn1_laws.proofs.ReadingSteps.{in_other_words}
 use Rattle.asn1_laws.specs.Reading.{Outside, Reader, ReadsBack}
-use Rattle.asn1_laws.specs.SetParts.{CanBeginWith, EachIsOneRecord, unmarked, written_of}
+use Rattle.asn1_laws.specs.SetParts.{CanBeginWith, EachIsOneRecord, written_of}
 use Rattle.asn1_laws.specs.declared.decode_error.DecodeError.{DecodeError}
-use Rattle.asn1_model.specs.Records.{Record}
+use Rattle.asn1_model.specs.Records.{Record, unmarked}
 use Rattle.asn1_model.specs.Tags.{Has, tree_tags}
 use Rattle.asn1_tags.specs.Trees.{Tree, more, none}
 use Rattle.asn1_tags.specs.declared.tags.Tag.{Tag}
-use Rattle.asn1_slots.specs.PartsInSets.{AreOwnParts, one_more, unmarked-append}
+use Rattle.asn1_slots.specs.PartsInSets.{AreOwnParts, one_more}
+use Rattle.asn1_laws.proofs.UnmarkedRecords.{unmarked-append}
 use Rattle.asn1_slots.specs.Slots.{AllAreKept, AreEmpty, AreInStep, HoldBefore, OthersAreKept, ReadsOnceAt, Slot, can_be_in_set, components_of, parts_of_slots}
 
 is_other : (i k : ℕ) → i ≢ k → (i == k) ≡ false

@@ -1,12 +1,13 @@
 //! SEQUENCE types and groups that are read by index.
 ghost use Rattle.asn1_laws.specs.DecodeErrors.{lacks_name, reason};
 ghost use Rattle.asn1_laws.specs.Reading.{AfterReading, KeepsDepth, NeedsDepth, ReadsValue};
+ghost use Rattle.asn1_laws.specs.ReadingExactly.{HasReadComponents, HasReadFields, HasReadValue, WasRead};
 ghost use Rattle.asn1_laws.specs.ReadingTypes.{ReadsComponents, ReadsFields};
 ghost use Rattle.asn1_laws.specs.declared.decode_error.DecodeError.TheVariants.{Memory};
 ghost use Rattle.asn1_components.specs.Components.{is_sequence, table};
 ghost use Rattle.asn1_model.specs.ConstraintSets.{constraint_set};
 ghost use Rattle.asn1_slots.specs.ReadSlots.{ReadsSlots};
-ghost use Rattle.asn1_slots.specs.Slots.{AreFilled, AreKeptBefore, HoldBefore, IsLayoutOf, MakesValueOfSlots, ReadsAt, Slot};
+ghost use Rattle.asn1_slots.specs.Slots.{AreFilled, AreKeptBefore, AreOf, AreReadBefore, HoldBefore, IsLayoutOf, MakesValueOfSlots, ReadsAt, Slot};
 ghost use Rattle.std.specs.Prelude.{◌≡◌, ◌<◌, IfErr, IfOk, List, OnOk, false, length, true};
 
 use crate::calls::Decoded;
@@ -27,12 +28,13 @@ pub trait DecodeByIndex: Eq + Sized + Drop {
     // The components, each with its slot, in the order of the definition.
     ghost layout: { List (Slot Self.Slots Self) };
 
-    /// The value of these slots, of which those of required components are full. It is equal to each value that they hold. The error
-    /// means that memory ran out for a default.
+    /// The value of these slots, of which those of required components are full. It is equal to each value that they hold, and has what
+    /// they hold. The error means that memory ran out for a default.
     fn full(alloc: Global, slots: Self::Slots) -> Result<Self, AllocError>
         requires are_filled { AreFilled layout slots }
         ensures made { (v : Self) → HoldBefore layout (length layout) slots v →
-            IfOk result (λ w. Self.eq w v ≡ true) };
+            IfOk result (λ w. Self.eq w v ≡ true) }
+        ensures only { IfOk result (AreOf layout slots) };
 
     /// Reads the component at an index into its slot, and leaves the slots before it. A success fills the slot of a required
     /// component. At the indices after the last component it does nothing.
@@ -59,6 +61,8 @@ fn read_slots<C: DecodeByIndex + FieldTable, D: Decoder>(
 ) -> Result<C::Slots, NotRead>
     requires laid_out { IsLayoutOf C.components C.layout }
     ensures read { ReadsSlots D.reader C.components C.layout decoder.old decoder.new result }
+    ensures only { IfOk result (λ slots. WasRead D.reader decoder.old decoder.new
+        (AreReadBefore C.layout (length C.layout) slots)) }
     ensures filled { IfOk result (λ slots. AreFilled C.layout slots) }
     ensures same_depth { OnOk result (D.reader.depth_left decoder.new ≡
         D.reader.depth_left decoder.old) }
@@ -79,6 +83,7 @@ fn read_slots<C: DecodeByIndex + FieldTable, D: Decoder>(
 fn value_of_slots<C: DecodeByIndex>(alloc: Global, slots: C::Slots) -> Result<C, DecodeError>
     requires are_filled { AreFilled C.layout slots }
     ensures made { MakesValueOfSlots C.layout C.eq slots result }
+    ensures only { IfOk result (AreOf C.layout slots) }
     ensures memory { IfErr result (λ error. error ≡ Memory) }
 {
     match C::full(alloc, slots) {
@@ -96,6 +101,7 @@ pub fn decode_fields_by_index<C: DecodeByIndex + FieldTable, D: Decoder>(
 ) -> Result<C, DecodeError>
     requires laid_out { IsLayoutOf C.components C.layout }
     ensures read { ReadsFields D.reader C.components C.eq decoder.old decoder.new result }
+    ensures only { IfOk result (HasReadFields D.reader decoder.old decoder.new C.components) }
     ensures same_depth { OnOk result (D.reader.depth_left decoder.new ≡
         D.reader.depth_left decoder.old) }
 {
@@ -113,6 +119,7 @@ pub fn decode_fields_naming_errors<C: DecodeByIndex + FieldTable, D: Decoder>(
 ) -> Result<C, DecodeError>
     requires laid_out { IsLayoutOf C.components C.layout }
     ensures read { ReadsFields D.reader C.components C.eq decoder.old decoder.new result }
+    ensures only { IfOk result (HasReadFields D.reader decoder.old decoder.new C.components) }
     ensures same_depth { OnOk result (D.reader.depth_left decoder.new ≡
         D.reader.depth_left decoder.old) }
     ensures named { IfErr result (λ error. lacks_name (reason error) ≡ false) }
@@ -132,6 +139,8 @@ fn read_sequence<S: DecodeByIndex + FieldTable, D: Decoder>(
     requires laid_out { IsLayoutOf S.components S.layout }
     ensures read { ReadsComponents D.reader is_sequence tag S.components S.eq decoder.old
         decoder.new result }
+    ensures only { IfOk result (HasReadComponents D.reader decoder.old decoder.new is_sequence tag
+        S.components) }
     ensures depth_first { NeedsDepth D.reader decoder.old result }
     ensures keeps_depth { KeepsDepth D.reader decoder.old decoder.new result }
 {
@@ -161,6 +170,8 @@ pub fn decode_sequence_naming_errors<S: DecodeByIndex + ConstructedType, D: Deco
         decoder.new result }
     ensures read { ReadsValue D.reader S.meaning S.eq tag (constraint_set constraints.now)
         decoder.old decoder.new result }
+    ensures only { IfOk result (HasReadValue D.reader decoder.old decoder.new S.meaning tag
+        (constraint_set constraints.now)) }
     ensures after_reading { AfterReading D.reader S.meaning tag (constraint_set constraints.now)
         decoder.old decoder.new result }
     ensures depth_first { NeedsDepth D.reader decoder.old result }

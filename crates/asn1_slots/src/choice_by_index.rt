@@ -2,12 +2,13 @@
 ghost use Rattle.asn1_components.specs.Alternatives.{Each, OneOf, all_of, trees_of};
 ghost use Rattle.asn1_components.specs.ChosenTags.{LacksTag};
 ghost use Rattle.asn1_laws.specs.DecodeErrors.{no_memory, no_valid_choice, reason};
+ghost use Rattle.asn1_laws.specs.ReadingExactly.{HasReadAlternative};
 ghost use Rattle.asn1_laws.specs.ReadingTypes.{ReadsAlternative};
 ghost use Rattle.asn1_components.specs.Following.{When};
 ghost use Rattle.asn1_slots.specs.Cases.{Case, IsMade, ReadsCaseAt, alternatives_of, are_of_cases, choice_of_cases};
 ghost use Rattle.asn1_slots.specs.TagIndices.{IsIndexOf};
 ghost use Rattle.asn1_tags.specs.declared.tags.Tag.{Tag};
-ghost use Rattle.std.specs.Prelude.{◌≡◌, ◌≢◌, [], List, OnOk, unwrap_or};
+ghost use Rattle.std.specs.Prelude.{◌≡◌, ◌≢◌, [], IfOk, List, OnOk, unwrap_or};
 ghost use Rattle.std.specs.Result.{IsErrAnd};
 
 use crate::tag_indices::{index_in_table, index_of_tag};
@@ -45,6 +46,8 @@ fn read_at<T: DecodeChoiceByIndex + ChoiceType, D: Decoder>(
     ensures read { (t : Tag) → IsIndexOf t (trees_of (alternatives_of T.cases)) index →
         ReadsAlternative D.reader t (choice_of_cases T.cases) T.case_of T.eq decoder.old decoder.new
         result }
+    ensures only { IfOk result (HasReadAlternative D.reader decoder.old decoder.new
+        (choice_of_cases T.cases) T.case_of) }
     ensures unknown { (t : Tag) → IsIndexOf t (trees_of (all_of T.alternatives)) index →
         Each (LacksTag t) (all_of T.alternatives) →
         IsErrAnd result (λ e. reason e ≡ no_valid_choice (unwrap_or T.meaning.name [])) }
@@ -78,6 +81,8 @@ pub fn from_tag_by_index<T: DecodeChoiceByIndex + ChoiceType, D: Decoder>(
 ) -> Result<T, DecodeError>
     ensures read { When (are_of_cases T.alternatives T.cases) (ReadsAlternative D.reader tag
         (choice_of_cases T.cases) T.case_of T.eq decoder.old decoder.new result) }
+    ensures only { IfOk result (HasReadAlternative D.reader decoder.old decoder.new
+        (choice_of_cases T.cases) T.case_of) }
     ensures unknown { Each (LacksTag tag) (all_of T.alternatives) →
         IsErrAnd result (λ e. reason e ≢ no_memory →
         reason e ≡ no_valid_choice (unwrap_or T.meaning.name [])) }
@@ -99,6 +104,8 @@ pub fn from_tag_by_table<T: DecodeChoiceByIndex + ChoiceType, D: Decoder>(
 ) -> Result<T, DecodeError>
     ensures read { When (are_of_cases T.alternatives T.cases) (ReadsAlternative D.reader tag
         (choice_of_cases T.cases) T.case_of T.eq decoder.old decoder.new result) }
+    ensures only { IfOk result (HasReadAlternative D.reader decoder.old decoder.new
+        (choice_of_cases T.cases) T.case_of) }
     ensures unknown { Each (LacksTag tag) (all_of T.alternatives) →
         IsErrAnd result (λ e. reason e ≢ no_memory →
         reason e ≡ no_valid_choice (unwrap_or T.meaning.name [])) }

@@ -1,5 +1,5 @@
 //! A group of additions of a SET, whose components come one by one.
-ghost use Rattle.asn1_slots.specs.GroupsInSets.{FillsPart, group_is_filled, holds_group};
+ghost use Rattle.asn1_slots.specs.GroupsInSets.{FillsPart, IsOfGroup, group_is_filled, holds_group};
 ghost use Rattle.asn1_slots.specs.Slots.{AreEmpty, IsLayoutOf, name_unless};
 ghost use Rattle.std.specs.Option.{option_eq, option_map};
 ghost use Rattle.std.specs.Prelude.{◌≡◌, IfOk, OnOk, Option, true};
@@ -65,6 +65,7 @@ pub fn group_of_slots<G: DecodeSetByIndex>(
     requires are_filled { group_is_filled G.layout slot ≡ true }
     ensures made { (v : Option G) → holds_group G.layout slot v ≡ true →
         IfOk result (λ w. option_eq G.eq w v ≡ true) }
+    ensures only { IfOk result (IsOfGroup G.layout slot) }
 {
     match slot {
         Some(slots) => Ok(Some(G::full(alloc, slots)?)),

@@ -1,10 +1,11 @@
 //! SET types that are read by index.
 ghost use Rattle.asn1_laws.specs.Reading.{AfterReading, KeepsDepth, NeedsDepth, ReadsValue};
+ghost use Rattle.asn1_laws.specs.ReadingExactly.{HasReadComponents, HasReadValue, WasRead};
 ghost use Rattle.asn1_laws.specs.ReadingTypes.{ReadsComponents};
 ghost use Rattle.asn1_laws.specs.declared.decode_error.DecodeError.TheVariants.{Depth, Memory};
 ghost use Rattle.asn1_components.specs.Components.{is_set};
 ghost use Rattle.asn1_model.specs.ConstraintSets.{constraint_set};
-ghost use Rattle.asn1_slots.specs.Slots.{AreEmpty, AreFilled, HoldBefore, IsLayoutOf, MakesValueOfSlots, OthersAreKept, ReadsOnceAt, ReadsSlotsLeft, RefusesMissing, Slot, can_be_in_set, first_missing, missing_at};
+ghost use Rattle.asn1_slots.specs.Slots.{AreEmpty, AreFilled, AreOf, HaveCome, HoldBefore, IsLayoutOf, MakesValueOfSlots, OthersAreKept, ReadsOnceAt, ReadsSlotsLeft, RefusesMissing, Slot, can_be_in_set, first_missing, missing_at};
 ghost use Rattle.std.specs.Option.{option_map};
 ghost use Rattle.std.specs.Prelude.{◌≡◌, IfOk, List, OnErr, OnOk, length, true};
 
@@ -28,7 +29,8 @@ pub trait DecodeSetByIndex: Eq + Sized + Drop {
     fn full(alloc: Global, slots: Self::Slots) -> Result<Self, AllocError>
         requires are_filled { AreFilled layout slots }
         ensures made { (v : Self) → HoldBefore layout (length layout) slots v →
-            IfOk result (λ w. Self.eq w v ≡ true) };
+            IfOk result (λ w. Self.eq w v ≡ true) }
+        ensures only { IfOk result (AreOf layout slots) };
 
     /// The name of the component at an index, if it is required and its slot is empty.
     fn missing_at(index: usize, slots: &Self::Slots) -> Option<&'static str>
@@ -76,6 +78,7 @@ fn value_of_slots<S: DecodeSetByIndex + FieldTable>(
 ) -> Result<S, DecodeError>
     requires laid_out { IsLayoutOf S.components S.layout }
     ensures made { MakesValueOfSlots S.layout S.eq slots result }
+    ensures only { IfOk result (AreOf S.layout slots) }
     ensures missing { RefusesMissing S.layout slots result }
 {
     match first_missing::<S>(&slots) {
@@ -98,6 +101,8 @@ fn read_slots<S: DecodeSetByIndex + FieldTable, D: Decoder>(
     requires empty_at_first { (s : S.Slots) → S.Slots.Default.is_default s → AreEmpty S.layout s }
     ensures read { ReadsSlotsLeft D.reader bound S.components S.layout decoder.old decoder.new
         result }
+    ensures only { IfOk result (λ slots. WasRead D.reader decoder.old decoder.new
+        (HaveCome S.layout slots)) }
     ensures same_depth { OnOk result (D.reader.depth_left decoder.new ≡
         D.reader.depth_left decoder.old) }
     ensures has_failed { OnErr result (D.reader.failed decoder.new ≡ true) }
@@ -176,6 +181,8 @@ fn read_components<S: DecodeSetByIndex + FieldTable, D: Decoder>(
     requires empty_at_first { (s : S.Slots) → S.Slots.Default.is_default s → AreEmpty S.layout s }
     ensures read { ReadsComponents D.reader is_set tag S.components S.eq decoder.old decoder.new
         result }
+    ensures only { IfOk result (HasReadComponents D.reader decoder.old decoder.new is_set tag
+        S.components) }
     ensures depth_first { NeedsDepth D.reader decoder.old result }
     ensures keeps_depth { KeepsDepth D.reader decoder.old decoder.new result }
 {
@@ -211,8 +218,12 @@ pub fn decode_set_by_index<S: DecodeSetByIndex + ConstructedType, D: Decoder>(
     requires empty_at_first { (s : S.Slots) → S.Slots.Default.is_default s → AreEmpty S.layout s }
     ensures components { ReadsComponents D.reader is_set tag S.components S.eq decoder.old
         decoder.new result }
+    ensures only_components { IfOk result (HasReadComponents D.reader decoder.old decoder.new
+        is_set tag S.components) }
     ensures read { ReadsValue D.reader S.meaning S.eq tag (constraint_set constraints.now)
         decoder.old decoder.new result }
+    ensures only { IfOk result (HasReadValue D.reader decoder.old decoder.new S.meaning tag
+        (constraint_set constraints.now)) }
     ensures after_reading { AfterReading D.reader S.meaning tag (constraint_set constraints.now)
         decoder.old decoder.new result }
     ensures depth_first { NeedsDepth D.reader decoder.old result }

@@ -1,11 +1,12 @@
 //! A component, read by its type.
 ghost use Rattle.asn1_laws.specs.DecodeErrors.{lacks_name, reason};
 ghost use Rattle.asn1_laws.specs.Reading.{Outside, ReadsBack};
+ghost use Rattle.asn1_laws.specs.ReadingExactly.{HasReadGiven, HasReadOptional};
 ghost use Rattle.asn1_model.specs.Records.{in_additions, in_root};
 ghost use Rattle.asn1_slots.specs.Filling.{ReadsComponent, ReadsOptionalComponent};
 ghost use Rattle.asn1_slots.specs.Taggings.{under};
 ghost use Rattle.std.specs.Option.{option_eq};
-ghost use Rattle.std.specs.Prelude.{◌≡◌, false, IfErr, OnOk, true};
+ghost use Rattle.std.specs.Prelude.{◌≡◌, false, IfErr, IfOk, OnOk, true};
 
 use crate::tagging::Tagging;
 use asn1_dec::{Decode, Decoder};
@@ -19,6 +20,8 @@ pub(crate) fn read_component<T: Decode, D: Decoder>(
 ) -> Result<T, DecodeError>
     ensures read { ReadsComponent D.reader (under tagging T.meaning) (λ v w. T.eq w v ≡ true)
         decoder.old decoder.new result }
+    ensures only { IfOk result (HasReadGiven D.reader decoder.old decoder.new
+        (λ _. under tagging T.meaning)) }
     ensures same_depth { OnOk result (D.reader.depth_left decoder.new ≡
         D.reader.depth_left decoder.old) }
 {
@@ -38,6 +41,8 @@ pub(crate) fn read_named<T: Decode, D: Decoder>(
 ) -> Result<T, DecodeError>
     ensures read { ReadsComponent D.reader (under tagging T.meaning) (λ v w. T.eq w v ≡ true)
         decoder.old decoder.new result }
+    ensures only { IfOk result (HasReadGiven D.reader decoder.old decoder.new
+        (λ _. under tagging T.meaning)) }
     ensures same_depth { OnOk result (D.reader.depth_left decoder.new ≡
         D.reader.depth_left decoder.old) }
     ensures named { IfErr result (λ error. lacks_name (reason error) ≡ false) }
@@ -56,6 +61,8 @@ pub(crate) fn read_optional<T: Decode, D: Decoder>(
 ) -> Result<Option<T>, DecodeError>
     ensures read { ReadsOptionalComponent D.reader in_root (under tagging T.meaning)
         (λ v w. option_eq T.eq w v ≡ true) decoder.old decoder.new result }
+    ensures only { IfOk result (HasReadOptional D.reader decoder.old decoder.new in_root
+        (λ _. under tagging T.meaning)) }
     ensures same_depth { OnOk result (D.reader.depth_left decoder.new ≡
         D.reader.depth_left decoder.old) }
 {
@@ -74,6 +81,8 @@ pub(crate) fn read_addition<T: Decode, D: Decoder>(
 ) -> Result<Option<T>, DecodeError>
     ensures read { ReadsOptionalComponent D.reader in_additions (under tagging T.meaning)
         (λ v w. option_eq T.eq w v ≡ true) decoder.old decoder.new result }
+    ensures only { IfOk result (HasReadOptional D.reader decoder.old decoder.new in_additions
+        (λ _. under tagging T.meaning)) }
     ensures same_depth { OnOk result (D.reader.depth_left decoder.new ≡
         D.reader.depth_left decoder.old) }
 {

@@ -5,9 +5,10 @@
 //! | [`read_open`] | the value of a type that octets are read as | `OpenValues` |
 //! | [`open_round_trip`] | writes a value as the octets of an open type, and reads it of these | `OpenValues` |
 //!
-//! The promises: [`read_open`] answers what `read_value` may answer of an output of these octets, or memory ran out; and a valid
-//! value of a well-tagged type comes back equal of the octets that `write_value` makes of it, unless memory or depth refuses, with
-//! each codec for which the bytes of an output tell what it carries (`back` of [`open_round_trip`]).
+//! The promises: [`read_open`] answers what `read_value` may answer of an output of these octets, or memory ran out; so each value that
+//! it answers was read of records that this output carries. And a valid value of a well-tagged type comes back equal of the octets that
+//! `write_value` makes of it, unless memory or depth refuses, with each codec for which the bytes of an output tell what it carries
+//! (`back` of [`open_round_trip`]).
 #![tactic(auto)]
 
 mod reading;

@@ -22,7 +22,9 @@
 //! - What is written of a valid value without a SET or SET OF is its only spelling, for a type whose equal values have the same
 //!   records (`what_is_written_is_the_only_spelling` of [`canonical`]), and `read_canonical` of `asn1_rules` reads it back equal, if the
 //!   type is well tagged, unless memory runs out or the depth is too small.
-//! - About bytes that no value gave nothing is promised; tests try such bytes. The errors are those of the packed form.
+//! - Each call of the decoder that succeeds has read what it answers, and nothing else, as in the packed form. So what `read_value`
+//!   answers was read of records that the bytes carry (`only`). No contract says by which error other bytes are refused; tests try
+//!   such bytes. The errors are those of the packed form.
 #![tactic(auto)]
 
 pub mod canonical;

@@ -2,7 +2,7 @@
 ghost use Rattle.asn1_items.specs.NextTags.{IsNext};
 ghost use Rattle.asn1_model.specs.Records.{Record};
 ghost use Rattle.asn1_tagform.specs.Next.{AreLeft};
-ghost use Rattle.std.specs.Prelude.{List, MatchResult};
+ghost use Rattle.std.specs.Prelude.{List, MatchResult, refl};
 
 use asn1_bench::Presence;
 use asn1_bounds::Codec;
@@ -50,6 +50,8 @@ impl Presence for NextItem {
     }
 
     fn skip_marks(_slices: &mut Slices<'_>) {}
+
+    ghost begin_no_item = { λ _ _ _ _. refl };
 }
 
 /// The tag of the next item, if one is left.

@@ -13,8 +13,8 @@ use std::alloc::Global;
 /// type. So `write_value` fails if memory runs out, where the value's records are nested deeper than the depth, by
 /// [`EncodeError::Custom`] with the text `item too long`, and for no other reason.
 ///
-/// Of bytes that are not those of a value of the type, `read_value` answers an error or a value. [`DecodeError::Incomplete`]
-/// comes where bytes are missing outside all scopes, with how many of the part that is read, and [`DecodeError::Custom`], with
+/// An answer of `read_value` was read of records that the bytes carry, whatever they are (`only`). [`DecodeError::Incomplete`] comes
+/// where bytes are missing outside all scopes, with how many of the part that is read, and [`DecodeError::Custom`], with
 /// the text `bad item`, where the bytes are not what is asked for or some are left. An error of the type's own is answered as it
 /// is.
 #[derive(Clone, Copy, Debug)]
@@ -34,8 +34,9 @@ impl TagRules {
 }
 
 impl Rules for TagRules {
-    ghost use Rattle.asn1_rules.specs.Rules.{ReadsCarried, RefusesCarried, RefusesTrailingRecords};
+    ghost use Rattle.asn1_rules.specs.Rules.{IsReadOf, ReadsCarried, RefusesCarried, RefusesTrailingRecords};
     ghost use Rattle.asn1_tagform.specs.Format.{tag_format, tag_form_is_lawful};
+    ghost use Rattle.std.specs.Prelude.{IfOk};
 
     type Output = Vec<u8>;
 
@@ -52,6 +53,7 @@ impl Rules for TagRules {
             T.meaning T.refusals depth result }
         ensures none_left { RefusesTrailingRecords tag_format.accepts
             (tag_format.carries output.now) T.meaning result }
+        ensures only { IfOk result (IsReadOf (tag_format.carries output.now) T.meaning) }
     {
         let decoder = ItemDecoder::<NextItem>::new(self.alloc, output.as_slice(), depth);
         read_whole(decoder)

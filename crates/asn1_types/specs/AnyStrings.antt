@@ -1,5 +1,6 @@
 -- The content of a string of any kind in a record.
-use Rattle.std.specs.Prelude.{◌≡◌, ⊤}
+use Rattle.std.specs.Prelude.{◌≡◌, ⊤, Bool, List, refl}
+use Rattle.std.proofs.Common.{sym}
 use Rattle.asn1_values.specs.Bits.{EndsInOne, without_trailing_zeros}
 use Rattle.asn1_model.specs.Records as model
 use Rattle.asn1_types.specs.declared.any_string.OctetKind.{OctetKind}
@@ -68,3 +69,23 @@ IsStringOf _ _ = ⊥
 abbrev pub content_read : StringKind → model.Content → model.Content
 content_read kind.NamedBits (model.bits list) = model.bits (without_trailing_zeros list)
 content_read _ x = x
+
+-- Units that are this content of a kind, and that a codec reads as these.
+pub record HasSpelling {U : Type 0} (content : List U → model.Content) (units_read : List U → List U) (x : model.Content) (units : List U) : Type 0 where
+  pub spelled : List U
+  pub are : content spelled ≡ x
+  pub read_as : units_read spelled ≡ units
+
+-- units that are read as they are spell themselves
+pub as_they_are : {U : Type 0} (content : List U → model.Content) (x : model.Content) (units : List U) → x ≡ content units → HasSpelling content (λ list. list) x units
+as_they_are content x units same = record { spelled = units; are = sym same; read_as = refl }
+
+-- named bits are spelled with any number of 0 bits at their end (X.680, 22.7)
+pub with_zeros : (x : model.Content) (units : List Bool) → IsStringOf kind.Bits x → content_read kind.NamedBits x ≡ model.bits units → HasSpelling model.bits without_trailing_zeros x units
+with_zeros (model.bits list) units is read = record { spelled = list; are = refl; read_as = cc }
+with_zeros model.null units is read = absurd is
+with_zeros (model.boolean b) units is read = absurd is
+with_zeros (model.number z) units is read = absurd is
+with_zeros (model.discriminant labels z) units is read = absurd is
+with_zeros (model.arcs list) units is read = absurd is
+with_zeros (model.units own list) units is read = absurd is

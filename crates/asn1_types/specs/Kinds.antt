@@ -5,15 +5,18 @@ use Rattle.asn1_tags.specs.declared.tags.Tag.{Tag}
 use Rattle.asn1_tags.specs.Trees.{leaf, choice, none}
 use Rattle.asn1_model.specs.ConstraintSets.{unconstrained}
 use Rattle.asn1_model.specs.Composites.{open_type_records}
-use Rattle.asn1_model.specs.Records.{explicit_tag, open_type, set_of}
+use Rattle.asn1_model.specs.Readings.{IsOpenType, IsReadInside}
+use Rattle.asn1_model.specs.Records.{Record, explicit_tag, open_type, sequence, set_of}
 use Rattle.asn1_model.specs.Kinds.{elements_type, object_identifier, scope_type}
-use Rattle.asn1_model.specs.Meaning.{Meaning, tags, own_records, IsWellTagged}
+use Rattle.asn1_model.specs.Meaning.{IsReadAsOwn, Meaning, own_is_read, tags, own_records, IsWellTagged}
 use Rattle.asn1_model.specs.TaggedTypes.{explicitly_tagged_as, untagged}
 use Rattle.asn1_model.specs.Tags.{universal, context, CHOICE, IsATag, LiesIn, first_tags, only}
 use Rattle.asn1_fields.specs.FieldViews.{FieldView, view}
 use Rattle.asn1_fields.specs.declared.presence.FieldPresence.TheVariants.{Required}
 use Rattle.asn1_components.specs.ComponentTypes.{required}
-use Rattle.asn1_components.specs.Components.{Components, sequence}
+use Rattle.asn1_components.specs.ComponentLists.{AreReadInTurn}
+use Rattle.asn1_components.specs.Components as components
+use Rattle.asn1_components.specs.Components.{Components, all_components, rows}
 
 -- A SET OF (X.680, 28).
 abbrev pub set_of_type : {V W : Type 0} → (W → List V) → Meaning V → Meaning W
@@ -30,6 +33,8 @@ any_type bytes = record {
   is_choice = false;
   is_present = λ _. true;
   records = λ v t c n. open_type_records n (bytes v);
+  IsReadAs = λ v t c. IsOpenType (bytes v);
+  reads_own = λ v t c n. (n, refl);
   IsSingleRecord = ⊤;
   HasDistinctTags = λ _. ⊤;
   IsOfType = λ _. ⊤;
@@ -49,6 +54,8 @@ implicit_type tag content m = record {
   is_choice = false;
   is_present = λ _. true;
   records = λ w t c n. m.records (content w) t c n;
+  IsReadAs = λ w. m.IsReadAs (content w);
+  reads_own = λ w. m.reads_own (content w);
   IsSingleRecord = m.IsSingleRecord;
   HasDistinctTags = λ t. IsATag t × m.HasDistinctTags t × (tags m t ≡ only t);
   IsOfType = λ w. m.IsOfType (content w);
@@ -69,6 +76,8 @@ abbrev pub explicit_type : {V W : Type 0} → Tag → (W → V) → Meaning V �
 explicit_type tag content m =
     scope_type (λ t c n. explicit_tag t n) (λ _ _ _. refl) tag unconstrained None (record {
       records = λ w. own_records m (content w);
+      AreReadAs = λ w. IsReadAsOwn m (content w);
+      read_own = λ w. own_is_read m (content w);
       IsWellTagged = IsWellTagged m;
       AreOfType = λ w. m.IsOfType (content w);
       AreValid = λ accepts w. m.IsValid accepts (content w);
@@ -79,9 +88,15 @@ explicit_type tag content m =
 -- Context 0.
 abbrev pub instance_of_components : {V W : Type 0} → (W → List ℕ) → (W → V) → Meaning V → Components W
 instance_of_components type_id content m =
-    sequence (
+    components.sequence (
     required (codes "type_id") type_id (untagged object_identifier) ∷
     required (codes "value") content (explicitly_tagged_as (Some (codes "SEQUENCE")) (context 0) m) ∷ [])
+
+-- An INSTANCE OF this type and value is read of one record of both, one after the other.
+abbrev pub IsReadAsInstance : {V : Type 0} → Tag → Meaning V → List ℕ → V → List Record → Type 0
+IsReadAsInstance {V = V} t m type_id value =
+    IsReadInside (AreReadInTurn (all_components {V = List ℕ × V} (instance_of_components (λ both. both.0) (λ both. both.1) m)))
+    (sequence t (rows {V = List ℕ × V} (instance_of_components (λ both. both.0) (λ both. both.1) m))) (type_id, value)
 
 -- Its field table: the name of the type is an OBJECT IDENTIFIER, the value has the tag Context 0, and both are always there.
 abbrev pub instance_of_fields : List FieldView

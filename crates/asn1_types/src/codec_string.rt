@@ -4,9 +4,9 @@ ghost use Rattle.std.specs.Str.{IsUtf8};
 ghost use Rattle.std.specs.String.{string_bytes};
 ghost use Rattle.asn1_values.specs.Alphabets.{is_ia5, is_numeric, is_printable, is_visible};
 ghost use Rattle.asn1_values.specs.Bits.{EndsInOne};
-ghost use Rattle.asn1_model.specs.Records.{units, utf8};
+ghost use Rattle.asn1_model.specs.Records.{Content, units, utf8};
 ghost use Rattle.asn1_model.specs.Tags.{universal};
-ghost use Rattle.asn1_types.specs.AnyStrings.{IsMadeAs, IsStringOf, content_kind_of, content_of_str, content_of_string, content_read};
+ghost use Rattle.asn1_types.specs.AnyStrings.{HasSpelling, IsMadeAs, IsStringOf, as_they_are, content_kind_of, content_of_str, content_of_string, content_read, with_zeros};
 ghost use Rattle.asn1_types.specs.declared.any_string.OctetKind.TheVariants as octets;
 ghost use Rattle.asn1_types.specs.declared.any_string.StringKind.TheVariants as kinds;
 ghost use Rattle.asn1_types.specs.declared.any_string.StringKind.{StringKind};
@@ -55,7 +55,8 @@ pub trait CodecString<U>: StringType<U> {
             content_of_string string ≡ Self.content list →
             IsSomeAnd result (λ s. units_in s ≡ list) }
         ensures only { IfSome result (λ s.
-            content_of_string string ≡ Self.content (units_in s)) };
+            content_of_string string ≡ Self.content (units_in s)) }
+        ensures read_as_is { IfSome result (λ s. units_read (units_in s) ≡ units_in s) };
 
     // The law of a kind: what its units are to a codec is a string of the kind.
     ghost is_string: { (list : List U) → AreOfKind list → IsStringOf own_kind (Self.content list) };
@@ -68,6 +69,10 @@ pub trait CodecString<U>: StringType<U> {
 
     ghost reads_content: { (list : List U) →
         content_read own_kind (Self.content list) ≡ Self.content (units_read list) };
+
+    // The law of what is spelled: a content that is read as units of the kind has units that are read as these.
+    ghost spellings: { (x : Content) (list : List U) → IsStringOf (content_kind_of own_kind) x →
+        content_read own_kind x ≡ Self.content list → HasSpelling Self.content units_read x list };
 }
 
 /// The kind of UTF8String, whose strings are of the language's own type.
@@ -120,6 +125,8 @@ impl CodecString<bool> for Bits {
     ghost reads_own = { λ _ _. refl };
 
     ghost reads_content = { λ _. refl };
+
+    ghost spellings = { λ x list _ read. as_they_are _ x list read };
 }
 
 impl CodecString<bool> for PackedBits {
@@ -155,6 +162,8 @@ impl CodecString<bool> for PackedBits {
     ghost reads_own = { λ _ _. refl };
 
     ghost reads_content = { λ _. refl };
+
+    ghost spellings = { λ x list _ read. as_they_are _ x list read };
 }
 
 impl CodecString<bool> for NamedBits {
@@ -193,6 +202,8 @@ impl CodecString<bool> for NamedBits {
     ghost reads_own = { nothing_left_out };
 
     ghost reads_content = { λ _. refl };
+
+    ghost spellings = { with_zeros };
 }
 
 impl CodecString<u8> for Octets {
@@ -225,6 +236,8 @@ impl CodecString<u8> for Octets {
     ghost reads_own = { λ _ _. refl };
 
     ghost reads_content = { λ _. refl };
+
+    ghost spellings = { λ x list _ read. as_they_are _ x list read };
 }
 
 impl CodecString<u8> for Utf8 {
@@ -257,6 +270,8 @@ impl CodecString<u8> for Utf8 {
     ghost reads_own = { λ _ _. refl };
 
     ghost reads_content = { λ _. refl };
+
+    ghost spellings = { λ x list _ read. as_they_are _ x list read };
 }
 
 impl CodecString<u8> for General {
@@ -289,6 +304,8 @@ impl CodecString<u8> for General {
     ghost reads_own = { λ _ _. refl };
 
     ghost reads_content = { λ _. refl };
+
+    ghost spellings = { λ x list _ read. as_they_are _ x list read };
 }
 
 impl CodecString<u8> for Graphic {
@@ -321,6 +338,8 @@ impl CodecString<u8> for Graphic {
     ghost reads_own = { λ _ _. refl };
 
     ghost reads_content = { λ _. refl };
+
+    ghost spellings = { λ x list _ read. as_they_are _ x list read };
 }
 
 impl CodecString<u32> for Teletex {
@@ -356,6 +375,8 @@ impl CodecString<u32> for Teletex {
     ghost reads_own = { λ _ _. refl };
 
     ghost reads_content = { λ _. refl };
+
+    ghost spellings = { λ x list _ read. as_they_are _ x list read };
 }
 
 impl CodecString<u16> for Bmp {
@@ -391,6 +412,8 @@ impl CodecString<u16> for Bmp {
     ghost reads_own = { λ _ _. refl };
 
     ghost reads_content = { λ _. refl };
+
+    ghost spellings = { λ x list _ read. as_they_are _ x list read };
 }
 
 impl CodecString<u8> for Visible {
@@ -423,6 +446,8 @@ impl CodecString<u8> for Visible {
     ghost reads_own = { λ _ _. refl };
 
     ghost reads_content = { λ _. refl };
+
+    ghost spellings = { λ x list _ read. as_they_are _ x list read };
 }
 
 impl CodecString<u8> for Ia5 {
@@ -455,6 +480,8 @@ impl CodecString<u8> for Ia5 {
     ghost reads_own = { λ _ _. refl };
 
     ghost reads_content = { λ _. refl };
+
+    ghost spellings = { λ x list _ read. as_they_are _ x list read };
 }
 
 impl CodecString<u8> for Numeric {
@@ -487,6 +514,8 @@ impl CodecString<u8> for Numeric {
     ghost reads_own = { λ _ _. refl };
 
     ghost reads_content = { λ _. refl };
+
+    ghost spellings = { λ x list _ read. as_they_are _ x list read };
 }
 
 impl CodecString<u8> for Printable {
@@ -519,4 +548,6 @@ impl CodecString<u8> for Printable {
     ghost reads_own = { λ _ _. refl };
 
     ghost reads_content = { λ _. refl };
+
+    ghost spellings = { λ x list _ read. as_they_are _ x list read };
 }

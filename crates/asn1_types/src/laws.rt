@@ -17,6 +17,7 @@ ghost use Rattle.asn1_types.specs.declared.implicit.Implicit.{Implicit};
 ghost use Rattle.asn1_types.specs.declared.instance_of.InstanceOf.{InstanceOf};
 
 mod premises;
+mod readings;
 mod records;
 mod strings;
 
@@ -32,6 +33,7 @@ pub use premises::{
     types_are_tagged_as_their_contents, values_are_of_type_as_their_contents,
     values_are_valid_as_their_contents,
 };
+pub use readings::types_are_read_of_what_their_contents_are;
 pub use records::{
     sets_feed_their_length, types_begin_with_their_tags, types_have_the_records_of_their_contents,
 };

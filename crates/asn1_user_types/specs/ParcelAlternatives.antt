@@ -1,5 +1,5 @@
 -- Parcel ::= CHOICE { letter NULL, inner [0] Parcel }
-use Rattle.std.specs.Prelude.{[], ◌∷◌, codes}
+use Rattle.std.specs.Prelude.{[], ◌∷◌, codes, refl}
 use Rattle.std.proofs.Common.{inl, inr}
 use Rattle.asn1_schema.specs.model.Tags.{context}
 use Rattle.asn1_schema.specs.model.contracts.impls.null.UnitAsnType.TheImpl.{ghosts as null}
@@ -39,7 +39,7 @@ parcel_pick (Inner' place inner) = inr (inl (record { ptr = place.ptr; alloc = p
 
 pub parcel_agrees : (v : Parcel) → MeansTheSame (parcel_means v) (chosen_meaning (all_of parcel_alternatives) (parcel_pick v))
 parcel_agrees (Letter nothing) = means_itself
-parcel_agrees (Inner' place inner) = means_itself
+parcel_agrees (Inner' place inner) = record { records = refl; read = λ _. (λ h. h, λ h. h); of_type = (λ h. h, λ h. h); valid = λ _. (λ h. h, λ h. h) }
 
 -- The meaning of a value.
 abbrev pub parcel_meaning : Meaning Parcel

@@ -1,6 +1,7 @@
 //! The reader of a parcel: two functions that call each other.
-ghost use Rattle.std.specs.Prelude.{◌≡◌, OnOk};
+ghost use Rattle.std.specs.Prelude.{◌≡◌, IfOk, OnOk};
 ghost use Rattle.asn1_schema.specs.codec_laws.Reading.{AfterReading, ReadsValue};
+ghost use Rattle.asn1_schema.specs.codec_laws.ReadingExactly.{HasReadValue};
 ghost use Rattle.asn1_schema.specs.model.ConstraintSets.{constraint_set};
 ghost use Rattle.asn1_schema.specs.slots.Cases.{ReadsCaseAt};
 ghost use Rattle.asn1_user_types.specs.ParcelAlternatives.{parcel_meaning};
@@ -20,6 +21,8 @@ pub(crate) fn read_parcel<D: Decoder>(
 ) -> Result<Parcel, DecodeError>
     ensures read { ReadsValue D.reader parcel_meaning ⟦<Parcel as PartialEq>⟧.eq tag
         (constraint_set constraints.now) decoder.old decoder.new result }
+    ensures only { IfOk result (HasReadValue D.reader decoder.old decoder.new parcel_meaning tag
+        (constraint_set constraints.now)) }
     ensures after_reading { AfterReading D.reader parcel_meaning tag
         (constraint_set constraints.now) decoder.old decoder.new result }
 {

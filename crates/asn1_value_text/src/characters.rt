@@ -1,5 +1,6 @@
 //! Strings of characters as texts.
 
+use asn1_contents::UniversalString;
 use asn1_types::{AnyStr, OctetKind};
 use asn1_values::shown::is_shown;
 use std::alloc::{AllocError, Global};
@@ -27,6 +28,20 @@ pub(crate) fn character_numbers(
             let numbers = units.iter().copied().collect(alloc)?;
             Ok(Some(numbers))
         }
+    }
+}
+
+/// The text of a UniversalString that is kept as its octets.
+pub(crate) fn universal_text(
+    alloc: Global,
+    string: AnyStr<'_>,
+) -> Result<Option<String>, AllocError> {
+    let AnyStr::Octets(OctetKind::OctetString, octets) = string else {
+        return Ok(None);
+    };
+    match UniversalString::new(octets.to_vec(alloc)?) {
+        Some(universal) => Ok(Some(universal.text(alloc)?)),
+        None => Ok(None),
     }
 }
 

@@ -5,6 +5,7 @@ ghost use Rattle.asn1_laws.specs.declared.encode_error.EncodeError.TheVariants.{
 ghost use Rattle.asn1_value_text.specs.Refusals.{IsRefusal};
 ghost use Rattle.std.specs.Prelude.{◌≡◌, ◌≢◌, ◌≤◌};
 
+use crate::characters::universal_text;
 use crate::digits::integer_digits;
 use crate::layout::{Layout, Opening};
 use crate::sizes::only_length;
@@ -15,7 +16,7 @@ use asn1_components::{Choice, EnumeratedTable, FieldTable};
 use asn1_enc::{EncodeError, Encoder};
 use asn1_paths::alternative_name;
 use asn1_tags::{Identifier, Tag};
-use asn1_types::{Any, AnyStr, CodecString};
+use asn1_types::{Any, AnyStr, CodecString, OctetKind};
 use asn1_values::{BitVec, IntegerType};
 use std::alloc::{AllocError, Global};
 
@@ -109,6 +110,21 @@ impl<F: TextForm> TextEncoder<F> {
     {
         match digits {
             Ok(digits) => self.append(Scalar::Number(digits.as_str())),
+            Err(_) => Err(self.fail_for_memory()),
+        }
+    }
+
+    /// Appends a UniversalString by its characters, if they are known.
+    fn append_universal(&mut self, string: AnyStr<'_>) -> Result<(), EncodeError>
+        ensures { (rs : List Record) → highest rs ≡ 0 →
+            Writes (text_writer F.MayRefuse) self.old rs ⊤ self.new result }
+    {
+        match universal_text(self.alloc, string) {
+            Ok(Some(text)) => {
+                let characters = AnyStr::Octets(OctetKind::Utf8, text.as_bytes());
+                self.append(Scalar::String(characters, None))
+            }
+            Ok(None) => self.append(Scalar::String(string, None)),
             Err(_) => Err(self.fail_for_memory()),
         }
     }
@@ -318,7 +334,11 @@ impl<F: TextForm> Encoder for TextEncoder<F> {
         value: &[U],
         _name: Identifier,
     ) -> Result<(), EncodeError> {
-        self.append(Scalar::String(K::as_any(value), only_length(constraints)))
+        let string = K::as_any(value);
+        if K::table().tag == Tag::UNIVERSAL_STRING {
+            return self.append_universal(string);
+        }
+        self.append(Scalar::String(string, only_length(constraints)))
     }
 
     fn encode_packed_bits<K: CodecString<bool>>(

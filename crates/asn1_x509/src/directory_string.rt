@@ -18,8 +18,7 @@ ghost use Rattle.asn1_model.specs.WrittenAlike.{AreWrittenAlike};
 use asn1_schema::{
     AsnType, BmpString, Choice, ChoiceType, Constraints, Decode, DecodeChoice, DecodeChoiceByIndex,
     DecodeError, Decoder, Encode, EncodeChoice, EncodeError, Encoder, Identifier, PrintableString,
-    Tag, TagTree, Tagging, TeletexString, TypeTable, UniversalString, Utf8String, alternative,
-    from_tag_by_index,
+    Tag, TagTree, Tagging, TeletexString, TypeTable, Utf8String, alternative, from_tag_by_index,
 };
 
 /// `DirectoryString` of the module `PKIX1Explicit88`.
@@ -30,7 +29,7 @@ pub enum DirectoryString {
     /// `printableString PrintableString (SIZE (1..MAX))`
     PrintableString(PrintableString),
     /// `universalString UniversalString (SIZE (1..MAX))`
-    UniversalString(UniversalString),
+    UniversalString(asn1_contents::UniversalString),
     /// `utf8String UTF8String (SIZE (1..MAX))`
     Utf8String(Utf8String),
     /// `bmpString BMPString (SIZE (1..MAX))`
@@ -49,7 +48,7 @@ pub(crate) const DIRECTORY_STRING: &[TagTree<'static>] = &[
 impl DecodeChoiceByIndex for DirectoryString {
     ghost cases = { variant (codes "teletexString") TeletexString (untagged ⟦<TeletexString as AsnType>⟧.meaning) ⟦<TeletexString as PartialEq>⟧.eq ∷
         variant (codes "printableString") PrintableString (untagged ⟦<PrintableString as AsnType>⟧.meaning) ⟦<PrintableString as PartialEq>⟧.eq ∷
-        variant (codes "universalString") UniversalString (untagged ⟦<UniversalString as AsnType>⟧.meaning) ⟦<UniversalString as PartialEq>⟧.eq ∷
+        variant (codes "universalString") UniversalString (untagged ⟦<asn1_contents::UniversalString as AsnType>⟧.meaning) ⟦<asn1_contents::UniversalString as PartialEq>⟧.eq ∷
         variant (codes "utf8String") Utf8String (untagged ⟦<Utf8String as AsnType>⟧.meaning) ⟦<Utf8String as PartialEq>⟧.eq ∷
         variant (codes "bmpString") BmpString (untagged ⟦<BmpString as AsnType>⟧.meaning) ⟦<BmpString as PartialEq>⟧.eq ∷ [] };
 

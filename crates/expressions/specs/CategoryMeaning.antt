@@ -1,7 +1,7 @@
 -- The meaning of `Category`.
-use Rattle.std.specs.Prelude.{◌≡◌, ◌↔◌, [], ℕ, ⊤, Bool, List, codes, refl}
+use Rattle.std.specs.Prelude.{◌≡◌, ◌↔◌, [], ℕ, Bool, List, codes, refl}
 use Rattle.std.proofs.Common.{◌∙◌, ap}
-use Rattle.asn1_circles.specs.Words.{Components, IsMadeOf, KnotLaws, KnotOf, Meaning, MeansTheSame, Record, both_at_all, each_by, flat_map-map, inner, is_sequence, itself_at_all, level, of_type_to, own_records, same_at_all, sequence_is_made, sequence_itself, sequence_knot, sequence_knot_meaning, valid_to, well_formed_alone}
+use Rattle.asn1_circles.specs.Words.{Components, ComponentsAreRead, IsMadeOf, KnotLaws, KnotOf, Meaning, MeansTheSame, ReadAtSome, Record, Tag, both_at_all, context, each_by, elements_at_some, flat_map-map, in_turn_at_some, inner, inside_at_some, is_sequence, itself_at_all, own_records, read_level, same_at_all, same_read, sequence_is_made, sequence_itself, sequence_itself_is_read, sequence_knot, sequence_knot_meaning, sequence_of, type_level, unconstrained, valid_level}
 use Rattle.expressions.specs.CategoryLists.{category_of_components, category_of_meaning}
 use Rattle.expressions.specs.Validity.{EachIsValid, ValidRecords, ValueMeaning, all_valid, valid_records, written_valid}
 use Rattle.expressions.specs.CategoryValidity.{category_of_is_valid}
@@ -44,18 +44,18 @@ within = inner knot
 abbrev mapped : Knot-F Knot → CategoryOf Knot → CategoryOf ValidRecords
 mapped f v = (map-Knot Knot ValidRecords folded (record f { 0 = record f.0 { value = v } })).0.value
 
--- the meaning of a value inside another down to a depth
-abbrev type_level : ℕ → Meaning Knot
-type_level n = level knot (of_type_to knot n) (well_formed_alone knot)
+-- what is read as a value inside another
+within_read : (t : Tag) (v : Knot) → ReadAtSome (λ n. (read_level knot n).IsReadAs v t unconstrained) (within.IsReadAs v t unconstrained)
+within_read t v = sequence_itself_is_read (codes "Category") is_sequence components in_knot inside t unconstrained v
 
-abbrev valid_level : ℕ → Meaning Knot
-valid_level n = level knot (λ _. ⊤) (valid_to knot n)
+category_of_of_type : (v : CategoryOf Knot) → ((n : ℕ) → (category_of_meaning (type_level knot n)).IsOfType v) ↔ (category_of_meaning within).IsOfType v
+category_of_of_type v = both_at_all (same_at_all) (both_at_all (each_by (λ n. (type_level knot n).IsOfType) (within.IsOfType) (λ e1. itself_at_all) v.children.items) (same_at_all))
 
-category_of_of_type : (v : CategoryOf Knot) → ((n : ℕ) → (category_of_meaning (type_level n)).IsOfType v) ↔ (category_of_meaning within).IsOfType v
-category_of_of_type v = both_at_all (same_at_all) (both_at_all (each_by (λ n. (type_level n).IsOfType) (within.IsOfType) (λ e1. itself_at_all) v.children.items) (same_at_all))
+category_of_valid : (accepts : List ℕ → Bool) (v : CategoryOf Knot) → ((n : ℕ) → (category_of_meaning (valid_level knot n)).IsValid accepts v) ↔ (category_of_meaning within).IsValid accepts v
+category_of_valid accepts v = both_at_all (same_at_all) (both_at_all (each_by (λ n. (valid_level knot n).IsValid accepts) (within.IsValid accepts) (λ e1. itself_at_all) v.children.items) (same_at_all))
 
-category_of_valid : (accepts : List ℕ → Bool) (v : CategoryOf Knot) → ((n : ℕ) → (category_of_meaning (valid_level n)).IsValid accepts v) ↔ (category_of_meaning within).IsValid accepts v
-category_of_valid accepts v = both_at_all (same_at_all) (both_at_all (each_by (λ n. (valid_level n).IsValid accepts) (within.IsValid accepts) (λ e1. itself_at_all) v.children.items) (same_at_all))
+category_of_read_inside : (v : CategoryOf Knot) → ReadAtSome (λ n. ComponentsAreRead (category_of_components (read_level knot n)) v) (ComponentsAreRead (category_of_components within) v)
+category_of_read_inside v = in_turn_at_some (same_read) (in_turn_at_some (inside_at_some (sequence_of (context 1) unconstrained) (elements_at_some v.children.items (λ e1. within_read within.tag e1))) (same_read))
 
 same_records : (f : Knot-F Knot) (v : CategoryOf Knot) → (write (map-Knot Knot ValidRecords folded (record f { 0 = record f.0 { value = v } }))).records ≡ (knot.content Knot within v).records
 same_records f v0 = rw (flat_map-map (own_records already) folded v0.children.items) refl
@@ -64,6 +64,7 @@ pub laws : KnotLaws knot
 laws = record {
   of_type = category_of_of_type;
   valid_inside = category_of_valid;
+  read_inside = category_of_read_inside;
   records = λ v. ap (λ rs. rs.records) (fold_out-Knot ValidRecords write v) ∙ same_records (out-Knot v) (out-Knot v).0.value;
 }
 
@@ -72,7 +73,7 @@ abbrev pub meaning : Meaning Knot
 meaning = sequence_knot_meaning (codes "Category") is_sequence components in_knot inside laws
 
 unrolled : (v : CategoryOf Knot) → MeansTheSame (knot.content Knot within v) (knot.content Knot meaning v)
-unrolled v = record { records = refl; of_type = (λ h. h, λ h. h); valid = λ _. (λ h. h, λ h. h) }
+unrolled v = record { records = refl; read = λ _. (λ h. h, λ h. h); of_type = (λ h. h, λ h. h); valid = λ _. (λ h. h, λ h. h) }
 
 -- It is the meaning of what a value is made of.
 pub is_made : IsMadeOf in_knot meaning (category_of_meaning meaning)

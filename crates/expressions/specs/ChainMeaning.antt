@@ -1,7 +1,7 @@
 -- The meaning of `Chain`.
-use Rattle.std.specs.Prelude.{◌≡◌, ◌↔◌, [], ℕ, ⊤, Bool, List, codes, refl}
+use Rattle.std.specs.Prelude.{◌≡◌, ◌↔◌, [], ℕ, Bool, List, codes, refl}
 use Rattle.std.proofs.Common.{◌∙◌, ap}
-use Rattle.asn1_circles.specs.Words.{Alternatives, IsMadeOf, KnotLaws, KnotOf, Meaning, MeansTheSame, OneOf, Record, all_of, choice_itself, choice_knot, inner, itself_at_all, knot_is_made, knot_meaning, level, of_type_to, same_at_all, valid_to, well_formed_alone}
+use Rattle.asn1_circles.specs.Words.{Alternatives, IsMadeOf, KnotLaws, KnotOf, Meaning, MeansTheSame, OneOf, ReadAtSome, Record, Tag, all_of, choice_itself, choice_itself_is_read, choice_knot, chosen_meaning, context, explicit_tag, inner, inside_at_some, itself_at_all, knot_is_made, knot_meaning, read_level, same_at_all, same_read, type_level, unconstrained, valid_level}
 use Rattle.expressions.specs.ChainLists.{chain_of_alternatives, chain_of_pick, chain_of_meaning}
 use Rattle.expressions.specs.Validity.{EachIsValid, ValidRecords, ValueMeaning, all_valid, valid_records, written_valid}
 use Rattle.expressions.specs.ChainValidity.{chain_of_is_valid}
@@ -48,20 +48,21 @@ within = inner knot
 abbrev mapped : Knot-F Knot → ChainOf Knot → ChainOf ValidRecords
 mapped f v = (map-Knot Knot ValidRecords folded (record f { 0 = record f.0 { value = v } })).0.value
 
--- the meaning of a value inside another down to a depth
-abbrev type_level : ℕ → Meaning Knot
-type_level n = level knot (of_type_to knot n) (well_formed_alone knot)
+-- what is read as a value inside another
+within_read : (t : Tag) (v : Knot) → ReadAtSome (λ n. (read_level knot n).IsReadAs v t unconstrained) (within.IsReadAs v t unconstrained)
+within_read t v = choice_itself_is_read (codes "Chain") alternatives pick in_knot inside t unconstrained v
 
-abbrev valid_level : ℕ → Meaning Knot
-valid_level n = level knot (λ _. ⊤) (valid_to knot n)
-
-chain_of_of_type : (v : ChainOf Knot) → ((n : ℕ) → (chain_of_meaning (type_level n)).IsOfType v) ↔ (chain_of_meaning within).IsOfType v
+chain_of_of_type : (v : ChainOf Knot) → ((n : ℕ) → (chain_of_meaning (type_level knot n)).IsOfType v) ↔ (chain_of_meaning within).IsOfType v
 chain_of_of_type (chain_of-End v) = same_at_all
 chain_of_of_type (chain_of-Link v) = itself_at_all
 
-chain_of_valid : (accepts : List ℕ → Bool) (v : ChainOf Knot) → ((n : ℕ) → (chain_of_meaning (valid_level n)).IsValid accepts v) ↔ (chain_of_meaning within).IsValid accepts v
+chain_of_valid : (accepts : List ℕ → Bool) (v : ChainOf Knot) → ((n : ℕ) → (chain_of_meaning (valid_level knot n)).IsValid accepts v) ↔ (chain_of_meaning within).IsValid accepts v
 chain_of_valid accepts (chain_of-End v) = same_at_all
 chain_of_valid accepts (chain_of-Link v) = itself_at_all
+
+chain_of_read_inside : (v : ChainOf Knot) → ReadAtSome (λ n. (chosen_meaning (all_of (chain_of_alternatives (read_level knot n))) (chain_of_pick (read_level knot n) v)).AreReadAs) (chosen_meaning (all_of (chain_of_alternatives within)) (chain_of_pick within v)).AreReadAs
+chain_of_read_inside (chain_of-End v) = same_read
+chain_of_read_inside (chain_of-Link v) = inside_at_some (explicit_tag (context 1)) (within_read within.tag v)
 
 same_records : (f : Knot-F Knot) (v : ChainOf Knot) → (write (map-Knot Knot ValidRecords folded (record f { 0 = record f.0 { value = v } }))).records ≡ (knot.content Knot within v).records
 same_records f (chain_of-End v0) = refl
@@ -71,6 +72,7 @@ pub laws : KnotLaws knot
 laws = record {
   of_type = chain_of_of_type;
   valid_inside = chain_of_valid;
+  read_inside = chain_of_read_inside;
   records = λ v. ap (λ rs. rs.records) (fold_out-Knot ValidRecords write v) ∙ same_records (out-Knot v) (out-Knot v).0.value;
 }
 
@@ -79,8 +81,8 @@ abbrev pub meaning : Meaning Knot
 meaning = knot_meaning (codes "Chain") alternatives pick in_knot inside laws
 
 unrolled : (v : ChainOf Knot) → MeansTheSame (knot.content Knot within v) (knot.content Knot meaning v)
-unrolled (chain_of-End v) = record { records = refl; of_type = (λ h. h, λ h. h); valid = λ _. (λ h. h, λ h. h) }
-unrolled (chain_of-Link v) = record { records = refl; of_type = (λ h. h, λ h. h); valid = λ _. (λ h. h, λ h. h) }
+unrolled (chain_of-End v) = record { records = refl; read = λ _. (λ h. h, λ h. h); of_type = (λ h. h, λ h. h); valid = λ _. (λ h. h, λ h. h) }
+unrolled (chain_of-Link v) = record { records = refl; read = λ _. (λ h. h, λ h. h); of_type = (λ h. h, λ h. h); valid = λ _. (λ h. h, λ h. h) }
 
 -- It is the meaning of what a value is made of.
 pub is_made : IsMadeOf in_knot meaning (chain_of_meaning meaning)

@@ -1,4 +1,4 @@
--- The fronts of a stream of blocks: the first 1000 bytes, whatever they are.
+-- The fronts of a stream of blocks: the first 1000 bytes, whatever they are. A block has no value that its bytes could be read as.
 use Rattle.std.specs.Prelude.{◌≡◌, ◌≤◌, ℕ, ⊤, true, List, length}
 use Rattle.asn1_rules.specs.Fronts.{Fronts, IsLawful}
 
@@ -10,6 +10,7 @@ abbrev pub block_fronts : {R : Type 0} → Fronts R ⊤
 block_fronts = record {
   cut = λ reader bytes n. is_block bytes n;
   front = λ reader bytes v n. is_block bytes n;
+  read_as = λ reader own w. ⊤;
   same = λ w v. true;
   height = λ v. 0;
   depth = λ reader. 0;

@@ -7,7 +7,7 @@ use asn1_schema::{GeneralizedTime, UtcTime};
 use asn1_types::Any;
 use test_calls::{TypeCase, TypeNames};
 
-/// Open types, times, bits of one length, filters of LDAP, a list of lists, and X.690's example.
+/// Open types, times, bits of one length, filters of LDAP, characters of four octets, a list of lists, and X.690's example.
 #[derive(Clone, Copy, Drop)]
 pub(crate) struct Others;
 
@@ -21,6 +21,9 @@ impl TypeNames for Others {
             "Mask" => Some(case.try_type::<Mask>()),
             "PersonnelRecord" => Some(case.try_type::<PersonnelRecord>()),
             "UtcTime" => Some(case.try_type::<UtcTime>()),
+            "asn1_contents::UniversalString" => {
+                Some(case.try_type::<asn1_contents::UniversalString>())
+            }
             "Vec<Vec<bool>>" => Some(case.try_type::<Vec<Vec<bool>>>()),
             _ => None,
         }

@@ -1,9 +1,10 @@
 //! Reading of what holds a value and means the same, and of what has no content.
 ghost use Rattle.asn1_laws.specs.Reading.{AfterReading, ReadsValue, Refuses};
+ghost use Rattle.asn1_laws.specs.ReadingExactly.{HasReadValue};
 ghost use Rattle.asn1_laws.specs.Refusals.{no_refusals};
 ghost use Rattle.asn1_model.specs.ConstraintSets.{constraint_set};
 ghost use Rattle.asn1_model.specs.Kinds.{empty_type};
-ghost use Rattle.std.specs.Prelude.{◌≡◌, IsOk};
+ghost use Rattle.std.specs.Prelude.{◌≡◌, IfOk, IsOk};
 
 use crate::boxes::read_boxed;
 use crate::decode::Decode;
@@ -60,6 +61,8 @@ impl<T: AsnType> Decode for PhantomData<T> {
             (constraint_set constraints.now) decoder.old decoder.new result }
         ensures refuses { Refuses D.reader no_refusals tag (constraint_set constraints.now)
             decoder.old decoder.new result }
+        ensures only { IfOk result (HasReadValue D.reader decoder.old decoder.new empty_type tag
+            (constraint_set constraints.now)) }
         ensures nothing { IsOk result × (decoder.new ≡ decoder.old) }
     {
         Ok(PhantomData)

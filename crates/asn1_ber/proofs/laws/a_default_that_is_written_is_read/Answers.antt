@@ -12,7 +12,7 @@ holds eq default_value w (Some x) same = same
 pub returns : goal.returns
 returns g c = λ v rest outer can of_type valid apart at.
     let a = c.in_ok-optional.ensures.read.reads (Some v) rest outer can of_type valid apart at in
-    record { answer = c.or_default.ensures v (holds g.T.PartialEq.eq c.args.default_value v c.optional.new.slot a.answer); at = a.at; within_depth_left = a.within_depth_left }
+    record { answer = c.or_default.ensures.equal v (holds g.T.PartialEq.eq c.args.default_value v c.optional.new.slot a.answer); at = a.at; within_depth_left = a.within_depth_left }
 
 pub returns-in_err-optional : goal.returns-in_err-optional
 returns-in_err-optional g c = λ v rest outer can of_type valid apart at.

@@ -1,5 +1,6 @@
 use Rattle.std.proofs.Common.{◌≡◌, false, [], ◌∷◌, ◌++◌, ap, subst, ◌∙◌, arith}
 use Rattle.std.proofs.lemmas.List.{nil_from_length}
+use Rattle.std.proofs.lemmas.Result.{err_from_is_err_and}
 use Rattle.asn1_items.proofs.DecodeStates.{not_both}
 use Rattle.asn1_ber_items.specs.Headers.{header_of}
 use Rattle.asn1_ber_items.specs.Spellings.{IsDefinite}
@@ -7,6 +8,7 @@ use Rattle.asn1_ber_items.proofs.FlatBits.{IsBitsHere, bits_here, last_found, la
 use Rattle.asn1_ber_items.proofs.FlatOctets.{IsPiece, none_left, some_left}
 use Rattle.asn1_ber_items.specs.Pieces.{BIT_STRING}
 use Rattle.asn1_ber_items.proofs.Headers.{cut_shorter, header_shorter}
+use Rattle.asn1_ber_items.proofs.NormalPieces.{bit_pieces_normal}
 use Rattle.asn1_ber_items.proofs.pieces.bits_of_pieces.Goals as goal
 
 pub loop-left-init : goal.loop-left-init
@@ -35,8 +37,14 @@ returns-clause-found c = λ unused octets pieces.
     read_all c.args.contents.now c.loop-left.left.now c.loop-left.bits.items octets unused (none_left c.loop-left.left.now c.loop-left-test.ensures) c.loop-left.invariant pieces
 
 pub returns-clause-only : goal.returns-clause-only
-returns-clause-only c = λ bytes rest spells.
-    read_only bytes c.args.contents.now rest c.loop-left.left.now c.loop-left.bits.items (none_left c.loop-left.left.now c.loop-left-test.ensures) c.loop-left.invariant spells
+returns-clause-only c =
+    let contents = c.args.contents.now in
+    read_only contents contents [] c.loop-left.left.now c.loop-left.bits.items (none_left c.loop-left.left.now c.loop-left-test.ensures) c.loop-left.invariant c.in_ok-check_normal.ensures.only
+
+pub returns-in_err-check_normal-clause-found : goal.returns-in_err-check_normal-clause-found
+returns-in_err-check_normal-clause-found c = λ unused octets pieces.
+    let p = err_from_is_err_and c.from_residual.result c.from_residual.ensures.1 in
+    rw (p.1, p.2) (c.in_err-check_normal.ensures.found (bit_pieces_normal c.args.contents.now octets unused pieces))
 
 pub returns-in_err-piece-clause-found : goal.returns-in_err-piece-clause-found
 returns-in_err-piece-clause-found c = λ unused octets pieces.
@@ -68,11 +76,12 @@ returns-then-unused-gt0-clause-found c = λ unused octets pieces.
     last_found c.with_last.result octets c.loop-left.invariant.octets c.in-Some.octets.now c.in_ok-piece.piece.rest.now unused first last (c.with_last.ensures c.loop-left.invariant.octets c.loop-left.invariant.are)
 
 pub returns-then-unused-gt0-clause-only : goal.returns-then-unused-gt0-clause-only
-returns-then-unused-gt0-clause-only c = λ bytes rest spells.
+returns-then-unused-gt0-clause-only c =
+    let contents = c.args.contents.now in
     let h = header_of c.in_ok-header.header in
     let piece : IsPiece BIT_STRING false h c.loop-left.left.now = record { at = c.in_ok-header.ensures.only; tag = c.is_bit_string.ensures.0 c.if-not-is_bit_string.false; form = c.if-header.false } in
     let is = subst (λ l. IsDefinite h l []) c.in-Some.ensures.cases.0 (subst (IsDefinite h c.in_ok-piece.piece.contents.now) (none_left c.in_ok-piece.piece.rest.now c.if-not-is_empty.ensures) c.in_ok-piece.ensures.only) in
-    last_only c.with_last.result bytes c.args.contents.now rest c.loop-left.left.now c.loop-left.bits.items c.in-Some.octets.now c.in-Some.unused.now h piece is c.loop-left.invariant spells
+    last_only c.with_last.result contents contents [] c.loop-left.left.now c.loop-left.bits.items c.in-Some.octets.now c.in-Some.unused.now h piece is c.loop-left.invariant c.in_ok-check_normal.ensures.only
     (c.with_last.ensures c.loop-left.invariant.octets c.loop-left.invariant.are)
 
 pub loop-left-preserved : goal.loop-left-preserved

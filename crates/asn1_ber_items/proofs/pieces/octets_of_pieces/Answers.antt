@@ -1,8 +1,10 @@
-use Rattle.std.proofs.Common.{sym, subst, arith}
+use Rattle.std.proofs.Common.{[], sym, subst, arith}
+use Rattle.std.proofs.lemmas.Result.{err_from_is_err_and}
 use Rattle.asn1_items.proofs.DecodeStates.{not_both}
 use Rattle.asn1_ber_items.specs.Headers.{header_of}
 use Rattle.asn1_ber_items.proofs.FlatOctets.{AreReadOctets, left_contents, left_header, left_tag, none_left, read_all, read_header, read_none, read_octets, read_only, some_left}
 use Rattle.asn1_ber_items.proofs.Headers.{cut_shorter, header_shorter}
+use Rattle.asn1_ber_items.proofs.NormalPieces.{octet_pieces_normal}
 use Rattle.asn1_ber_items.proofs.pieces.octets_of_pieces.Goals as goal
 
 pub loop-left-init : goal.loop-left-init
@@ -45,5 +47,11 @@ returns-clause-found c = λ octets pieces.
     read_all c.args.contents.now c.loop-left.left.now c.loop-left.octets.items octets (none_left c.loop-left.left.now c.loop-left-test.ensures) c.loop-left.invariant pieces
 
 pub returns-clause-only : goal.returns-clause-only
-returns-clause-only c = λ bytes rest spells.
-    read_only bytes c.args.contents.now rest c.loop-left.left.now c.loop-left.octets.items (none_left c.loop-left.left.now c.loop-left-test.ensures) c.loop-left.invariant spells
+returns-clause-only c =
+    let contents = c.args.contents.now in
+    read_only contents contents [] c.loop-left.left.now c.loop-left.octets.items (none_left c.loop-left.left.now c.loop-left-test.ensures) c.loop-left.invariant c.in_ok-check_normal.ensures.only
+
+pub returns-in_err-check_normal-clause-found : goal.returns-in_err-check_normal-clause-found
+returns-in_err-check_normal-clause-found c = λ octets pieces.
+    let p = err_from_is_err_and c.from_residual.result c.from_residual.ensures.1 in
+    rw (p.1, p.2) (c.in_err-check_normal.ensures.found (octet_pieces_normal c.args.contents.now octets pieces))

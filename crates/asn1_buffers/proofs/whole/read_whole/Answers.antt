@@ -1,7 +1,7 @@
 use Rattle.std.proofs.Common.{[], inl, refl}
 use Rattle.std.proofs.lemmas.Result.{err_from_is_err_and}
 use Rattle.asn1_model.specs.Meaning.{own_records}
-use Rattle.asn1_buffers.proofs.WholeValues.{before_nothing, own_or_failed}
+use Rattle.asn1_buffers.proofs.WholeValues.{before_nothing, own_or_failed, read_of_all}
 use Rattle.asn1_buffers.proofs.whole.read_whole.Goals as goal
 
 pub returns-in_err-value-clause-read : goal.returns-in_err-value-clause-read
@@ -41,3 +41,6 @@ returns-clause-none_left g c = λ v rest can of_type valid at some.
     let m = g.T.AsnType.meaning in
     let read = c.in_ok-value.ensures.read v m.name rest [] can.1 of_type valid (inl can.0) at in
     absurd (some _ read.at (c.in_ok-end.ensures.0 refl))
+
+pub returns-clause-only : goal.returns-clause-only
+returns-clause-only g c = read_of_all g.D.Decoder.reader c.args.decoder _ g.T.AsnType.meaning c.in_ok-value.value c.in_ok-value.ensures.only (c.in_ok-end.ensures.0 refl)

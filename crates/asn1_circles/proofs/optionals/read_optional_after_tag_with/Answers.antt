@@ -1,10 +1,11 @@
-use Rattle.std.proofs.Common.{Err, Ok, Some, ap, arith}
+use Rattle.std.proofs.Common.{Err, None, Ok, Some, ap, arith}
 use Rattle.std.proofs.lemmas.Result.{err_from_is_err_and}
 use Rattle.asn1_model.specs.Tags.{tree_tags}
 use Rattle.asn1_tags.proofs.Leaves.{shape-Leaf}
 use Rattle.asn1_laws.specs.GivenTypes.{given_after_tag}
 use Rattle.asn1_laws.specs.Sides.{side_of}
 use Rattle.asn1_laws.proofs.ReadingOptionals.{is_absent, is_there, not_told, told_of}
+use Rattle.asn1_laws.proofs.ReadingWhole.{absence_was_read, mark_away, mark_there, option_was_read}
 use Rattle.asn1_circles.proofs.optionals.read_optional_after_tag_with.Goals as goal
 
 pub returns-in_err-is_there-clause-read : goal.returns-in_err-is_there-clause-read
@@ -27,3 +28,15 @@ returns-clause-read g c =
 
 pub read_after_explicit_tag_with-requires-clause-callable : goal.read_after_explicit_tag_with-requires-clause-callable
 read_after_explicit_tag_with-requires-clause-callable g c = λ at t low. c.requires.callable at t (omega (arith, low, c.in_ok-is_there.ensures.opens_nothing.keeps_depth.same_depth))
+
+pub returns-then-not-branch-clause-only : goal.returns-then-not-branch-clause-only
+returns-then-not-branch-clause-only g c =
+    let m = g.W.AsnType.meaning in
+    absence_was_read g.D.Decoder.reader (given_after_tag c.args.tag m.constraints m None).IsReadAs (side_of c.args.side) c.args.tag _ _
+    (mark_away g.D.Decoder.reader _ _ _ _ _ c.if-not-branch.true c.in_ok-is_there.ensures.only)
+
+pub returns-clause-only : goal.returns-clause-only
+returns-clause-only g c =
+    let m = g.W.AsnType.meaning in
+    option_was_read g.D.Decoder.reader (given_after_tag c.args.tag m.constraints m None).IsReadAs (side_of c.args.side) c.args.tag _ _ _ _
+    (mark_there g.D.Decoder.reader _ _ _ _ _ c.if-not-branch.false c.in_ok-is_there.ensures.only) c.in_ok-value.ensures.only

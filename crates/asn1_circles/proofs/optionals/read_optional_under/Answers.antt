@@ -5,6 +5,7 @@ use Rattle.std.specs.Prelude.{unwrap_or}
 use Rattle.asn1_laws.specs.GivenTypes.{given}
 use Rattle.asn1_laws.specs.Sides.{side_of}
 use Rattle.asn1_laws.proofs.ReadingOptionals.{is_absent, is_there, not_told, told_of}
+use Rattle.asn1_laws.proofs.ReadingWhole.{absence_was_read, mark_away, mark_there, present_was_read}
 use Rattle.asn1_circles.proofs.optionals.read_optional_under.Goals as goal
 
 pub returns-in_err-is_there-clause-read : goal.returns-in_err-is_there-clause-read
@@ -35,3 +36,19 @@ returns-clause-read g c =
 
 pub read_present_with-requires-clause-callable : goal.read_present_with-requires-clause-callable
 read_present_with-requires-clause-callable g c = λ at t low. c.requires.callable at t (omega (arith, low, c.in_ok-is_there.ensures.opens_nothing.keeps_depth.same_depth))
+
+pub returns-then-not-branch-clause-only : goal.returns-then-not-branch-clause-only
+returns-then-not-branch-clause-only g c =
+    let m = g.W.AsnType.meaning in
+    let t = c.unwrap_or-tag.result in
+    let is : t ≡ unwrap_or c.args.tag m.tag = c.unwrap_or-tag.ensures ∙ ap (unwrap_or c.args.tag) c.table-table.ensures.tag in
+    rw (← is) (absence_was_read g.D.Decoder.reader (λ v. m.IsReadAs v t m.constraints) (side_of c.args.side) t _ _
+    (mark_away g.D.Decoder.reader _ _ _ _ _ c.if-not-branch.true c.in_ok-is_there.ensures.only))
+
+pub returns-clause-only : goal.returns-clause-only
+returns-clause-only g c =
+    let m = g.W.AsnType.meaning in
+    let t = c.unwrap_or-tag.result in
+    let is : t ≡ unwrap_or c.args.tag m.tag = c.unwrap_or-tag.ensures ∙ ap (unwrap_or c.args.tag) c.table-table.ensures.tag in
+    rw (← is) (present_was_read g.D.Decoder.reader (λ v. m.IsReadAs v t m.constraints) (side_of c.args.side) t _ _ _ c.read_present_with.result
+    (mark_there g.D.Decoder.reader _ _ _ _ _ c.if-not-branch.false c.in_ok-is_there.ensures.only) c.read_present_with.ensures.only)

@@ -2,6 +2,7 @@ use Rattle.std.proofs.Common.{◌≡◌, ◌<◌, ◌≤◌, length, refl, arith
 use Rattle.asn1_components.proofs.TableLengths.{length-table}
 use Rattle.asn1_components.specs.Components.{all_components}
 use Rattle.asn1_slots.proofs.Layouts.{slots_of_type}
+use Rattle.asn1_slots.proofs.ReadExactly.{none_were_read, one_more_was_read}
 use Rattle.asn1_slots.proofs.FilledSlots.{all_filled, kept_filled, kept_held, none_filled, one_more_filled}
 use Rattle.asn1_slots.proofs.ReadByIndex.{none_yet, one_more, not_read, all_read, same_length}
 use Rattle.asn1_circles.proofs.sequences.read_slots_with.Goals as goal
@@ -11,6 +12,7 @@ loop-index-init g c = record {
   same_depth = refl;
   filled = none_filled g.C.DecodeByIndexWith.layout _;
   way = λ v rest outer can of_type valid ends at. none_yet g.D.Decoder.reader (all_components g.C.FieldTable.components) g.C.DecodeByIndexWith.layout (slots_of_type g.C.FieldTable.components g.C.DecodeByIndexWith.layout c.requires.laid_out) _ v rest outer _ can of_type valid ends at;
+  exactly = none_were_read g.D.Decoder.reader _ g.C.DecodeByIndexWith.layout _;
 }
 
 pub loop-index-preserved : goal.loop-index-preserved
@@ -24,6 +26,9 @@ loop-index-preserved g c =
       way = λ v rest outer can of_type valid ends at.
           let upto = c.loop-index.invariant.way v rest outer can of_type valid ends at in
           one_more g.D.Decoder.reader cs g.C.DecodeByIndexWith.layout (slots_of_type g.C.FieldTable.components g.C.DecodeByIndexWith.layout c.requires.laid_out) _ v rest outer _ _ _ _ _ c.loop-index.index low upto _ c.in-Ok.ensures.same_depth c.in-Ok.ensures.read (kept_held g.C.DecodeByIndexWith.layout c.loop-index.index _ _ v c.in-Ok.ensures.kept upto.filled);
+      exactly = rw add-one (one_more_was_read g.D.Decoder.reader _ _ _ _ g.C.DecodeByIndexWith.layout c.loop-index.index _ _
+          (omega (arith, low, same_length cs g.C.DecodeByIndexWith.layout (slots_of_type g.C.FieldTable.components g.C.DecodeByIndexWith.layout c.requires.laid_out)))
+          c.in-Ok.ensures.kept c.loop-index.invariant.exactly c.in-Ok.ensures.read);
     }
 
 pub returns-in-Err-clause-read : goal.returns-in-Err-clause-read
@@ -48,3 +53,9 @@ returns-clause-filled g c =
 
 pub decode_field_with-requires-clause-callable : goal.decode_field_with-requires-clause-callable
 decode_field_with-requires-clause-callable g c = λ at t low. c.requires.callable at t (omega (arith, low, c.loop-index.invariant.same_depth))
+
+pub returns-clause-only : goal.returns-clause-only
+returns-clause-only g c =
+    let layout = g.C.DecodeByIndexWith.layout in
+    let end : length layout ≡ c.loop-index.index = omega (arith, c.loop-index-test.false, c.loop-index.auto.index-end, c.field_count-index-end.ensures, length-table g.C.FieldTable.components, same_length (all_components g.C.FieldTable.components) layout (slots_of_type g.C.FieldTable.components g.C.DecodeByIndexWith.layout c.requires.laid_out)) in
+    rw end c.loop-index.invariant.exactly

@@ -3,9 +3,11 @@ use Rattle.asn1_components.specs.ComponentLists.{CanBeInSequence, EachIsOfType, 
 use Rattle.asn1_components.specs.Components.{all_components}
 use Rattle.asn1_components.specs.Following.{EndsApart}
 use Rattle.asn1_laws.specs.Reading.{Outside}
+use Rattle.asn1_laws.specs.ReadingExactly.{WasRead}
 use Rattle.asn1_model.specs.Records.{Record}
 use Rattle.asn1_slots.proofs.ReadByIndex.{ReadUpTo}
 use Rattle.asn1_slots.proofs.FilledSlots.{AreFilledBefore}
+use Rattle.asn1_slots.specs.Slots.{AreReadBefore}
 use Rattle.asn1_circles.proofs.sequences.read_slots_with.Given as goal
 
 abbrev pub invariant-loop-index : goal.invariant-loop-index
@@ -18,4 +20,5 @@ invariant-loop-index g l =
       way : (v : _) (rest : List Record) (outer : Outside) → CanBeInSequence cs → EachIsOfType cs v → EachIsValid cs R.accepts v → EndsApart cs rest →
           R.remains l.fn.decoder (all_records cs v ++ rest, outer) →
           ReadUpTo R cs g.C.DecodeByIndexWith.layout l.index l.fn.decoder l.decoder l.slots v rest outer;
+      exactly : WasRead R l.fn.decoder l.decoder (AreReadBefore g.C.DecodeByIndexWith.layout l.index l.slots);
     }

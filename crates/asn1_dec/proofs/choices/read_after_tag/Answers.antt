@@ -3,6 +3,9 @@ use Rattle.std.proofs.lemmas.Result.{err_from_is_err_and}
 use Rattle.asn1_laws.proofs.ReadingSteps.{to_end, not_opened, fails_inside, flat_failure, within_scope}
 use Rattle.asn1_laws.specs.TaggedChoices.{chosen_records}
 use Rattle.asn1_model.specs.Records.{explicit_tag}
+use Rattle.asn1_laws.proofs.ReadingWhole.{tag_was_read}
+use Rattle.asn1_components.specs.Alternatives.{all_of, chosen_meaning, table_of}
+use Rattle.asn1_model.specs.Readings.{IsReadAsAlternative}
 use Rattle.asn1_dec.proofs.choices.read_after_tag.Goals as goal
 
 pub returns-in_err-open_explicit_prefix-clause-read : goal.returns-in_err-open_explicit_prefix-clause-read
@@ -34,3 +37,9 @@ returns-clause-read g c = λ v n rest outer distinct can of_type valid at.
     let r = (rw c.in-Ok.ensures.set at c.in_ok-value.ensures.read) v g.T.AsnType.meaning.name [] ((_, rest) ∷ outer) distinct can of_type valid (to_end g.D.Decoder.reader _ rs ((_, rest) ∷ outer) s.at) in
     let k = c.in_ok-close.ensures.read _ rest outer r.at in
     record { answer = r.answer; at = k.at; within_depth_left = within_scope (explicit_tag c.args.tag n) rs _ _ c.in_ok-open_explicit_prefix.ensures.takes_depth.one_less r.within_depth_left }
+
+pub returns-clause-only : goal.returns-clause-only
+returns-clause-only g c =
+    tag_was_read g.D.Decoder.reader
+    (IsReadAsAlternative (λ w. (chosen_meaning (all_of g.T.Choice.alternatives) (g.T.Choice.pick w)).AreReadAs) (table_of g.T.Choice.alternatives) g.T.AsnType.meaning.constraints) _
+    c.args.decoder.now _ _ _ (rw c.in-Ok.ensures.set at c.in_ok-value.ensures.only) c.in_ok-close.ensures.only c.args.tag c.in_ok-open_explicit_prefix.ensures.only

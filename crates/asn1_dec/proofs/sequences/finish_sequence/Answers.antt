@@ -1,8 +1,13 @@
 use Rattle.std.proofs.Common.{subst}
-use Rattle.std.specs.Prelude.{OnOk, ◌≡◌}
+use Rattle.std.specs.Prelude.{OnOk, ◌≡◌, IfOk}
 use Rattle.std.proofs.lemmas.Result.{err_from_is_err_and}
 use Rattle.asn1_laws.proofs.ReadingSequences.{closed_again, fails_now, sequence_not_closed, sequence_not_read, sequence_read}
 use Rattle.asn1_laws.specs.ReadingTypes.{ReadsFields}
+use Rattle.asn1_components.specs.ComponentLists.{AreReadInTurn}
+use Rattle.asn1_components.specs.Components.{all_components, rows}
+use Rattle.asn1_laws.proofs.ReadingWhole.{scope_was_read}
+use Rattle.asn1_laws.specs.ReadingExactly.{HasReadFields}
+use Rattle.asn1_model.specs.Records.{sequence}
 use Rattle.asn1_dec.proofs.sequences.finish_sequence.Goals as goal
 
 pub returns-in-Err-clause-read : goal.returns-in-Err-clause-read
@@ -35,3 +40,9 @@ returns-clause-keeps_depth g c = λ old opened is_open same.
     closed_again g.D.Decoder.reader old opened c.args.decoder.now _ is_open.had_not_failed is_open.one_less
     (subst (λ a. OnOk a (g.D.Decoder.reader.depth_left c.args.decoder.now ≡ g.D.Decoder.reader.depth_left opened)) c.in-Ok.is same)
     c.in_ok-close.ensures.gives_depth_back.one_more c.in_ok-close.ensures.gives_depth_back.no_failure
+
+pub returns-clause-only : goal.returns-clause-only
+returns-clause-only g c = λ old opened opens reads.
+    let given = subst (λ a. IfOk a (HasReadFields g.D.Decoder.reader opened c.args.decoder.now g.C.FieldTable.components)) c.in-Ok.is reads in
+    scope_was_read g.D.Decoder.reader (AreReadInTurn (all_components g.C.FieldTable.components)) _ old opened c.args.decoder.now c.close.new.self given c.in_ok-close.ensures.only
+    (sequence c.args.tag (rows g.C.FieldTable.components)) opens

@@ -2,10 +2,12 @@ use Rattle.std.specs.List.{flat_map}
 use Rattle.std.proofs.lemmas.Result.{err_from_is_err_and}
 use Rattle.asn1_laws.proofs.ReadingSteps.{fails_inside, flat_failure, within_scope}
 use Rattle.asn1_model.specs.ConstraintSets.{constraint_set}
-use Rattle.asn1_model.specs.Meaning.{own_records}
+use Rattle.asn1_model.specs.Meaning.{own_records, IsReadAsOwn}
 use Rattle.asn1_model.specs.Records.{set_of}
 use Rattle.asn1_types.specs.MultisetLaws.{same_counts-SameElements}
 use Rattle.asn1_laws.proofs.ReadingSetsOf.{before_elements}
+use Rattle.asn1_laws.proofs.ReadingWhole.{scope_was_read}
+use Rattle.asn1_model.specs.Readings.{AreElementsRead}
 use Rattle.asn1_dec.proofs.sets_of.read_set_of.Goals as goal
 
 pub returns-in_err-elements-clause-read : goal.returns-in_err-elements-clause-read
@@ -39,3 +41,8 @@ returns-clause-read g c = λ vs n rest outer can of_type valid at.
       at = k.at;
       within_depth_left = within_scope (set_of c.args.tag (constraint_set c.args.constraints.now) n) rs _ _ c.in_ok-bound.ensures.takes_depth.one_less (rw b.same_height at r.within_depth_left);
     }
+
+pub returns-clause-only : goal.returns-clause-only
+returns-clause-only g c =
+    rw c.from_vec.ensures (scope_was_read g.D.Decoder.reader (AreElementsRead (IsReadAsOwn g.T.AsnType.meaning)) _ c.args.decoder.now _ _ _
+    c.in_ok-elements.ensures.only c.in_ok-close.ensures.only (set_of c.args.tag (constraint_set c.args.constraints.now)) c.in_ok-bound.ensures.only)

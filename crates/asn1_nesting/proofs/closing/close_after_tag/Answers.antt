@@ -1,6 +1,9 @@
 use Rattle.std.proofs.lemmas.Result.{err_from_is_err_and}
+use Rattle.asn1_components.specs.Alternatives.{all_of, chosen_meaning, table_of}
 use Rattle.asn1_laws.proofs.ReadingChoices.{choice_after_tag_not_closed, choice_after_tag_not_read, choice_after_tag_read}
 use Rattle.asn1_laws.proofs.ReadingSequences.{closed_again, fails_now}
+use Rattle.asn1_laws.proofs.ReadingWhole.{tag_was_read}
+use Rattle.asn1_model.specs.Readings.{IsReadAsAlternative}
 use Rattle.asn1_nesting.proofs.closing.close_after_tag.Goals as goal
 
 pub returns-in_err-value-clause-read : goal.returns-in_err-value-clause-read
@@ -36,3 +39,9 @@ returns-clause-keeps_depth g c = λ t old opened index is_open same.
     let k = c.in_ok-value.ensures.keeps_depth g.T.AsnType.meaning.constraints is_open.between opened index is_open.inside same in
     closed_again g.D.Decoder.reader old is_open.between _ _ is_open.had_not_failed is_open.one_less k.same_depth
     c.in_ok-close.ensures.gives_depth_back.one_more c.in_ok-close.ensures.gives_depth_back.no_failure
+
+pub returns-clause-only : goal.returns-clause-only
+returns-clause-only g c = λ t old opened index (between, opens, inside) reads.
+    tag_was_read g.D.Decoder.reader
+    (IsReadAsAlternative (λ w. (chosen_meaning (all_of g.T.Choice.alternatives) (g.T.Choice.pick w)).AreReadAs) (table_of g.T.Choice.alternatives) g.T.AsnType.meaning.constraints) _
+    old between _ _ (c.in_ok-value.ensures.only g.T.AsnType.meaning.constraints between opened index inside reads) c.in_ok-close.ensures.only t opens

@@ -1,9 +1,14 @@
 use Rattle.std.proofs.Common.{arith, subst}
 use Rattle.std.specs.Cmp.Lexicographic.{pointwise}
 use Rattle.std.specs.Global.{Vec}
-use Rattle.std.specs.Prelude.{OnOk, ◌≡◌}
+use Rattle.std.specs.Prelude.{IfOk, OnOk, ◌≡◌}
 use Rattle.std.proofs.lemmas.Result.{err_from_is_err_and}
+use Rattle.asn1_laws.proofs.ReadingWhole.{scope_was_read}
+use Rattle.asn1_laws.specs.ReadingExactly.{HasReadElements}
 use Rattle.asn1_laws.specs.ReadingTypes.{ReadsElementsLeft}
+use Rattle.asn1_model.specs.Meaning.{IsReadAsOwn}
+use Rattle.asn1_model.specs.Readings.{AreElementsRead}
+use Rattle.asn1_model.specs.Records.{sequence_of}
 use Rattle.asn1_nesting.proofs.OpenAndClosedSequences.{elements_not_read, sequence_of_not_closed, sequence_of_read}
 use Rattle.asn1_nesting.proofs.lists.close_sequence_of.Goals as goal
 
@@ -31,3 +36,8 @@ returns-clause-same_depth g c = λ t cs old opened bound is_open same.
       c.in_ok-close.ensures.gives_depth_back.one_more,
       subst (λ a. OnOk a (g.D.Decoder.reader.depth_left c.args.decoder.now ≡ g.D.Decoder.reader.depth_left opened)) c.in-Ok.is same,
     )
+
+pub returns-clause-only : goal.returns-clause-only
+returns-clause-only g c = λ t cs old opened opens reads.
+    let given = subst (λ a. IfOk a (λ w. HasReadElements g.D.Decoder.reader opened c.args.decoder.now g.T.AsnType.meaning w.items)) c.in-Ok.is reads in
+    scope_was_read g.D.Decoder.reader (AreElementsRead (IsReadAsOwn g.T.AsnType.meaning)) _ old opened c.args.decoder.now c.close.new.self given c.in_ok-close.ensures.only (sequence_of t cs) opens

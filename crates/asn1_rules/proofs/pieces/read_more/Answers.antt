@@ -2,7 +2,7 @@ use Rattle.std.proofs.Common.{◌≡◌, ◌∙◌, [], ◌∷◌, ap, arith, le
 use Rattle.std.specs.Prelude.{Ok, Some}
 use Rattle.asn1_rules.specs.Iters.{state}
 use Rattle.asn1_rules.specs.Progress.{Took}
-use Rattle.asn1_rules.proofs.Steps.{remains_behind, took}
+use Rattle.asn1_rules.proofs.Steps.{one_more_read, remains_behind, took}
 use Rattle.asn1_rules.proofs.pieces.read_more.Goals as goal
 
 pub loop-iter-preserved : goal.loop-iter-preserved
@@ -20,4 +20,5 @@ loop-iter-preserved g c =
           rw c.in-Ok.ensures.items
           (remains_behind F old new g.met.R.FrontReader.lawful _ _ vs value behind c.loop-iter.invariant.same_reader steady t
           (c.loop-iter.invariant.remains vs behind steady before));
+      read = one_more_read F old new _ _ _ _ value c.in-Ok.ensures.items c.loop-iter.invariant.same_reader t c.loop-iter.invariant.read;
     }

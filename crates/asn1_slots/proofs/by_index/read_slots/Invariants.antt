@@ -3,7 +3,9 @@ use Rattle.asn1_components.specs.ComponentLists.{CanBeInSequence, EachIsOfType, 
 use Rattle.asn1_components.specs.Components.{all_components}
 use Rattle.asn1_components.specs.Following.{EndsApart}
 use Rattle.asn1_laws.specs.Reading.{Outside}
+use Rattle.asn1_laws.specs.ReadingExactly.{WasRead}
 use Rattle.asn1_model.specs.Records.{Record}
+use Rattle.asn1_slots.specs.Slots.{AreReadBefore}
 use Rattle.asn1_slots.proofs.ReadByIndex.{ReadUpTo}
 use Rattle.asn1_slots.proofs.FilledSlots.{AreFilledBefore}
 use Rattle.asn1_slots.proofs.by_index.read_slots.Given as goal
@@ -15,6 +17,7 @@ invariant-loop-index g l =
     record {
       same_depth : R.depth_left l.decoder ≡ R.depth_left l.fn.decoder;
       filled : AreFilledBefore g.C.DecodeByIndex.layout l.index l.slots;
+      exactly : WasRead R l.fn.decoder l.decoder (AreReadBefore g.C.DecodeByIndex.layout l.index l.slots);
       way : (v : _) (rest : List Record) (outer : Outside) → CanBeInSequence cs → EachIsOfType cs v → EachIsValid cs R.accepts v → EndsApart cs rest →
           R.remains l.fn.decoder (all_records cs v ++ rest, outer) →
           ReadUpTo R cs g.C.DecodeByIndex.layout l.index l.fn.decoder l.decoder l.slots v rest outer;

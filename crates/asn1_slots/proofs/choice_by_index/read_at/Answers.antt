@@ -1,6 +1,6 @@
 use Rattle.std.proofs.Common.{subst}
 use Rattle.asn1_components.specs.Alternatives.{all_of, trees_of}
-use Rattle.asn1_slots.proofs.ReadChoices.{its_index, lacks, reads_chosen}
+use Rattle.asn1_slots.proofs.ReadChoices.{case_was_read, its_index, lacks, reads_chosen}
 use Rattle.asn1_slots.specs.Cases.{alternatives_of}
 use Rattle.asn1_slots.specs.TagIndices.{IsIndexOf}
 use Rattle.asn1_slots.proofs.choice_by_index.read_at.Goals as goal
@@ -20,3 +20,7 @@ pub returns-in-None-clause-read : goal.returns-in-None-clause-read
 returns-in-None-clause-read g c = λ t is v rest outer distinct can of_type valid has.
     let alts = alternatives_of g.T.DecodeChoiceByIndex.cases in
     absurd (subst (IsIndexOf t (trees_of alts)) c.in-None.is is _ (its_index alts (g.T.DecodeChoiceByIndex.case_of v) t can has))
+
+pub returns-in-Some-clause-only : goal.returns-in-Some-clause-only
+returns-in-Some-clause-only g c =
+    case_was_read g.D.Decoder.reader _ _ g.T.DecodeChoiceByIndex.cases g.T.DecodeChoiceByIndex.case_of _ c.decode_alternative.result c.decode_alternative.ensures.read

@@ -31,5 +31,5 @@ returns-clause-read g c =
     elim c.match-component_with_tag.branch [
       | in-Some-component_with_tag+in_ok-decode_field w ↦ rw (w.decoder-is, w.slots-is) (fills_part g.D.Decoder.reader cs hs are c.args.tag w.in-Some-component_with_tag.index c.args.decoder.now
           w.decode_field.new.decoder c.args.slot.now _ c.match-take.slots w.decode_field.new.slots _ w.in-Some-component_with_tag.ensures first w.in_ok-decode_field.ensures.read w.in_ok-decode_field.ensures.kept refl)
-      | in_default w ↦ rw (w.decoder-is, w.slots-is) (fills_no_part g.D.Decoder.reader cs hs are c.args.tag c.args.decoder.now c.args.decoder.now c.args.slot.now _ c.match-take.slots _ w.in_default.ensures first refl)
+      | in_default w ↦ rw (w.decoder-is, w.slots-is) (fills_no_part g.D.Decoder.reader cs hs are c.args.tag c.args.decoder.now c.args.decoder.now c.args.slot.now _ c.match-take.slots _ w.in_default.ensures first refl refl)
     ]

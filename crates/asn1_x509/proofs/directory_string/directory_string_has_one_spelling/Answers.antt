@@ -29,7 +29,7 @@ returns-clause-alike c =
       (
         (λ can v w same. (let one : v ≡ w = search rules in rw one (SameAll-refl _))),
         (
-          (λ can v w same. (let one : v.value.bytes.items ≡ w.value.bytes.items = search rules in rw one (SameAll-refl _))),
+          (λ can v w same. (let one : v ≡ w = search rules in rw one (SameAll-refl _))),
           (
             (λ can v w same. (let one : v.bytes.items ≡ w.bytes.items = search rules in rw one (SameAll-refl _))),
             ((λ can v w same. (let one : v ≡ w = search rules in rw one (SameAll-refl _))), tt),

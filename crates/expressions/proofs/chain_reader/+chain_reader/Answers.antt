@@ -15,8 +15,12 @@ pub returns-clause-read : goal.returns-clause-read
 returns-clause-read g t c =
     c.close_knot.ensures.read c.args.tag (constraint_set c.args.constraints.now) c.args.decoder.now c.decode_choice_with-of.ensures.read
 
+pub returns-clause-only : goal.returns-clause-only
+returns-clause-only g t c =
+    c.close_knot.ensures.only c.args.tag (constraint_set c.args.constraints.now) c.args.decoder.now c.decode_choice_with-of.ensures.as_component.only
+
 pub read-returns : goal.read-returns
 read-returns g t c =
     let after = c.in-Err.ensures.after_reading in
     subst (λ e. ReadsKnot g.D.Decoder.reader c.args.at c.args.inside.now c.read_chain.new.decoder (Err e)) (sym c.from_error.ensures)
-    (record { read = c.in-Err.ensures.read; same_depth = after.same_depth; failed_as_before = after.failed_as_before })
+    (record { read = c.in-Err.ensures.read; only = tt; same_depth = after.same_depth; failed_as_before = after.failed_as_before })

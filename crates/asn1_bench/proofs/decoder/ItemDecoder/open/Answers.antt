@@ -1,5 +1,7 @@
 use Rattle.std.proofs.Common.{refl, arith}
+use Rattle.std.proofs.lemmas.Result.{IfOk-weaker}
 use Rattle.asn1_model.specs.Records.{holding}
+use Rattle.asn1_bench.proofs.ReadItems.{item_opened}
 use Rattle.asn1_bench.proofs.RemainingItems.{is_form, scope_at, expected_met}
 use Rattle.asn1_items.proofs.DecodeStates.{next_is, scope_opened}
 use Rattle.asn1_bench.proofs.decoder.ItemDecoder.open.Goals as goal
@@ -19,3 +21,9 @@ returns-clause-read g c = λ h items rest outer expected at.
     let opened = c.open.ensures in
     scope_opened (is_form marks) (λ d. d.state) c.args.self.now c.take.new.self _ h items rest outer next.has.inside _ _ c.open.result next.has.is
     (next.after c.take.new.self.state took.opens_nothing.keeps_depth.no_failure taken.left took.outside) (omega arith) took.opens_nothing.keeps_depth.same_depth taken.tag taken.inside_is opened.opened opened.no_failure opened.failed opened.too_deep opened.memory
+
+pub returns-clause-only : goal.returns-clause-only
+returns-clause-only g c =
+    let took = c.in_ok-item.ensures in
+    IfOk-weaker c.open.result _ _
+    (λ opened is_open h of. item_opened g.P.Presence.mark_bytes c.args.self.now _ c.if-self.false c.take.new.self c.args.expected c.in_ok-item.item opened h took.outside took.only is_open of) c.open.ensures.opened

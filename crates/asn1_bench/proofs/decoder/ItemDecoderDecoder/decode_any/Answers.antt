@@ -6,6 +6,8 @@ use Rattle.asn1_model.specs.Records.{open_type}
 use Rattle.asn1_bench.proofs.RemainingItems.{is_form}
 use Rattle.asn1_bench.specs.Decoder.{in_one_order}
 use Rattle.asn1_items.proofs.DecodeStates.{next_is}
+use Rattle.asn1_bench.proofs.ReadItems.{had_not_failed, open_type_taken}
+use Rattle.asn1_laws.specs.declared.decode_error.DecodeError.TheVariants.{Failed}
 use Rattle.asn1_bench.proofs.decoder.ItemDecoderDecoder.decode_any.Goals as goal
 
 pub returns-in_err-item-clause-read : goal.returns-in_err-item-clause-read
@@ -37,3 +39,9 @@ pub returns-in-Err-clause-read : goal.returns-in-Err-clause-read
 returns-in-Err-clause-read g c =
     reads_open_type (in_one_order g.P.Presence.mark_bytes) c.args.self.now c.take.new.self (λ w bytes. w ≡ bytes) (Err c.fail.result)
     (λ bytes n rest outer accepts at. inl c.fail.ensures.same)
+
+pub returns-in-Ok-clause-only : goal.returns-in-Ok-clause-only
+returns-in-Ok-clause-only g c =
+    let item = c.in_ok-item.ensures in
+    open_type_taken g.P.Presence.mark_bytes c.args.self.now c.take.new.self (had_not_failed c.in_ok-item.item Failed c.args.self.now.state.failed item.opens_nothing.keeps_depth.failed_before)
+    c.in_ok-item.item _ item.outside item.only (c.new.ensures ∙ c.in-Ok.ensures.items)

@@ -1,9 +1,12 @@
-use Rattle.std.proofs.Common.{refl, rules}
+use Rattle.std.proofs.Common.{◌≡◌, refl, rules, to_z, of_z, w64}
 use Rattle.std.proofs.lemmas.Result.{err_from_is_err_and}
 use Rattle.asn1_components.specs.Labels.{all_labels}
 use Rattle.asn1_model.specs.ConstraintSets.{unconstrained}
 use Rattle.asn1_model.specs.Records.{discriminant}
 use Rattle.asn1_components.proofs.NumbersInTables.{same_has_item}
+use Rattle.asn1_bench.proofs.ReadItems.{as_looks}
+use Rattle.asn1_model.specs.RecordTables.{no_table}
+use Rattle.asn1_bench.specs.Decoder.{item_reader}
 use Rattle.asn1_bench.proofs.decoder.ItemDecoderDecoder.decode_enumerated_number.Goals as goal
 
 pub returns-in_err-number-clause-read : goal.returns-in_err-number-clause-read
@@ -21,3 +24,9 @@ returns-in-None-clause-read g c = λ z n rest outer there at.
     let m = c.in_ok-number.ensures.read (discriminant g.E.EnumeratedTable.labels) (λ x. record { kind = refl; bytes = λ own p. p }) unconstrained z n rest outer tt at in
     let ls = all_labels g.E.EnumeratedTable.labels in
     absurd (same_has_item ls _ z there c.in-None.ensures (let answer = m.answer in search rules))
+
+pub returns-in-Some-clause-only : goal.returns-in-Some-clause-only
+returns-in-Some-clause-only g c =
+    let kept : to_z w64 (of_z w64 c.in_ok-number.number) ≡ c.in_ok-number.number = search rules in
+    as_looks (item_reader g.P.Presence.mark_bytes) c.args.tag (discriminant no_table) (discriminant g.E.EnumeratedTable.labels) (λ x. record { kind = refl; bytes = λ own p. p })
+    c.args.self.now _ unconstrained (to_z w64 (of_z w64 c.in_ok-number.number)) c.in_ok-number.number kept c.in_ok-number.ensures.only

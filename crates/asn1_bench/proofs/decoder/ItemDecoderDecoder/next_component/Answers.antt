@@ -4,6 +4,7 @@ use Rattle.asn1_components.specs.Components.{all_components, rows}
 use Rattle.asn1_model.specs.Records.{set}
 use Rattle.asn1_bench.proofs.NextTags.{next_found, next_header, none_found}
 use Rattle.asn1_bench.specs.Decoder.{in_one_order}
+use Rattle.asn1_bench.proofs.ReadItems.{marks_taken}
 use Rattle.asn1_bench.proofs.decoder.ItemDecoderDecoder.next_component.Goals as goal
 
 pub returns-then-is_at_end-clause-read : goal.returns-then-is_at_end-clause-read
@@ -34,3 +35,9 @@ returns-in-Err-clause-read g c = λ tag n can.
     (λ items rest outer at.
     let next = next_header marks _ items (λ none. let wrong = c.is_at_end.ensures.at_end.1 none in cc) (c.skip_marks.ensures.passed items at.inside) in
     absurd (c.in-Err.ensures.found next.header next.at))
+
+pub returns-then-is_at_end-clause-only : goal.returns-then-is_at_end-clause-only
+returns-then-is_at_end-clause-only g c = marks_taken g.P.Presence.mark_bytes c.args.self.now _ c.if-state.false c.skip_marks.ensures.keeps_outside c.skip_marks.ensures.only
+
+pub returns-in-Ok-clause-only : goal.returns-in-Ok-clause-only
+returns-in-Ok-clause-only g c = marks_taken g.P.Presence.mark_bytes c.args.self.now _ c.if-state.false c.skip_marks.ensures.keeps_outside c.skip_marks.ensures.only

@@ -7,6 +7,7 @@ use Rattle.asn1_model.specs.Tags.{tree_tags}
 use Rattle.asn1_bench.proofs.RemainingItems.{found, not_found}
 use Rattle.asn1_bench.specs.Decoder.{in_one_order}
 use Rattle.asn1_tags.specs.Trees.{choice}
+use Rattle.asn1_bench.proofs.ReadItems.{either_taken}
 use Rattle.asn1_bench.proofs.decoder.ItemDecoderDecoder.open_group.Goals as goal
 
 pub returns-in-Ok-clause-read : goal.returns-in-Ok-clause-read
@@ -26,3 +27,7 @@ returns-in-Err-clause-read g c =
     let own = tree_tags (choice (trees_of (all_components g.C.FieldTable.components))) in
     tells_presence (in_one_order marks) c.args.self.now _ there away own (Err c.fail_with.result)
     (not_found marks c.args.self.now _ there away own _ c.in-Err.error c.fail_with.result c.in-Err.ensures.found)
+
+pub returns-in-Ok-clause-only : goal.returns-in-Ok-clause-only
+returns-in-Ok-clause-only g c =
+    either_taken g.P.Presence.mark_bytes c.args.self.now _ c.if-state.false (group_start (rows g.C.FieldTable.components)) (group_absent (rows g.C.FieldTable.components)) c.in-Ok.is_there c.in-Ok.ensures.keeps_outside c.in-Ok.ensures.only

@@ -1,4 +1,4 @@
-use Rattle.std.proofs.Common.{◌∷◌, ◌++◌}
+use Rattle.std.proofs.Common.{◌∷◌, ◌++◌, subst}
 use Rattle.asn1_bench.proofs.Fronts.{takes_bytes}
 use Rattle.asn1_items.specs.Headers.{is_one_item}
 use Rattle.asn1_items.specs.Items.{packed_marks}
@@ -6,6 +6,7 @@ use Rattle.asn1_model.specs.Meaning.{own_records}
 use Rattle.asn1_model.specs.WellFormed.{well_formed_append}
 use Rattle.asn1_bench.proofs.Ends.{not_at_end}
 use Rattle.asn1_bench.specs.Carried.{Carries}
+use Rattle.asn1_rules.proofs.Readings.{answer_is_read_too}
 use Rattle.asn1_bench.proofs.rules.BenchRulesRules.read_value.Goals as goal
 
 pub returns-clause-read : goal.returns-clause-read
@@ -28,3 +29,8 @@ returns-clause-none_left g c = λ v r rest can of_type valid well_formed carries
     let own = m.well_formed (λ own. is_one_item own) v m.tag m.constraints m.name valid in
     let both = well_formed_append (λ own. is_one_item own) (own_records m v) (r ∷ rest) own well_formed in
     c.read_whole.ensures.none_left v (r ∷ rest) can of_type valid (c.new-decoder.ensures.before rs carried both) (λ d. not_at_end packed_marks d r rest (takes_bytes r))
+
+pub returns-clause-only : goal.returns-clause-only
+returns-clause-only g c =
+    answer_is_read_too _ (Carries c.args.output.now.items) g.T.AsnType.meaning (λ rs at. subst (λ bytes. Carries bytes rs) c.as_slice.ensures.value (c.new-decoder.ensures.only rs at))
+    c.read_whole.result c.read_whole.ensures.only

@@ -1,7 +1,7 @@
 use Rattle.std.proofs.Common.{◌-◌, length, inl, arith}
 use Rattle.std.proofs.lemmas.Result.{err_from_is_err_and}
 use Rattle.asn1_ber.specs.Cuts.{IsCut}
-use Rattle.asn1_ber.proofs.Cuts.{front_in_normal_form, one_cut, rest_within}
+use Rattle.asn1_ber.proofs.Cuts.{front_in_normal_form, one_cut, read_of_front, rest_within}
 use Rattle.asn1_ber.proofs.reader.BerReaderFrontReader.read_front.Goals as goal
 
 pub overflow_sub-length : goal.overflow_sub-length
@@ -34,6 +34,7 @@ returns-in_ok-value-in-Ok g c =
     record {
       read = record {
         cut = cut;
+        is_read = read_of_front g.D.AsnType.meaning input front.normal.items front.rest.now c.as_slice.result.now _ c.in_ok-value-in-Ok.value c.as_slice.ensures.value found.spells cut.long c.in_ok-value-in-Ok.ensures.only;
         as_written = λ v n is. (
           one_cut input _ n cut is.cut,
           (c.in_ok-value-in-Ok.ensures.read v is.is_well_tagged is.of_type is.valid

@@ -10,6 +10,7 @@ use Rattle.asn1_model.specs.ConstraintSets.{unconstrained}
 use Rattle.asn1_model.specs.Meaning.{Meaning}
 use Rattle.asn1_model.specs.Records.{Content, Name, scalar}
 use Rattle.asn1_tags.specs.declared.tags.Tag.{Tag}
+use Rattle.asn1_laws.proofs.ReadingWhole.{value_of_content}
 use Rattle.asn1_dec.proofs.decoder.Decoder.decode_enumerated.Goals as goal
 
 -- the value of a type is read where its content is
@@ -28,3 +29,8 @@ returns-clause-value g c =
 pub returns-clause-after_reading : goal.returns-clause-after_reading
 returns-clause-after_reading g c = λ constraints.
     leaves_kept g.Self.Decoder.reader g.E.AsnType.meaning c.args.tag constraints _ _ _ c.read_enumerated.ensures.opens_nothing.keeps_depth
+
+pub returns-clause-only_value : goal.returns-clause-only_value
+returns-clause-only_value g c =
+    value_of_content g.Self.Decoder.reader g.E.AsnType.meaning _ c.args.tag unconstrained unconstrained _ _ c.read_enumerated.result
+    (λ v n. g.met.E.Enumerated.agrees.records v c.args.tag unconstrained n) c.read_enumerated.ensures.only

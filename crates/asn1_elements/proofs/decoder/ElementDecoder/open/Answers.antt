@@ -1,3 +1,4 @@
+use Rattle.asn1_elements.proofs.ReadExactly.{element_opened}
 use Rattle.std.proofs.Common.{subst, arith, ◌∙◌}
 use Rattle.asn1_elements.proofs.Inside.{asked_tag, begin_with_scope, opened_in_order}
 use Rattle.asn1_elements.proofs.RemainingElements.{is_form}
@@ -52,3 +53,8 @@ returns-clause-in_order g c = opened_in_order (g.F.ElementForm.AreInOrder c.args
 pub returns-clause-only : goal.returns-clause-only
 returns-clause-only g c =
     begin_with_scope c.args.order c.args.tag c.in_ok-element.element c.in-Some.inside.now _ c.open.result c.in_ok-element.ensures.only (c.is_under.ensures.0 c.if-not-is_under.false) (λ e own seen. c.in-Some.ensures.only e own seen)
+
+pub returns-clause-opened : goal.returns-clause-opened
+returns-clause-opened g c =
+    element_opened c.args.order c.args.tag c.in_ok-element.element c.in-Some.inside.now c.args.self.now.state c.take.new.self.state _ c.open.result c.in_ok-element.ensures.taken (c.is_under.ensures.0 c.if-not-is_under.false)
+    (λ e own seen. c.in-Some.ensures.only e own seen) c.open.ensures.opened

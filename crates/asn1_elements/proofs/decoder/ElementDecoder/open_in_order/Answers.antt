@@ -1,3 +1,4 @@
+use Rattle.asn1_elements.proofs.ReadExactly.{head_opened}
 use Rattle.std.proofs.Common.{Some, Ok, Err, ap, ◌∙◌}
 use Rattle.std.specs.Prelude.{⊤}
 use Rattle.std.proofs.lemmas.Result.{err_from_is_err_and}
@@ -17,3 +18,6 @@ pub returns-clause-read : goal.returns-clause-read
 returns-clause-read g c = λ head meets ordered.
     opens (in_one_order g.F.ElementForm.form) c.args.self.now c.open.new.self head (λ _ _. ⊤) (Ok (tt {0})) ordered (answer_in_any_order (λ _. ⊤))
     (was_opened (in_one_order g.F.ElementForm.form) c.args.self.now c.open.new.self (IsExpected AsDefined (Some c.args.tag)) head (λ _ _. ⊤) _ (tt {0}) (λ n items o. tt) meets c.in_ok-open.ensures.read)
+
+pub returns-clause-only : goal.returns-clause-only
+returns-clause-only g c = head_opened g.met.F.ElementForm.lawful c.args.self.now c.open.new.self AsDefined c.args.tag _ c.in_ok-open.ensures.opened c.in_ok-open.ensures.in_order

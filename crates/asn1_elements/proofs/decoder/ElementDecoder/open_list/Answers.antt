@@ -1,3 +1,4 @@
+use Rattle.asn1_elements.proofs.ReadExactly.{head_opened}
 use Rattle.std.proofs.Common.{◌≤◌, Some, Ok, Err, ap, ◌∙◌}
 use Rattle.std.proofs.lemmas.Result.{err_from_is_err_and}
 use Rattle.asn1_laws.proofs.ReadingUpToOrder.{bound_in_any_order, opens, opens_set}
@@ -27,3 +28,6 @@ pub returns-clause-read_set : goal.returns-clause-read_set
 returns-clause-read_set g c = λ head meets.
     opens_set (in_one_order g.F.ElementForm.form) c.args.self.now c.open.new.self head (λ items bound. records_in items ≤ bound) (Ok c.in_ok-opened.opened.bound) bound_in_any_order
     (was_opened (in_one_order g.F.ElementForm.form) c.args.self.now c.open.new.self (IsExpected c.args.order (Some c.args.tag)) head (λ items bound. records_in items ≤ bound) c.in_ok-opened.opened c.in_ok-opened.opened.bound (λ n items o. o.is_bound) meets c.in_ok-opened.ensures.read)
+
+pub returns-clause-only : goal.returns-clause-only
+returns-clause-only g c = head_opened g.met.F.ElementForm.lawful c.args.self.now c.open.new.self c.args.order c.args.tag c.in_ok-opened.opened c.in_ok-opened.ensures.opened c.in_ok-opened.ensures.in_order

@@ -1,3 +1,4 @@
+use Rattle.asn1_elements.proofs.ReadExactly.{value_taken}
 use Rattle.std.proofs.Common.{◌∙◌, Ok, Err, arith, inl}
 use Rattle.asn1_laws.proofs.ReadingUpToOrder.{reads_content}
 use Rattle.asn1_der_items.proofs.OneElement.{one_of}
@@ -53,3 +54,7 @@ returns-in-Err-clause-read g c = λ content same k.
 pub returns-in-Ok-clause-only : goal.returns-in-Ok-clause-only
 returns-in-Ok-clause-only g c =
     record { element = _; at = c.in_ok-element.ensures.only.at; has_tag = c.is_under.ensures.0 c.if-not-is_under.false; form = c.in-Ok.ensures.only }
+
+pub returns-in-Ok-clause-carried : goal.returns-in-Ok-clause-carried
+returns-in-Ok-clause-carried g c =
+    value_taken g.met.F.ElementForm.lawful c.args.self.now c.take.new.self g.V.FromContents.spelled _ c.args.tag c.in_ok-element.element c.in_ok-element.ensures.taken (c.is_under.ensures.0 c.if-not-is_under.false) c.in-Ok.ensures.carried

@@ -1,3 +1,4 @@
+use Rattle.asn1_elements.proofs.ReadExactly.{any_taken}
 use Rattle.std.proofs.Common.{◌≡◌, Ok, Err, refl, ◌∙◌, arith, inl}
 use Rattle.asn1_laws.proofs.ReadingUpToOrder.{reads_open_type}
 use Rattle.asn1_elements.specs.Decoder.{in_one_order}
@@ -33,3 +34,6 @@ pub returns-in-Err-clause-read : goal.returns-in-Err-clause-read
 returns-in-Err-clause-read g c =
     reads_open_type (in_one_order g.F.ElementForm.form) c.args.self.now c.take.new.self (λ w bytes. w ≡ bytes) (Err c.fail.result)
     (λ bytes n rest outer accepts at. inl c.fail.ensures.same)
+
+pub returns-in-Ok-clause-only : goal.returns-in-Ok-clause-only
+returns-in-Ok-clause-only g c = any_taken g.met.F.ElementForm.lawful c.args.self.now c.take.new.self c.in_ok-element.element c.new.result c.in_ok-element.ensures.taken (c.new.ensures ∙ c.in-Ok.ensures.items)

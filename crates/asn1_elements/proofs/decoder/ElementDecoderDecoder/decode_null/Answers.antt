@@ -1,6 +1,13 @@
+use Rattle.asn1_elements.specs.Decoder.{element_reader}
+use Rattle.asn1_elements.proofs.ReadExactly.{all_read_as_answered, on_answer}
+use Rattle.asn1_model.specs.Records.{null}
 use Rattle.std.proofs.Common.{refl}
 use Rattle.asn1_model.specs.ConstraintSets.{unconstrained}
 use Rattle.asn1_elements.proofs.decoder.ElementDecoderDecoder.decode_null.Goals as goal
 
 pub returns-clause-read : goal.returns-clause-read
 returns-clause-read g c = c.scalar.ensures.read _ (λ x. record { kind = refl; octets = λ own p. p }) unconstrained
+
+pub returns-clause-only : goal.returns-clause-only
+returns-clause-only g c =
+    on_answer _ c.scalar.result (all_read_as_answered (element_reader g.F.ElementForm.form) c.args.tag c.args.self.now c.scalar.new.self (λ _. null) (λ _. null) unconstrained c.scalar.result (λ x. record { kind = refl; octets = λ own p. p }) c.scalar.ensures.carried)

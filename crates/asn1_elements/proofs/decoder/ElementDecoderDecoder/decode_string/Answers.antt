@@ -25,3 +25,8 @@ pub returns-clause-spelled : goal.returns-clause-spelled
 returns-clause-spelled g c = λ list n rest outer may_come at.
     let m = c.in_ok-string.ensures.read g.K.StringType.content (λ x. record { kind = refl; octets = λ own p. p }) (constraint_set c.args._constraints.now) list n rest outer may_come at in
     record { answer = m.answer; at = m.at; within_depth_left = m.within_depth_left }
+
+pub returns-clause-only : goal.returns-clause-only
+returns-clause-only g c =
+    let r = c.in_ok-string.ensures.carried in
+    (r.spelling, sym r.is_of, r.read (g.K.StringType.content r.spelling) (constraint_set c.args._constraints.now) (record { kind = refl; octets = λ own p. p }))

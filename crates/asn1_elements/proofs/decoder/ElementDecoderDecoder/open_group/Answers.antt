@@ -1,4 +1,5 @@
-use Rattle.std.proofs.Common.{Ok}
+use Rattle.asn1_elements.proofs.ReadExactly.{answered_mark_taken}
+use Rattle.std.proofs.Common.{Ok, false}
 use Rattle.std.proofs.lemmas.Result.{err_from_is_err_and}
 use Rattle.asn1_laws.proofs.ReadingUpToOrder.{tells_presence}
 use Rattle.asn1_components.specs.ComponentLists.{trees_of}
@@ -39,3 +40,13 @@ returns-in-None-clause-read g c =
     tells_presence (in_one_order g.F.ElementForm.form) c.args.self.now c.next_tag.new.self there away own (Ok _)
     (none_found g.met.F.ElementForm.lawful c.args.self.now c.next_tag.new.self there away own c.in_ok-tag.field-0 c.in-None.is
     c.in_ok-tag.ensures.opens_nothing.keeps_depth.no_failure c.in_ok-tag.ensures.same_bytes c.in_ok-tag.ensures.found)
+
+pub returns-in-Some-clause-only : goal.returns-in-Some-clause-only
+returns-in-Some-clause-only g c =
+    let rs = rows g.C.FieldTable.components in
+    answered_mark_taken g.met.F.ElementForm.lawful c.args.self.now c.next_tag.new.self (group_start rs) (group_absent rs) c.group_can_begin_with.result c.in_ok-tag.ensures.no_failure c.in_ok-tag.ensures.same_bytes
+
+pub returns-in-None-clause-only : goal.returns-in-None-clause-only
+returns-in-None-clause-only g c =
+    let rs = rows g.C.FieldTable.components in
+    answered_mark_taken g.met.F.ElementForm.lawful c.args.self.now c.next_tag.new.self (group_start rs) (group_absent rs) false c.in_ok-tag.ensures.no_failure c.in_ok-tag.ensures.same_bytes

@@ -1,5 +1,7 @@
-use Rattle.std.proofs.Common.{◌≡◌, ◌++◌, length, take, drop, ap, ◌∙◌}
+use Rattle.std.proofs.Common.{◌≡◌, ◌++◌, length, take, drop, refl, sym, ap, ◌∙◌}
+use Rattle.std.proofs.lemmas.List.{take-append-drop}
 use Rattle.std.proofs.Math.Seq.{take-append_seam, drop-append_seam}
+use Rattle.asn1_items.proofs.HeaderBytes.{expected_is, item_is}
 use Rattle.asn1_items.proofs.Items.{header_front, front_is}
 use Rattle.asn1_items.proofs.slices.Slices.take_item.Goals as goal
 
@@ -17,3 +19,12 @@ returns-clause-took c = λ h inside back e body size meets.
       bytes = front_is c.args.self.now.left.now front.0 inside back (length c.in-Some.rest.now) (front.1 ∙ ap (λ l. front.0 ++ l) body) (ap length left);
       left = left;
     }
+
+pub returns-clause-only : goal.returns-clause-only
+returns-clause-only c =
+    let header = c.in_ok-header.header in
+    let of = c.in_ok-header.ensures.only in
+    let split = c.in-Some.ensures.cases in
+    let taken = item_is c.args.self.now.left.now _ c.in-Some.body.now c.in-Some.rest.now header c.in_ok-header.ensures.are
+    (sym (ap (λ l. l ++ c.in-Some.rest.now) split.1 ∙ ap (λ l. take header.size header.body.now ++ l) split.2 ∙ take-append-drop header.size header.body.now)) (sym split.3) refl in
+    record { is = expected_is c.args.expected of.header header c.in-Some.body.now _ of.is ((c.is_met_by.ensures.met of.header of.is).0 c.if-not-is_met_by.false) taken.0; left = taken.1 }

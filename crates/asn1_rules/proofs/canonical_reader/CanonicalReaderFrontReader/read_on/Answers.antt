@@ -42,6 +42,17 @@ returns-in-None-clause-read g c = λ came. record {
       ),
     ),
   );
+  is_read = (
+    (c.in_ok-value.ensures.read came).is_read,
+    (
+      c.args.self.now.depth,
+      record {
+        output = c.in-Ok.output;
+        has_bytes = sym c.deref.ensures.value ∙ sym c.in-None.ensures.first;
+        written = c.in-Ok.ensures;
+      },
+    ),
+  );
   as_written = λ v n front. (c.in_ok-value.ensures.read came).as_written v n front.front;
 }
 

@@ -1,10 +1,11 @@
-use Rattle.std.proofs.Common.{◌++◌}
+use Rattle.std.proofs.Common.{◌++◌, subst}
 use Rattle.asn1_items.specs.Headers.{is_one_item}
 use Rattle.asn1_model.specs.Meaning.{own_records}
 use Rattle.asn1_model.specs.WellFormed.{well_formed_append}
 use Rattle.asn1_bench.proofs.RemainingItems.{is_form}
 use Rattle.asn1_bench.specs.Carried.{CarriesWith}
 use Rattle.asn1_items.proofs.DecodeStates.{records_are_not_the_end}
+use Rattle.asn1_rules.proofs.Readings.{answer_is_read_too}
 use Rattle.asn1_tagform.specs.Next.{no_marks}
 use Rattle.asn1_tagform.proofs.rules.TagRulesRules.read_value.Goals as goal
 
@@ -28,3 +29,8 @@ returns-clause-none_left g c = λ v rest can of_type valid well some carries.
     let own = m.well_formed (λ own. is_one_item own) v m.tag m.constraints m.name valid in
     let both = well_formed_append (λ own. is_one_item own) (own_records m v) rest own well in
     c.read_whole.ensures.none_left v rest can of_type valid (c.new-decoder.ensures.before rs carried both) (λ d. records_are_not_the_end (is_form no_marks) (λ d. d.state) d rest some)
+
+pub returns-clause-only : goal.returns-clause-only
+returns-clause-only g c =
+    answer_is_read_too _ (CarriesWith no_marks c.args.output.now.items) g.T.AsnType.meaning
+    (λ rs at. subst (λ bytes. CarriesWith no_marks bytes rs) c.as_slice.ensures.value (c.new-decoder.ensures.only rs at)) c.read_whole.result c.read_whole.ensures.only

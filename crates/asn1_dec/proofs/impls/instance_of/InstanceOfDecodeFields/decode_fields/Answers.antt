@@ -1,4 +1,4 @@
-use Rattle.std.proofs.Common.{◌++◌, inl, refl, sym, subst, arith}
+use Rattle.std.proofs.Common.{◌++◌, [], append-nil, inl, refl, sym, subst, arith}
 use Rattle.std.specs.Prelude.{Some, codes}
 use Rattle.std.proofs.lemmas.Bool.{and_from}
 use Rattle.std.proofs.lemmas.Result.{err_from_is_err_and}
@@ -7,6 +7,7 @@ use Rattle.asn1_model.specs.Composites.{explicit_tag_records}
 use Rattle.asn1_model.specs.Kinds.{object_identifier}
 use Rattle.asn1_model.specs.Meaning.{own_records}
 use Rattle.asn1_model.specs.Tags.{context}
+use Rattle.asn1_laws.proofs.ReadingWhole.{both_were_read}
 use Rattle.asn1_laws.proofs.TwoComponents.{highest_of_two, one_then_other}
 use Rattle.asn1_dec.proofs.impls.instance_of.InstanceOfDecodeFields.decode_fields.Goals as goal
 
@@ -41,3 +42,8 @@ returns-clause-read g c = λ v rest outer can of_type valid ends at.
       at = s.at;
       within_depth_left = omega (arith, r.within_depth_left, s.within_depth_left, highest_of_two rs ss, c.in_ok-type_id.ensures.after_reading.same_depth);
     }
+
+pub returns-clause-only : goal.returns-clause-only
+returns-clause-only g c =
+    both_were_read g.D.Decoder.reader c.args.decoder.now c.decode.new.decoder c.decode_explicit_prefix.new.self _ _ _
+    (λ rs ss id value. (rs, ss, id, (ss, [], value, refl, sym (append-nil ss)), refl)) c.in_ok-type_id.ensures.only c.in_ok-value.ensures.only

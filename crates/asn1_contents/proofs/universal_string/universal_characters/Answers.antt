@@ -1,7 +1,7 @@
 use Rattle.std.proofs.Common.{ap, ◌∙◌}
-use Rattle.asn1_certificate_reader.specs.Units.{universal_characters}
-use Rattle.asn1_certificate_reader.proofs.UnitByUnit.{before, one_character, rest_is}
-use Rattle.asn1_certificate_reader.proofs.units.universal_characters.Goals as goal
+use Rattle.asn1_contents.specs.UniversalStrings.{universal_characters}
+use Rattle.asn1_contents.proofs.CharactersOfOctets.{before, one_character, rest_is}
+use Rattle.asn1_contents.proofs.universal_string.universal_characters.Goals as goal
 
 pub loop-left-preserved : goal.loop-left-preserved
 loop-left-preserved c = record {

@@ -1,0 +1,5 @@
+use Rattle.asn1_model.specs.Records.{in_additions}
+use Rattle.asn1_bench.proofs.decoder.ItemDecoderDecoder.addition_presence.Goals as goal
+
+pub returns-clause-only : goal.returns-clause-only
+returns-clause-only g c = c.tell_presence.ensures.only in_additions c.args._tag
