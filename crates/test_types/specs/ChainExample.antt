@@ -64,7 +64,7 @@ chain_pick k (link next count) = inr (inl (next, count))
 
 pub chain_agrees : (k : Tag) (v : Chain) → MeansTheSame (chain_means k v).meaning (chosen_meaning (all_of (chain_alternatives k)) (chain_pick k v))
 chain_agrees k end = means_itself
-chain_agrees k (link next count) = record { records = refl; of_type = (λ h. h, λ h. h); valid = λ _. (λ h. h, λ h. h) }
+chain_agrees k (link next count) = record { records = refl; read = λ _. (λ h. h, λ h. h); of_type = (λ h. h, λ h. h); valid = λ _. (λ h. h, λ h. h) }
 
 -- The meaning of a chain.
 abbrev pub chain_meaning : Tag → Meaning Chain
