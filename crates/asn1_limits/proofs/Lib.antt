@@ -1,0 +1,2 @@
+mod FirstExceptions
+mod ReadingWithin

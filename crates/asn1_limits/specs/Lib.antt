@@ -1,0 +1,4 @@
+pub mod Facets
+pub mod FacetLaws
+pub mod LimitTables
+pub mod LimitedTypes
