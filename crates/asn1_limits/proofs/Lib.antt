@@ -1,2 +1,3 @@
 mod FirstExceptions
+mod GrowingSizes
 mod ReadingWithin

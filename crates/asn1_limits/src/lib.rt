@@ -6,6 +6,7 @@ mod constrainable;
 mod conversions;
 mod decode;
 mod encode;
+pub mod laws;
 mod markers;
 mod restriction;
 mod table_admits;

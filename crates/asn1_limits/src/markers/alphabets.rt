@@ -50,7 +50,7 @@ impl<T: HasCharacters, C: CharacterList> Restriction<T> for Letters<C> {
     }
 
     fn is_in_root(value: &T) -> bool {
-        Self::first_except(value).is_none()
+        Self::admits(value)
     }
 
     fn constrain(table: ConstraintTable<'static>) -> ConstraintTable<'static> {

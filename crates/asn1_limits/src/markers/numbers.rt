@@ -25,7 +25,7 @@ impl<T: HasNumber, const S: i64, const E: i64> Restriction<T> for Between<S, E> 
     }
 
     fn is_in_root(value: &T) -> bool {
-        value.has_number_in(Bounded::const_new(i128::from(S), i128::from(E)))
+        Self::admits(value)
     }
 
     fn constrain(table: ConstraintTable<'static>) -> ConstraintTable<'static> {
@@ -64,7 +64,7 @@ impl<T: HasNumber, const S: i64> Restriction<T> for NumbersFrom<S> {
     }
 
     fn is_in_root(value: &T) -> bool {
-        value.has_number_in(Bounded::start_from(i128::from(S)))
+        Self::admits(value)
     }
 
     fn constrain(table: ConstraintTable<'static>) -> ConstraintTable<'static> {
@@ -100,7 +100,7 @@ impl<T: HasNumber, const E: i64> Restriction<T> for NumbersUpTo<E> {
     }
 
     fn is_in_root(value: &T) -> bool {
-        value.has_number_in(Bounded::up_to(i128::from(E)))
+        Self::admits(value)
     }
 
     fn constrain(table: ConstraintTable<'static>) -> ConstraintTable<'static> {
@@ -138,7 +138,7 @@ impl<T: HasNumber, L: Limits> Restriction<T> for LimitsOf<L> {
     }
 
     fn is_in_root(value: &T) -> bool {
-        value.has_number_in(Bounded::const_new(L::start(), L::end()))
+        Self::admits(value)
     }
 
     fn constrain(table: ConstraintTable<'static>) -> ConstraintTable<'static> {

@@ -26,7 +26,7 @@ impl<T: HasSize, const A: usize, const B: usize> Restriction<T> for Sizes<A, B> 
     }
 
     fn is_in_root(value: &T) -> bool {
-        value.has_size_in(Bounded::const_new(A, B))
+        Self::admits(value)
     }
 
     fn constrain(table: ConstraintTable<'static>) -> ConstraintTable<'static> {
@@ -62,7 +62,7 @@ impl<T: HasSize, const A: usize> Restriction<T> for SizesFrom<A> {
     }
 
     fn is_in_root(value: &T) -> bool {
-        value.has_size_in(Bounded::start_from(A))
+        Self::admits(value)
     }
 
     fn constrain(table: ConstraintTable<'static>) -> ConstraintTable<'static> {

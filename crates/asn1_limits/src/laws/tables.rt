@@ -1,0 +1,20 @@
+//! What tables allow.
+ghost use Rattle.asn1_limits.specs.LimitTables.{IsAllowedBy, IsInRootOf};
+
+use crate::constrainable::Constrainable;
+use crate::table_admits::TableAdmits;
+use crate::within::Within;
+use asn1_model::AsnType;
+
+/// A law of tables: that of a type within limits allows each value of the type, and its root has each value in the root of the
+/// limits, if that is so of the type itself.
+pub fn tables_allow_what_is_within<T: AsnType + Constrainable, L: TableAdmits<T>>(
+    value: &Within<T, L>,
+)
+    ensures allowed { IsAllowedBy T.meaning.constraints (T.facets value.now) →
+        IsAllowedBy ⟦<Within<T, L> as AsnType>⟧.meaning.constraints (T.facets value.now) }
+    ensures root { L.IsInRoot value.now → IsInRootOf T.meaning.constraints (T.facets value.now) →
+        IsInRootOf ⟦<Within<T, L> as AsnType>⟧.meaning.constraints (T.facets value.now) }
+{
+    let _value = value.get();
+}
