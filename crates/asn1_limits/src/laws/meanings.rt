@@ -3,8 +3,10 @@ ghost use Rattle.std.specs.Prelude.{◌≡◌, ◌↔◌, ℕ, Bool, List};
 ghost use Rattle.asn1_laws.specs.Refusals.{RefuseTheSame};
 ghost use Rattle.asn1_limits.specs.LimitedTypes.{refusals_outside};
 ghost use Rattle.asn1_model.specs.ConstraintSets.{ConstraintSet};
+ghost use Rattle.asn1_model.specs.DistinctSets.{SetsAreDistinct};
 ghost use Rattle.asn1_model.specs.Meaning.{IsWellTaggedUnder};
 ghost use Rattle.asn1_model.specs.Records.{Name, Record};
+ghost use Rattle.asn1_model.specs.WrittenAlike.{AreWrittenAlike};
 ghost use Rattle.asn1_tags.specs.declared.tags.Tag.{Tag};
 
 use crate::restriction::Restriction;
@@ -15,7 +17,8 @@ use std::fmt::{Debug, Display};
 use std::hash::Hash;
 
 /// A law of meaning: a value within limits has the records of the value, is read of the records that the value is read of, and is
-/// valid if that is. It is of the type if the value is and the limits admit it.
+/// valid if that is. It is of the type if the value is and the limits admit it. Its type has one spelling for equal values if that of
+/// the value has (`alike`, `distinct`).
 pub fn types_within_limits_mean_what_they_hold<T: AsnType + PartialEq, L: Restriction<T>>()
     ensures records { (v : T) (t : Tag) (c : ConstraintSet) (n : Name) →
         ⟦<Within<T, L> as AsnType>⟧.meaning.records v t c n ≡ T.meaning.records v t c n }
@@ -31,6 +34,10 @@ pub fn types_within_limits_mean_what_they_hold<T: AsnType + PartialEq, L: Restri
         (T.meaning.IsOfType v × L.IsWithin v) }
     ensures valid { (accepts : List ℕ → Bool) (v : T) →
         ⟦<Within<T, L> as AsnType>⟧.meaning.IsValid accepts v ↔ T.meaning.IsValid accepts v }
+    ensures alike { AreWrittenAlike T.meaning T.eq →
+        AreWrittenAlike ⟦<Within<T, L> as AsnType>⟧.meaning ⟦<Within<T, L> as PartialEq>⟧.eq }
+    ensures distinct { SetsAreDistinct T.meaning →
+        SetsAreDistinct ⟦<Within<T, L> as AsnType>⟧.meaning }
 {}
 
 /// A law of the derives: values within limits are compared, ordered, hashed and shown as the values.
