@@ -27,7 +27,7 @@ LAYERS = [
     [("bytes", ["asn1_tagform", "asn1_bench", "asn1_buffers", "asn1_items"]),
      ("DER", ["asn1_der*", "asn1_elements"]),
      ("BER", ["asn1_ber*"])],
-    [("codecs", ["asn1_schema", "asn1_rules", "asn1_tables", "asn1_open", "asn1_circles", "asn1_nesting", "asn1_slots|asn1_spelling", "asn1_enc",
+    [("codecs", ["asn1_schema", "asn1_rules", "asn1_tables", "asn1_open|asn1_limits", "asn1_circles", "asn1_nesting", "asn1_slots|asn1_spelling", "asn1_enc",
                  "asn1_dec", "asn1_laws"])],
     [("types", ["asn1_types", "asn1_components", "asn1_fields", "asn1_model"])],
     [("values", ["asn1_values", "asn1_integers", "asn1_strings", "asn1_tags", "asn1_bounds", "asn1_ranges"])],

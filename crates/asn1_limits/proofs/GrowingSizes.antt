@@ -1,5 +1,5 @@
 -- The sizes of a value that has each from one on (X.680, 22.7).
-use Rattle.std.proofs.Common.{◌↔◌, ℕ, ◌+◌, ◌≤◌, ℤ, pos, ◌≤ℤ◌, None, Some, arith}
+use Rattle.std.proofs.Common.{◌↔◌, ℕ, ◌+◌, ◌≤◌, pos, ◌≤ℤ◌, None, Some, arith}
 use Rattle.std.proofs.lemmas.Int.{ints}
 use Rattle.asn1_ranges.specs.declared.bounded.Bounded.TheVariants.{Range}
 use Rattle.asn1_limits.specs.Facets.{HasSizeIn, growing}
