@@ -69,7 +69,7 @@ module _ {D V : Type 0} (R : Reader D) (m : Meaning V) (IsWithin : V → Type 0)
     failed_before = λ single failed. let same = leaves.failed_before single failed in cc;
   })
 
-  -- What was read is read as the value within the limits.
+  -- The records that were read are read as the value within the limits.
   pub was_read_within : (answer result : Result V DecodeError) → IsPassedIfWithin IsWithin answer result →
       IfOk answer (HasReadValue R old new m t c) → IfOk result (HasReadValue R old new (limited_type IsWithin constrained m) t c)
   was_read_within (Ok w) (Ok x) passed only = subst (λ y. HasReadValue R old new m t c y) (sym passed.0) only
@@ -86,7 +86,7 @@ module _ {D V : Type 0} (R : Reader D) (m : Meaning V) (IsWithin : V → Type 0)
         | false ↦ λ not_failed. not_failed
       ] refl
 
-  -- What the type refuses is refused, and so are its values outside the limits, behind which the decoder is then.
+  -- The refusals of the type are refused, and so are its values outside the limits; the decoder is then after them.
   pub refuses_within : (refusals : Refusals) (answer result : Result V DecodeError) → IsPassedIfWithin IsWithin answer result →
       ReadsValue R m eq t c old new answer → AfterReading R m t c old new answer → Refuses R refusals t c old new answer →
       Refuses R (refusals_outside m IsWithin refusals) t c old new result

@@ -1,4 +1,4 @@
--- What constraints see of a value (X.680, 51).
+-- The facets of a value that constraints see (X.680, 51).
 use Rattle.std.specs.Prelude.{ℕ, ℤ, ◌≤◌, List, [], Option, None, Some, IsSomeAnd}
 use Rattle.std.specs.List.{AllPass}
 use Rattle.asn1_bounds.specs.Admitted.{HasLength, HasValue}
@@ -10,8 +10,8 @@ pub data Extent : Type 0 where
   exactly : ℕ → Extent
   at_least : ℕ → Extent
 
--- Its sizes, if its type has any: how many elements, bits, octets or characters there are. Its number, if it is one. Its characters,
--- by their numbers.
+-- The sizes of a value, if its type has any: how many elements, bits, octets or characters there are. Its number, if it is one. Its
+-- characters, by their numbers.
 pub record Facets : Type 0 where
   pub extent : Option Extent
   pub number : Option ℤ

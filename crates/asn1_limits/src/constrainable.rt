@@ -7,7 +7,7 @@ use asn1_bounds::Bounded;
 
 /// A type of which constraints see the sizes, the number or the characters of each value.
 pub trait Constrainable: PartialEq {
-    // What constraints see of a value.
+    // The facets of a value that constraints see.
     ghost facets: { Self → Facets };
 
     // The law: they see the same of equal values.

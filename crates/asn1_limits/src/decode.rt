@@ -8,7 +8,7 @@ use asn1_dec::{Decode, DecodeError, Decoder};
 use asn1_tags::Tag;
 
 impl<T: Decode, L: Restriction<T>> Decode for Within<T, L> {
-    // What the type refuses, and its values outside the limits.
+    // The refusals of the type, and its values outside the limits.
     ghost refusals = { refusals_outside T.meaning L.IsWithin T.refusals };
 
     /// Reads a value under a tag and constraints. One that is outside the limits is read, and the error is

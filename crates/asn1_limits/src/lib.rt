@@ -33,8 +33,8 @@
 //! - [`Letters::first_except`] names the first character that the alphabet lacks.
 //! - A table excludes no value within the limits (`laws::tables_allow_what_is_within`), of every marker but [`Stated`].
 //!
-//! A limit stands outside an implicit tag, whose own table has no constraints, and inside an explicit one. FROM takes memory
-//! for the alphabet at each call that writes or reads a value, as each table with an alphabet does.
+//! A limit goes outside an implicit tag, whose own table has no constraints, and inside an explicit one. FROM takes memory for the
+//! alphabet at each call that writes or reads a value, as each table with an alphabet does.
 #![tactic(auto)]
 
 mod asn_type;

@@ -1,4 +1,4 @@
-//! What a constraint admits.
+//! Constraints by the values that they admit.
 ghost use Rattle.std.specs.Prelude.{◌≡◌, ◌↔◌, IsTrue, true};
 ghost use Rattle.asn1_model.specs.ConstraintSets.{ConstraintSet, table_constraints};
 
@@ -6,8 +6,7 @@ use asn1_bounds::ConstraintTable;
 
 /// The values of a type that a constraint admits (X.680, 50 and 51), as a marker: a type without values of its own.
 ///
-/// A constraint with an extension marker admits also what a later version may admit (52), so the values in its root are told
-/// apart from those that it admits.
+/// A constraint with an extension marker also admits the values that a later version may add (52), so its root is a test of its own.
 pub trait Restriction<T: PartialEq> {
     // The value is admitted.
     ghost IsWithin: { T → Type 0 };

@@ -1,4 +1,4 @@
-//! What constraints see of the values of each type.
+//! The facets of the values of each type that constraints see.
 ghost use Rattle.std.specs.Prelude.{◌≡◌, ℕ, ℤ, pos, Bool, List, Vec, length, map};
 ghost use Rattle.std.specs.Str.{chars};
 ghost use Rattle.std.specs.String.{string_bytes};

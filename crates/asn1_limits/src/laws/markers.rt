@@ -1,4 +1,4 @@
-//! What markers admit, in the words of the notation, what their roots have, and what they state in tables.
+//! Markers, by the values that they admit, their roots and their tables.
 ghost use Rattle.std.specs.Prelude.{◌≡◌, ◌↔◌, ◌⊎◌, ◌≤◌, ◌≤ℤ◌, ℕ, ℤ, Bool, List, None, Some, length};
 ghost use Rattle.asn1_limits.specs.Facets.{HasOnly};
 ghost use Rattle.asn1_limits.specs.LimitTables.{with_characters, with_marker, with_numbers, with_sizes};
@@ -16,7 +16,7 @@ use asn1_types::SetOf;
 use asn1_values::{Between, Integer, Limits, NamedBitString, OctetString};
 
 /// A law of SIZE (X.680, 51.5): a set and an OCTET STRING are admitted if their length is not below the start, and not above the end.
-/// Of named bits the end alone binds (22.7), unless the start is above it. All that is admitted is in the root, and a table states both
+/// The end alone binds named bits (22.7), unless the start is above it. Every admitted value is in the root, and a table states both
 /// ends.
 pub fn sizes_are_admitted_between_their_ends<
     I: PartialEq,
@@ -44,7 +44,7 @@ pub fn sizes_are_admitted_between_their_ends<
         ⟦<SizesFrom<A> as Restriction<T>>⟧.constrained set ≡ with_sizes (Range (Some A) None) set }
 {}
 
-/// A law of ranges (X.680, 51.4): a whole number is admitted if it is not below the start, and not above the end. All that is admitted
+/// A law of ranges (X.680, 51.4): a whole number is admitted if it is not below the start, and not above the end. Every admitted number
 /// is in the root, and a table states both ends.
 pub fn numbers_are_admitted_between_their_ends<
     L: Limits,
@@ -80,7 +80,7 @@ pub fn numbers_are_admitted_between_their_ends<
         with_numbers (Range (Some L.start) (Some L.end)) set }
 {}
 
-/// A law of FROM (X.680, 51.7): a string is admitted if each of its characters is in the list. All that is admitted is in the root,
+/// A law of FROM (X.680, 51.7): a string is admitted if each of its characters is in the list. Every admitted string is in the root,
 /// and a table states the list.
 pub fn letters_admit_strings_of_their_characters<T: HasCharacters, C: CharacterList>()
     ensures within { (v : T) → ⟦<Letters<C> as Restriction<T>>⟧.IsWithin v ↔

@@ -1,4 +1,4 @@
-//! What tables allow.
+//! Tables of types within limits.
 ghost use Rattle.asn1_limits.specs.LimitTables.{IsAllowedBy, IsInRootOf};
 
 use crate::constrainable::Constrainable;
@@ -6,8 +6,8 @@ use crate::table_admits::TableAdmits;
 use crate::within::Within;
 use asn1_model::AsnType;
 
-/// A law of tables: that of a type within limits allows each value of the type, and its root has each value in the root of the
-/// limits, if that is so of the type itself.
+/// A law of tables: if a type's own table allows a value within limits, so does the table with the constraints of the limits. The same
+/// is true of the tables' roots and a value in the root of the limits.
 pub fn tables_allow_what_is_within<T: AsnType + Constrainable, L: TableAdmits<T>>(
     value: &Within<T, L>,
 )

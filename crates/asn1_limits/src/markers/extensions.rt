@@ -48,8 +48,9 @@ impl<T: Constrainable, L: TableAdmits<T>> TableAdmits<T> for WithMarker<L> {
     ghost has_root = { λ set v root has. marker_in_root (L.constrained set) (T.facets v) (L.has_root set v root has) };
 }
 
-/// A constraint that a table states, and a value need not keep, for who has to read what breaks it. A value that keeps it is in the
-/// root. So a table may exclude a value that is admitted, and no codec whose bits come from the table can write that.
+/// A constraint that a table states and a value need not keep, for a reader of values that break it. Every value is admitted; those
+/// in the root of `L` are in the root. The table may exclude an admitted value, and a codec whose bits come from the table (X.691)
+/// cannot write that one.
 #[derive(Drop)]
 pub struct Stated<L> {
     stated: PhantomData<L>,

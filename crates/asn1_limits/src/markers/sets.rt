@@ -8,8 +8,8 @@ use crate::table_admits::TableAdmits;
 use asn1_bounds::ConstraintTable;
 use std::marker::PhantomData;
 
-/// What both admit: `L INTERSECTION M`, or `M` on a type that has `L`. In a table the constraints of `M` take the place of those
-/// of `L` of the same kind.
+/// The values that both admit: `L INTERSECTION M`, or `M` on a type that has `L`. In a table the constraints of `M` take the place of
+/// those of `L` of the same kind.
 #[derive(Drop)]
 pub struct And<L, M> {
     first: PhantomData<L>,
@@ -48,8 +48,8 @@ impl<T: Constrainable, L: TableAdmits<T>, M: TableAdmits<T>> TableAdmits<T> for 
     ghost has_root = { λ set v root has. M.has_root (L.constrained set) v root.1 (L.has_root set v root.0 has) };
 }
 
-/// What one of both admits: `L UNION M`. A table has no constraints for it; an intersection with a range around both states that
-/// range.
+/// The values that one of both admits: `L UNION M`. A table has no constraints for it; an intersection with a range around both
+/// states that range.
 #[derive(Drop)]
 pub struct Or<L, M> {
     first: PhantomData<L>,
@@ -88,7 +88,7 @@ impl<T: Constrainable, L: Restriction<T>, M: Restriction<T>> TableAdmits<T> for 
     ghost has_root = { λ set v root has. has };
 }
 
-/// What the first admits, but for the root of the second: `L EXCEPT M`. A table has the constraints of the first.
+/// The values that the first admits, but for the root of the second: `L EXCEPT M`. A table has the constraints of the first.
 #[derive(Drop)]
 pub struct Except<L, M> {
     first: PhantomData<L>,
@@ -127,7 +127,7 @@ impl<T: Constrainable, L: TableAdmits<T>, M: Restriction<T>> TableAdmits<T> for 
     ghost has_root = { λ set v root. L.has_root set v root.0 };
 }
 
-/// Every value: what `ALL EXCEPT` excludes from, and a constraint of which only a table is of interest.
+/// Every value: the first of an `Except` for `ALL EXCEPT M`. A table has no constraints for it.
 #[derive(Drop)]
 pub enum Anything {}
 

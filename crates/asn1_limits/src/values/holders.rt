@@ -1,4 +1,4 @@
-//! What holds a value: a value under a tag, and one within limits.
+//! Values that hold others: a value under a tag, and one within limits.
 use crate::constrainable::{Constrainable, HasCharacters, HasNumber, HasSize};
 use crate::restriction::Restriction;
 use crate::within::Within;
