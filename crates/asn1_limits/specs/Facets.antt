@@ -1,9 +1,8 @@
 -- The facets of a value that constraints see (X.680, 51).
-use Rattle.std.specs.Prelude.{ℕ, ℤ, ◌≤◌, List, [], Option, None, Some, IsSomeAnd}
+use Rattle.std.specs.Prelude.{ℕ, ℤ, ◌≤◌, Bool, List, [], Option, None, Some, IsSomeAnd}
 use Rattle.std.specs.List.{AllPass}
 use Rattle.asn1_bounds.specs.Admitted.{HasLength, HasValue}
 use Rattle.asn1_ranges.specs.declared.bounded.Bounded.{Bounded}
-use Rattle.asn1_values.specs.Alphabets.{is_among}
 
 -- The sizes that a value has (51.5): one, or each from one on, as named bits have, behind which 0 bits mean nothing (22.7).
 pub data Extent : Type 0 where
@@ -30,9 +29,9 @@ HasSizeIn sizes f = IsSomeAnd f.extent (HasExtentIn sizes)
 abbrev pub HasNumberIn : Bounded ℤ → Facets → Type 0
 HasNumberIn numbers f = IsSomeAnd f.number (HasValue numbers)
 
--- each character of the value is one of these (51.7)
-abbrev pub HasOnly : List ℕ → Facets → Type 0
-HasOnly permitted f = AllPass (is_among permitted) f.characters
+-- each character of the value passes the test of an alphabet (51.7)
+abbrev pub HasOnly : (ℕ → Bool) → Facets → Type 0
+HasOnly allows f = AllPass allows f.characters
 
 -- a value of this size
 abbrev pub sized : ℕ → Facets

@@ -1,4 +1,5 @@
-pub mod Facets
+pub mod CharacterRanges
 pub mod FacetLaws
+pub mod Facets
 pub mod LimitTables
 pub mod LimitedTypes

@@ -3,6 +3,7 @@ use Rattle.std.specs.Prelude.{◌≡◌, ◌⊎◌, ℕ, ℤ, true, List, None, 
 use Rattle.std.proofs.Common.{inl, inr}
 use Rattle.asn1_ranges.specs.declared.bounded.Bounded.{Bounded}
 use Rattle.asn1_model.specs.ConstraintSets.{ConstraintSet}
+use Rattle.asn1_values.specs.Alphabets.{is_among}
 use Rattle.asn1_limits.specs.Facets.{Facets, HasNumberIn, HasOnly, HasSizeIn}
 
 -- the constraints, with these sizes in the place of theirs (X.680, 51.5)
@@ -25,7 +26,7 @@ with_marker set = record set { extensible = true }
 pub record IsInRootOf (set : ConstraintSet) (f : Facets) : Type 0 where
   pub size : IfSome set.size (λ part. HasSizeIn part.root.bound f)
   pub number : IfSome set.value (λ part. HasNumberIn part.root.bound f)
-  pub characters : IfSome set.permitted_alphabet (λ part. HasOnly part.root f)
+  pub characters : IfSome set.permitted_alphabet (λ part. HasOnly (is_among part.root) f)
 
 -- The constraints allow the value: they have the extension marker, or their root has it.
 abbrev pub IsAllowedBy : ConstraintSet → Facets → Type 0
@@ -38,7 +39,7 @@ module _ (set : ConstraintSet) (f : Facets) where
   pub numbers_in_root : (numbers : Bounded ℤ) → HasNumberIn numbers f → IsInRootOf set f → IsInRootOf (with_numbers numbers set) f
   numbers_in_root numbers within root = record { size = root.size; number = within; characters = root.characters }
 
-  pub characters_in_root : (permitted : List ℕ) → HasOnly permitted f → IsInRootOf set f → IsInRootOf (with_characters permitted set) f
+  pub characters_in_root : (permitted : List ℕ) → HasOnly (is_among permitted) f → IsInRootOf set f → IsInRootOf (with_characters permitted set) f
   characters_in_root permitted within root = record { size = root.size; number = root.number; characters = within }
 
   pub sizes_allowed : (sizes : Bounded ℕ) → HasSizeIn sizes f → IsAllowedBy set f → IsAllowedBy (with_sizes sizes set) f
@@ -47,7 +48,7 @@ module _ (set : ConstraintSet) (f : Facets) where
   pub numbers_allowed : (numbers : Bounded ℤ) → HasNumberIn numbers f → IsAllowedBy set f → IsAllowedBy (with_numbers numbers set) f
   numbers_allowed numbers within allowed = elim allowed [ inl marked ↦ inl marked | inr root ↦ inr (numbers_in_root numbers within root) ]
 
-  pub characters_allowed : (permitted : List ℕ) → HasOnly permitted f → IsAllowedBy set f → IsAllowedBy (with_characters permitted set) f
+  pub characters_allowed : (permitted : List ℕ) → HasOnly (is_among permitted) f → IsAllowedBy set f → IsAllowedBy (with_characters permitted set) f
   characters_allowed permitted within allowed =
       elim allowed [ inl marked ↦ inl marked | inr root ↦ inr (characters_in_root permitted within root) ]
 

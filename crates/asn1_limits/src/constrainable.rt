@@ -1,9 +1,9 @@
 //! Types whose values constraints can tell apart (X.680, 51).
 ghost use Rattle.std.specs.Prelude.{◌≡◌, ◌↔◌, IsTrue, not, position, true};
 ghost use Rattle.asn1_limits.specs.Facets.{Facets, HasNumberIn, HasSizeIn};
-ghost use Rattle.asn1_values.specs.Alphabets.{is_among};
 
 use asn1_bounds::Bounded;
+use asn1_values::Alphabet;
 
 /// A type of which constraints see the sizes, the number or the characters of each value.
 pub trait Constrainable: PartialEq {
@@ -30,8 +30,7 @@ pub trait HasNumber: Constrainable {
 
 /// A type whose values have characters (X.680, 51.7).
 pub trait HasCharacters: Constrainable {
-    /// The index of the first character that is none of these, if there is one.
-    fn first_except(&self, permitted: &[u32]) -> Option<usize>
-        ensures { result ≡ position (λ c. not (is_among permitted.now c))
-            (Self.facets self.now).characters };
+    /// The index of the first character that the alphabet lacks, if there is one.
+    fn first_except<A: Alphabet<u32>>(&self) -> Option<usize>
+        ensures { result ≡ position (λ c. not (A.allows c)) (Self.facets self.now).characters };
 }

@@ -6,7 +6,7 @@
 //! | [`Restriction`] | what a constraint admits, as a marker: a type without values | |
 //! | [`Sizes`], [`SizesFrom`] | SIZE (51.5) | `Facets` |
 //! | `Between` of asn1_values, [`NumbersFrom`], [`NumbersUpTo`], [`LimitsOf`] | ranges of whole numbers (51.4) | `Facets` |
-//! | [`Letters`], [`CharacterList`] | FROM (51.7) | `Facets` |
+//! | [`Letters`], [`LetterRanges`] | FROM (51.7), by a [`CharacterList`] or by [`CharacterRanges`] | `Facets`, `CharacterRanges` |
 //! | [`And`], [`Or`], [`Except`], [`Anything`] | INTERSECTION, UNION, EXCEPT (50), and what ALL EXCEPT excludes from | |
 //! | [`WithMarker`], [`Stated`] | a constraint with an extension marker (52), and one that only tables state | |
 //! | [`Constrainable`], [`HasSize`], [`HasNumber`], [`HasCharacters`] | the types that limits can be put on | `Facets`, `FacetLaws` |
@@ -30,7 +30,8 @@
 //! - A value within limits means what the value means; the table has the constraints of the limits
 //!   (`laws::types_within_limits_mean_what_they_hold`). It is written as the value, without a test. Reading answers
 //!   `OutOfRange` to the records of a value outside (`refuses`), and an equal value to those of every other (`read`).
-//! - [`Letters::first_except`] names the first character that the alphabet lacks.
+//! - [`first_character_except`] names the first character that an alphabet lacks (`first`); it names none if and only if the
+//!   alphabet has all (`none`).
 //! - A table excludes no value within the limits (`laws::tables_allow_what_is_within`), of every marker but [`Stated`].
 //!
 //! A limit goes outside an implicit tag, whose own table has no constraints, and inside an explicit one. FROM takes memory for the
@@ -52,7 +53,9 @@ mod values;
 mod within;
 
 pub use constrainable::{Constrainable, HasCharacters, HasNumber, HasSize};
-pub use markers::alphabets::{CharacterList, Letters};
+pub use markers::alphabets::{
+    CharacterList, CharacterRange, CharacterRanges, LetterRanges, Letters, first_character_except,
+};
 pub use markers::extensions::{Stated, WithMarker};
 pub use markers::numbers::{LimitsOf, NumbersFrom, NumbersUpTo};
 pub use markers::sets::{And, Anything, Except, Or};

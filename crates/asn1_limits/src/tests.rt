@@ -3,7 +3,7 @@ ghost use Rattle.std.specs.Prelude.{codes};
 
 use crate::{
     And, CharacterList, Except, Letters, LimitsOf, NumbersFrom, Or, Sizes, Stated, WithMarker,
-    Within,
+    Within, first_character_except,
 };
 use asn1_values::{Between, BitVec, Ia5String, Integer, Limits, NamedBitString, OctetString};
 use std::test::Fail;
@@ -57,7 +57,7 @@ fn numbers_and_roots_are_told(rt: HostRuntime) {
 #[test]
 fn characters_are_counted_and_named(rt: HostRuntime) -> Result<(), Fail> {
     let text = Ia5String::new(Vec::from_slice(rt.alloc(), b"abdc")?);
-    assert!(rt; text.is_ok_and(|text| Letters::<Abc>::first_except(&text) == Some(2)));
+    assert!(rt; text.is_ok_and(|text| first_character_except::<_, Letters<Abc>>(&text) == Some(2)));
     let two = format!(in rt.alloc(); "\u{e9}\u{20ac}")?;
     assert!(rt; Within::<String, Sizes<2, 2>>::new(two).is_some());
     let bits = BitVec::from_octets(Vec::from_slice(rt.alloc(), &[0x20])?, 0);

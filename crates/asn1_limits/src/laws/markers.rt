@@ -1,19 +1,21 @@
 //! Markers, by the values that they admit, their roots and their tables.
 ghost use Rattle.std.specs.Prelude.{◌≡◌, ◌↔◌, ◌⊎◌, ◌≤◌, ◌≤ℤ◌, ℕ, ℤ, Bool, List, None, Some, length};
+ghost use Rattle.asn1_limits.specs.CharacterRanges.{is_in_ranges};
 ghost use Rattle.asn1_limits.specs.Facets.{HasOnly};
 ghost use Rattle.asn1_limits.specs.LimitTables.{with_characters, with_marker, with_numbers, with_sizes};
 ghost use Rattle.asn1_model.specs.ConstraintSets.{ConstraintSet};
+ghost use Rattle.asn1_values.specs.Alphabets.{is_among};
 ghost use Rattle.asn1_ranges.specs.declared.bounded.Bounded.TheVariants.{Range};
 
 use crate::constrainable::{HasCharacters, HasNumber, HasSize};
-use crate::markers::alphabets::{CharacterList, Letters};
+use crate::markers::alphabets::{CharacterList, CharacterRanges, LetterRanges, Letters};
 use crate::markers::extensions::{Stated, WithMarker};
 use crate::markers::numbers::{LimitsOf, NumbersFrom, NumbersUpTo};
 use crate::markers::sets::{And, Anything, Except, Or};
 use crate::markers::sizes::{Sizes, SizesFrom};
 use crate::restriction::Restriction;
 use asn1_types::SetOf;
-use asn1_values::{Between, Integer, Limits, NamedBitString, OctetString};
+use asn1_values::{Alphabet, Between, Integer, Limits, NamedBitString, OctetString};
 
 /// A law of SIZE (X.680, 51.5): a set and an OCTET STRING are admitted if their length is not below the start, and not above the end.
 /// The end alone binds named bits (22.7), unless the start is above it. Every admitted value is in the root, and a table states both
@@ -80,15 +82,28 @@ pub fn numbers_are_admitted_between_their_ends<
         with_numbers (Range (Some L.start) (Some L.end)) set }
 {}
 
-/// A law of FROM (X.680, 51.7): a string is admitted if each of its characters is in the list. Every admitted string is in the root,
-/// and a table states the list.
-pub fn letters_admit_strings_of_their_characters<T: HasCharacters, C: CharacterList>()
+/// A law of FROM (X.680, 51.7): a string is admitted if each of its characters is in the list, or in one of the ranges. Every admitted
+/// string is in the root, and a table states the list.
+pub fn letters_admit_strings_of_their_characters<
+    T: HasCharacters,
+    C: CharacterList,
+    R: CharacterRanges,
+>()
     ensures within { (v : T) → ⟦<Letters<C> as Restriction<T>>⟧.IsWithin v ↔
-        HasOnly C.list (T.facets v) }
+        HasOnly (is_among C.list) (T.facets v) }
     ensures root { (v : T) → ⟦<Letters<C> as Restriction<T>>⟧.IsInRoot v ↔
-        HasOnly C.list (T.facets v) }
+        HasOnly (is_among C.list) (T.facets v) }
     ensures table { (set : ConstraintSet) → ⟦<Letters<C> as Restriction<T>>⟧.constrained set ≡
         with_characters C.list set }
+    ensures in_ranges { (v : T) → ⟦<LetterRanges<R> as Restriction<T>>⟧.IsWithin v ↔
+        HasOnly (is_in_ranges R.ranges) (T.facets v) }
+    ensures in_ranges_root { (v : T) → ⟦<LetterRanges<R> as Restriction<T>>⟧.IsInRoot v ↔
+        HasOnly (is_in_ranges R.ranges) (T.facets v) }
+    ensures in_ranges_table { (set : ConstraintSet) →
+        ⟦<LetterRanges<R> as Restriction<T>>⟧.constrained set ≡ set }
+    ensures allowed { (c : ℕ) → ⟦<Letters<C> as Alphabet<u32>>⟧.allows c ≡ is_among C.list c }
+    ensures allowed_in_ranges { (c : ℕ) → ⟦<LetterRanges<R> as Alphabet<u32>>⟧.allows c ≡
+        is_in_ranges R.ranges c }
 {}
 
 /// A law of constraints made of others (X.680, 50).

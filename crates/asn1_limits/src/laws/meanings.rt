@@ -46,6 +46,8 @@ pub fn values_within_limits_are_compared_and_shown_as_values<
     L: Restriction<T>,
 >()
     ensures equal { (v w : T) → ⟦<Within<T, L> as PartialEq>⟧.eq v w ≡ T.eq v w }
+    ensures partial_order { (v w : T) → ⟦<Within<T, L> as PartialOrd>⟧.partial_cmp v w ≡
+        T.partial_cmp v w }
     ensures order { (v w : T) → ⟦<Within<T, L> as Ord>⟧.cmp v w ≡ T.cmp v w }
     ensures hash { (v : T) → ⟦<Within<T, L> as Hash>⟧.hash_input v ≡ T.hash_input v }
     ensures debug { (v : T) → ⟦<Within<T, L> as Debug>⟧.debug_output v ≡ T.debug_output v }

@@ -4,6 +4,7 @@ use crate::restriction::Restriction;
 use crate::within::Within;
 use asn1_bounds::Bounded;
 use asn1_types::Implicit;
+use asn1_values::Alphabet;
 
 impl<T, V: Constrainable> Constrainable for Implicit<T, V> {
     ghost facets = { λ v. V.facets v.value };
@@ -24,8 +25,8 @@ impl<T, V: HasNumber> HasNumber for Implicit<T, V> {
 }
 
 impl<T, V: HasCharacters> HasCharacters for Implicit<T, V> {
-    fn first_except(&self, permitted: &[u32]) -> Option<usize> {
-        self.value.first_except(permitted)
+    fn first_except<A: Alphabet<u32>>(&self) -> Option<usize> {
+        self.value.first_except::<A>()
     }
 }
 
@@ -48,7 +49,7 @@ impl<T: HasNumber, L: Restriction<T>> HasNumber for Within<T, L> {
 }
 
 impl<T: HasCharacters, L: Restriction<T>> HasCharacters for Within<T, L> {
-    fn first_except(&self, permitted: &[u32]) -> Option<usize> {
-        self.get().first_except(permitted)
+    fn first_except<A: Alphabet<u32>>(&self) -> Option<usize> {
+        self.get().first_except::<A>()
     }
 }

@@ -35,34 +35,34 @@ impl<U: NumberedUnit, A: Alphabet<U>> HasSize for AlphabetString<U, A> {
 }
 
 impl<A: Alphabet<u8>> HasCharacters for AlphabetString<u8, A> {
-    fn first_except(&self, permitted: &[u32]) -> Option<usize> {
-        first_except(self.as_slice(), permitted)
+    fn first_except<P: Alphabet<u32>>(&self) -> Option<usize> {
+        first_except::<_, P>(self.as_slice())
     }
 }
 
 impl HasCharacters for BmpString {
-    fn first_except(&self, permitted: &[u32]) -> Option<usize> {
-        first_except(self.as_slice(), permitted)
+    fn first_except<P: Alphabet<u32>>(&self) -> Option<usize> {
+        first_except::<_, P>(self.as_slice())
     }
 }
 
 /// The characters are the octets, which with escape sequences are not those that are shown.
 impl HasCharacters for GeneralString {
-    fn first_except(&self, permitted: &[u32]) -> Option<usize> {
-        first_except(self.as_slice(), permitted)
+    fn first_except<P: Alphabet<u32>>(&self) -> Option<usize> {
+        first_except::<_, P>(self.as_slice())
     }
 }
 
 /// The characters are the octets, as those of a GeneralString.
 impl HasCharacters for GraphicString {
-    fn first_except(&self, permitted: &[u32]) -> Option<usize> {
-        first_except(self.as_slice(), permitted)
+    fn first_except<P: Alphabet<u32>>(&self) -> Option<usize> {
+        first_except::<_, P>(self.as_slice())
     }
 }
 
 /// The characters are the units, as those of a GeneralString.
 impl HasCharacters for TeletexString {
-    fn first_except(&self, permitted: &[u32]) -> Option<usize> {
-        first_except(self.as_slice(), permitted)
+    fn first_except<P: Alphabet<u32>>(&self) -> Option<usize> {
+        first_except::<_, P>(self.as_slice())
     }
 }

@@ -4,11 +4,10 @@ ghost use Rattle.std.specs.Str.{chars};
 ghost use Rattle.std.specs.String.{string_bytes};
 ghost use Rattle.asn1_limits.specs.FacetLaws.{same_characters};
 ghost use Rattle.asn1_limits.specs.Facets.{textual};
-ghost use Rattle.asn1_values.specs.Alphabets.{is_among};
 
 use crate::constrainable::{Constrainable, HasCharacters, HasSize};
-use crate::values::units::is_permitted;
 use asn1_bounds::Bounded;
+use asn1_values::Alphabet;
 
 impl Constrainable for String {
     ghost facets = { λ v. textual (length (chars (string_bytes v))) (chars (string_bytes v)) };
@@ -23,8 +22,8 @@ impl HasSize for String {
 }
 
 impl HasCharacters for String {
-    fn first_except(&self, permitted: &[u32]) -> Option<usize> {
-        first_character_except(self.as_str(), permitted)
+    fn first_except<A: Alphabet<u32>>(&self) -> Option<usize> {
+        first_character_except::<A>(self.as_str())
     }
 }
 
@@ -35,10 +34,10 @@ fn count_characters(text: &str) -> usize
     text.chars().count()
 }
 
-/// The index of the first character that is none of these, if there is one.
-fn first_character_except(text: &str, permitted: &[u32]) -> Option<usize>
-    ensures { result ≡ position (λ c. not (is_among permitted.now c)) (chars text.now) }
+/// The index of the first character that the alphabet lacks, if there is one.
+fn first_character_except<A: Alphabet<u32>>(text: &str) -> Option<usize>
+    ensures { result ≡ position (λ c. not (A.allows c)) (chars text.now) }
 {
     text.chars()
-        .position(|character| !is_permitted(u32::from(character), permitted))
+        .position(|character| !A::allows(&u32::from(character)))
 }

@@ -1,6 +1,7 @@
 //! The numbers of the units of strings.
 ghost use Rattle.std.specs.Prelude.{◌≡◌, ℕ, map, not, position, true};
-ghost use Rattle.asn1_values.specs.Alphabets.{is_among};
+
+use asn1_values::Alphabet;
 
 /// A unit of a string, as the character with its number.
 pub trait NumberedUnit: PartialEq {
@@ -63,25 +64,16 @@ impl NumberedUnit for u32 {
     }
 }
 
-/// The index of the first unit whose number is none of these, if there is one.
-pub(crate) fn first_except<U: NumberedUnit>(units: &[U], permitted: &[u32]) -> Option<usize>
-    ensures { result ≡ position (λ c. not (is_among permitted.now c)) (map U.number units.now) }
+/// The index of the first unit whose number the alphabet lacks, if there is one.
+pub(crate) fn first_except<U: NumberedUnit, A: Alphabet<u32>>(units: &[U]) -> Option<usize>
+    ensures { result ≡ position (λ c. not (A.allows c)) (map U.number units.now) }
 {
-    first_unit_except(units, permitted)
+    first_unit_except::<U, A>(units)
 }
 
 /// The same, by the units themselves.
-fn first_unit_except<U: NumberedUnit>(units: &[U], permitted: &[u32]) -> Option<usize>
-    ensures { result ≡ position (λ unit. not (is_among permitted.now (U.number unit))) units.now }
+fn first_unit_except<U: NumberedUnit, A: Alphabet<u32>>(units: &[U]) -> Option<usize>
+    ensures { result ≡ position (λ unit. not (A.allows (U.number unit))) units.now }
 {
-    units
-        .iter()
-        .position(|unit| !is_permitted(unit.number(), permitted))
-}
-
-/// Whether the character is one of these.
-pub(crate) fn is_permitted(character: u32, permitted: &[u32]) -> bool
-    ensures { result ≡ is_among permitted.now character }
-{
-    permitted.contains(&character)
+    units.iter().position(|unit| !A::allows(&unit.number()))
 }
