@@ -1,19 +1,13 @@
-//! What limits give to a program.
-ghost use Rattle.std.specs.Prelude.{◌≡◌, IfOk, pos, true};
+//! The use of limits in a program.
+ghost use Rattle.std.specs.Prelude.{◌≡◌, IfOk, Some, slice_get, true};
 
 use crate::shipment::Shipment;
-use asn1_limits::{WithMarker, Within};
-use asn1_schema::{Between, Integer, RoundTripError, Rules, Utf8String, round_trip};
-
-/// A constant within limits, which no test guards.
-pub fn usual_priority() -> Within<Integer, WithMarker<Between<1, 20>>>
-    ensures { result ≡ pos 2 }
-{
-    Within::of_admitted(Integer::from_i128(2))
-}
+use asn1_schema::{RoundTripError, Rules, Utf8String, round_trip};
 
 /// The first line, which each shipment has.
-pub fn first_line(shipment: &Shipment) -> &Utf8String {
+pub fn first_line(shipment: &Shipment) -> &Utf8String
+    ensures { slice_get shipment.now.lines.items 0 ≡ Some result.now }
+{
     let lines = shipment.lines.get();
     &lines[0]
 }
