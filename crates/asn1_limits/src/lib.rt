@@ -47,8 +47,6 @@ pub mod laws;
 mod markers;
 mod restriction;
 mod table_admits;
-#[cfg(test)]
-mod tests;
 mod values;
 mod within;
 

@@ -1,5 +1,5 @@
-//! Tests of the public calls of the crates from `asn1_model` to `asn1_dec`, and of `asn1_samples`, `asn1_recursive`,
-//! `asn1_clash` and `asn1_rules`.
+//! Tests of the public calls of the crates from `asn1_model` to `asn1_dec`, and of `asn1_limits`, `asn1_samples`,
+//! `asn1_recursive`, `asn1_clash` and `asn1_rules`.
 //!
 //! A crate that has tests is proved twice, so those that need no private item are together here, and the crates below are
 //! proved once. They try what no contract says: values from outside (worked examples, a standard's tables), printed texts,
@@ -14,6 +14,7 @@
 //! | `choices` | CHOICE types that cannot be, and one with an alternative after the extension marker |
 //! | `enumerations` | an ENUMERATED type: its numbers and names |
 //! | `types` | sets, open types and wrappers: worked values, and copies |
+//! | `limits` | limits of each kind at types that have them, on both sides of an end |
 //! | `encoder` | the number of elements that a codec gets beside the records |
 //! | `errors` | the texts of all errors |
 //! | `samples` | a type whose constraints take memory, and sets of values that are equal by a part |
@@ -41,6 +42,8 @@ mod enumerations;
 mod errors;
 #[cfg(test)]
 mod fields;
+#[cfg(test)]
+mod limits;
 #[cfg(test)]
 mod model;
 #[cfg(test)]
