@@ -34,8 +34,8 @@
 //!   alphabet has all (`none`).
 //! - A table excludes no value within the limits (`laws::tables_allow_what_is_within`), of every marker but [`Stated`].
 //!
-//! A limit goes outside an implicit tag, whose own table has no constraints, and inside an explicit one. FROM takes memory for the
-//! alphabet at each call that writes or reads a value, as each table with an alphabet does.
+//! A limit goes outside an implicit tag, whose own table has no constraints, and inside an explicit one. [`Letters`] takes memory at
+//! each call that writes or reads a value, as each table with an alphabet does; no other marker takes any.
 #![tactic(auto)]
 
 mod asn_type;
