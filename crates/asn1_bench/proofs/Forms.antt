@@ -1,10 +1,11 @@
 -- The bytes of records whose open types are one item each are those that a decoder reads.
+use Rattle.std.proofs.lemmas.Bool.{false≢true}
 use Rattle.std.specs.Prelude.{⊤, List, ℕ, All, IsTrue}
 use Rattle.std.proofs.lemmas.List.Elements.{All-nil, All-cons, All-head, All-tail}
 use Rattle.std.proofs.lemmas.List.Sorted.{All-permutation, IsPermutation-sym}
 use Rattle.asn1_items.specs.Headers.{is_one_item}
 use Rattle.asn1_items.specs.Items.{HasBytes, HaveBytes, MarkBytes, read_with, written_with}
-use Rattle.asn1_model.specs.Orders.{SameRecord, SameRecords, SameAll, equal, one_by_one, in_any_order, at_end, next}
+use Rattle.asn1_model.specs.Orders.{SameRecord, SameRecords, SameAll, equal, one_by_one, in_any_order, with_more, at_end, next}
 use Rattle.asn1_model.specs.Records.{Record, Records, scalar, scope, open_type, presence_mark, none, more, held, listed}
 use Rattle.asn1_model.specs.WellFormed.{AreWellFormed, IsWellFormed, EachIsWellFormed}
 use Rattle.asn1_bench.specs.Carried.{CarriesWith}
@@ -53,6 +54,7 @@ mutual
   same_readable (one_by_one h all) t = all_same_readable all t
   same_readable (in_any_order h {qs = qs} {ss = ss} unordered all moved) t =
       all_same_readable all (each_readable qs (All-permutation (λ r. IsReadable r) (listed ss) (listed qs) (IsPermutation-sym (listed qs) (listed ss) moved) (readable_each ss t)))
+  same_readable (with_more behind passing added all) t = absurd (false≢true passing)
 
   all_same_readable : {rs ss : Records} → SameAll rs ss → AreReadable ss → AreReadable rs
   all_same_readable at_end t = tt

@@ -95,7 +95,8 @@ pub packed_steady : {V : Type 0} (m : Meaning V) (eq : V → V → Bool) (reader
 packed_steady m eq reader = steady IsCut Carries (λ own. is_one_item own) (λ reader. reader.depth) m eq reader cuts_items
 
 pub packed_belongs : {V : Type 0} (m : Meaning V) (eq : V → V → Bool) (reader : BenchReader) → IsWellTagged m → BelongsTo (packed_fronts m eq) reader packed_format m eq
-packed_belongs m eq reader can = belongs IsCut Carries (λ own. is_one_item own) (λ reader. reader.depth) m eq reader packed_format.rejects can cut_of_one
+packed_belongs m eq reader can = belongs IsCut Carries (λ own. is_one_item own) (λ reader. reader.depth) m eq reader Carries packed_format.rejects
+    (λ bytes rs carried. carried) can cut_of_one
 
 -- in the packed form each presence mark has a byte
 pub takes_bytes : (r : Record) → TakesBytes packed_marks r

@@ -18,7 +18,7 @@ use Rattle.asn1_items.specs.declared.kinds.ItemKind.{ItemKind}
 use Rattle.asn1_items.specs.declared.kinds.ItemKind.TheVariants as item_kind
 use Rattle.asn1_model.proofs.SameUpToOrder.{SameAll-trans, SameRecords-refl}
 use Rattle.asn1_model.specs.Meaning.{Meaning, own_records}
-use Rattle.asn1_model.specs.Orders.{SameRecord, SameAll, SameRecords, equal, one_by_one, in_any_order, at_end, next}
+use Rattle.asn1_model.specs.Orders.{SameRecord, SameAll, SameRecords, equal, one_by_one, in_any_order, with_more, at_end, next}
 use Rattle.asn1_model.specs.Records.{Content, Record, Records, StringKind, null, boolean, number, discriminant, arcs, bits, units, octet, utf8, visible, general, graphic, ia5, printable, numeric, teletex, bmp, scalar, scope, open_type, presence_mark, none, more, held}
 use Rattle.asn1_model.specs.Tags.{head_tag}
 use Rattle.asn1_rules.specs.CanonicalReading.{AreOctets, EqualHaveSameRecords, HasOneSpelling, HaveOneSpelling}
@@ -32,6 +32,7 @@ mutual
   equal_record (equal r) ordered = refl
   equal_record (one_by_one h all) ordered = ap (λ l. scope h l) (equal_records all ordered.1)
   equal_record (in_any_order h unordered all moved) ordered = absurd (false≢true (sym ordered.0 ∙ unordered))
+  equal_record (with_more behind passing added all) ordered = absurd (false≢true passing)
 
   equal_records : {rs ss : Records} → SameAll rs ss → AreOrdered ss → rs ≡ ss
   equal_records at_end ordered = refl

@@ -1,4 +1,5 @@
 -- How long the bytes of records are: so those that are too long have none.
+use Rattle.std.proofs.lemmas.Bool.{false≢true}
 use Rattle.std.proofs.Common.{◌≡◌, ◌≢◌, ◌⊎◌, inl, inr, ℕ, zero, suc, ◌+◌, ◌*◌, ◌^◌, ◌<◌, ◌≤◌, ◌/◌, ℤ, Bool, true, false, List, [], ◌∷◌, ◌++◌, length, length-append, Some, refl, sym, ap, subst, ◌∙◌, arith}
 use Rattle.std.specs.Prelude.{⊤, All, IsPermutation, replicate, unsigned_abs}
 use Rattle.std.specs.List.{flat_map, sum_by}
@@ -20,7 +21,7 @@ use Rattle.asn1_items.specs.Headers.{tag_bytes}
 use Rattle.asn1_items.specs.Kinds.{kind_of}
 use Rattle.asn1_items.specs.declared.kinds.ItemKind.{ItemKind}
 use Rattle.asn1_items.specs.declared.kinds.ItemKind.TheVariants as item_kind
-use Rattle.asn1_model.specs.Orders.{SameRecord, SameAll, equal, one_by_one, in_any_order, at_end, next}
+use Rattle.asn1_model.specs.Orders.{SameRecord, SameAll, equal, one_by_one, in_any_order, with_more, at_end, next}
 use Rattle.asn1_model.specs.Tags.{head_tag}
 use Rattle.asn1_bench.specs.Carried.{CarriesWith}
 use Rattle.asn1_bench.specs.WrittenItems.{item_writer}
@@ -253,6 +254,7 @@ module _ (marks : MarkBytes) where
     same_size (equal r) = refl
     same_size (one_by_one h all) = ap (λ n. 10 + n) (same_sizes all)
     same_size (in_any_order h {qs = qs} {ss = ss} unordered all moved) = ap (λ n. 10 + n) (same_sizes all ∙ moved_size qs ss moved)
+    same_size (with_more behind passing added all) = absurd (false≢true passing)
 
     same_sizes : {rs ss : Records} → SameAll rs ss → sizes marks rs ≡ sizes marks ss
     same_sizes at_end = refl
@@ -264,6 +266,7 @@ module _ (marks : MarkBytes) where
     fits_there (one_by_one h all) f = (all_there all f.0, omega (arith, same_sizes all, f.1))
     fits_there (in_any_order h {qs = qs} {ss = ss} unordered all moved) f =
         (moved_fits qs ss moved (all_there all f.0), omega (arith, same_sizes all, moved_size qs ss moved, f.1))
+    fits_there (with_more behind passing added all) f = absurd (false≢true passing)
 
     all_there : {rs ss : Records} → SameAll rs ss → AllFit marks rs → AllFit marks ss
     all_there at_end f = tt
@@ -275,6 +278,7 @@ module _ (marks : MarkBytes) where
     fits_back (one_by_one h all) f = (all_back all f.0, omega (arith, same_sizes all, f.1))
     fits_back (in_any_order h {qs = qs} {ss = ss} unordered all moved) f =
         (all_back all (moved_fits ss qs (IsPermutation-sym (listed qs) (listed ss) moved) f.0), omega (arith, same_sizes all, moved_size qs ss moved, f.1))
+    fits_back (with_more behind passing added all) f = absurd (false≢true passing)
 
     all_back : {rs ss : Records} → SameAll rs ss → AllFit marks ss → AllFit marks rs
     all_back at_end f = tt

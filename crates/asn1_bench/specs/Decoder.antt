@@ -30,6 +30,7 @@ item_form marks = record {
   Has = λ r bytes. HasBytes (read_with marks) r bytes;
   Have = λ rs bytes. HaveBytes (read_with marks) (held rs) bytes;
   accepts = λ bytes. is_one_item bytes;
+  passes_over = false;
 }
 
 module _ {P : Type 0} (marks : MarkBytes) where

@@ -39,7 +39,7 @@ impl<'a, P: Presence> ItemDecoder<'a, P> {
     ghost use Rattle.asn1_model.specs.WellFormed.{AreWellFormed};
     ghost use Rattle.asn1_bench.specs.Carried.{CarriesWith};
     ghost use Rattle.asn1_bench.specs.Decoder.{BeginUnder, HasReadLike, IsExpected, IsExpectedUnder, ReadsContentLike, Remains, TakesItem, in_one_order, item_reader};
-    ghost use Rattle.asn1_items.specs.DecodeStates.{IsWithinBound, OpensExpected, ReadsExpectedHead, ReadsExpectedSet};
+    ghost use Rattle.asn1_items.specs.DecodeStates.{IsWithinBound, OpensExpected, ReadsExpectedHead, ReadsExpectedSequence, ReadsExpectedSet};
     ghost use Rattle.asn1_tags.specs.Trees.{shape};
     ghost use Rattle.asn1_tags.specs.declared.tags.Tag.{Tag as Under};
     ghost use Rattle.std.specs.Bool.{Decides};
@@ -152,6 +152,8 @@ impl<'a, P: Presence> ItemDecoder<'a, P> {
     fn open_in_order(&mut self, kind: ScopeKind, tag: Tag) -> Result<(), DecodeError>
         ensures read { ReadsExpectedHead (item_reader P.mark_bytes) (IsExpected (Scope kind tag))
             (λ _ _. ⊤) self.old self.new result }
+        ensures read_sequence { ReadsExpectedSequence (item_reader P.mark_bytes)
+            (IsExpected (Scope kind tag)) self.old self.new result }
         ensures only { OnOk result ((h : Head) → IsExpected (Scope kind tag) h →
             HasOpened (item_reader P.mark_bytes) self.old self.new h) }
         ensures takes_depth { TakesDepth (item_reader P.mark_bytes) self.old self.new result }
@@ -231,6 +233,13 @@ impl<'a, P: Presence> Decoder for ItemDecoder<'a, P> {
             Some(_) => Ok(number),
             None => Err(self.state.fail(BAD_ITEM)),
         }
+    }
+
+    fn decode_any_enumerated_number<E: EnumeratedTable>(
+        &mut self,
+        tag: Tag,
+    ) -> Result<isize, DecodeError> {
+        self.scalar(tag)
     }
 
     fn decode_object_identifier(&mut self, tag: Tag) -> Result<ObjectIdentifier, DecodeError> {
@@ -359,6 +368,11 @@ impl<'a, P: Presence> Decoder for ItemDecoder<'a, P> {
     }
 
     fn close(&mut self) -> Result<(), DecodeError> {
+        self.state.close()
+    }
+
+    // The packed form has no room for what a later version adds, and nothing is passed over.
+    fn close_sequence<C: FieldTable>(&mut self) -> Result<(), DecodeError> {
         self.state.close()
     }
 

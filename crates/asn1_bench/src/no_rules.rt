@@ -31,9 +31,11 @@ impl Rules for NoRules {
     fn read_value<T: Decode>(&self, output: &Vec<u8>, depth: usize) -> Result<T, DecodeError>
         ensures read { ReadsCarried no_format.accepts (no_format.carries output.now) T.meaning T.eq
             depth result }
+        ensures later { ReadsCarried no_format.accepts (no_format.is_read_as output.now) T.meaning
+            T.eq depth result }
         ensures refuses { RefusesCarried no_format.accepts (no_format.carries output.now)
             T.meaning T.refusals depth result }
-        ensures only { IfOk result (IsReadOf (no_format.carries output.now) T.meaning) }
+        ensures only { IfOk result (IsReadOf (no_format.is_read_as output.now) T.meaning) }
         ensures refused { MatchResult result (λ _. ⊥) (λ e. said e ≡ custom (codes "refused")) }
     {
         Err(DecodeError::Custom("refused"))

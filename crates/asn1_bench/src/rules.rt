@@ -48,11 +48,13 @@ impl Rules for BenchRules {
     fn read_value<T: Decode>(&self, output: &Vec<u8>, depth: usize) -> Result<T, DecodeError>
         ensures read { ReadsCarried packed_format.accepts (packed_format.carries output.now)
             T.meaning T.eq depth result }
+        ensures later { ReadsCarried packed_format.accepts (packed_format.is_read_as output.now)
+            T.meaning T.eq depth result }
         ensures refuses { RefusesCarried packed_format.accepts (packed_format.carries output.now)
             T.meaning T.refusals depth result }
         ensures none_left { RefusesMore packed_format.accepts (packed_format.carries output.now)
             T.meaning result }
-        ensures only { IfOk result (IsReadOf (packed_format.carries output.now) T.meaning) }
+        ensures only { IfOk result (IsReadOf (packed_format.is_read_as output.now) T.meaning) }
     {
         let decoder = PackedDecoder::new(self.alloc, output.as_slice(), depth);
         read_whole(decoder)

@@ -5,7 +5,7 @@ use Rattle.std.proofs.lemmas.List.{take-append-drop}
 use Rattle.asn1_ber.specs.Bytes.{HaveBer}
 use Rattle.asn1_ber.specs.Cuts.{IsCut, ber_fronts, cut_within}
 use Rattle.asn1_ber.specs.Form.{ber_form, ber_is_lawful_form}
-use Rattle.asn1_ber.specs.Format.{Carries, CarriesNormal, ber_format}
+use Rattle.asn1_ber.specs.Format.{AreReadAs, Carries, NormalAreReadAs, ber_format, carried_is_read}
 use Rattle.asn1_ber.specs.declared.reader.BerReader.{BerReader}
 use Rattle.asn1_ber_items.proofs.Headers.{cut_shorter, header_shorter}
 use Rattle.asn1_ber_items.proofs.NormalForms.{one-append, one_normal_form, spells-append, spells-cut}
@@ -15,7 +15,7 @@ use Rattle.asn1_elements.specs.Decoder.{CarriesUpToOrder}
 use Rattle.asn1_model.proofs.SameRecords.{same-mark}
 use Rattle.asn1_model.proofs.SameUpToOrder.{same_as_cons, same_as_none}
 use Rattle.asn1_model.specs.Meaning.{Meaning, IsWellTagged, own_records}
-use Rattle.asn1_model.specs.Orders.{SameRecords}
+use Rattle.asn1_model.specs.Orders.{MayStandFor}
 use Rattle.asn1_model.specs.Records.{Record, held, is_presence_mark, more, none}
 use Rattle.asn1_model.specs.Tags.{IsOneRecord, Tags}
 use Rattle.asn1_model.specs.WellFormed.{AreWellFormed}
@@ -84,41 +84,41 @@ one_alone r normal no_mark p =
     ap is_one_element is ∙ (ber_is_lawful_form.element r p.first no_mark p.is_first).one
 
 -- so are those of a list of one record
-one_carried : (octets : List ℕ) (rs : List Record) (tags : Tags) → IsOneRecord tags rs → (carried : Carries octets rs) → is_one_element carried.have_bytes.normal ≡ true
+one_carried : (octets : List ℕ) (rs : List Record) (tags : Tags) → IsOneRecord tags rs → (carried : AreReadAs octets rs) → is_one_element carried.have_bytes.normal ≡ true
 one_carried octets rs tags one carried =
-    let same : SameRecords carried.exactly (one.item ∷ []) = subst (λ l. SameRecords carried.exactly l) one.alone carried.same in
+    let same : MayStandFor true carried.exactly (one.item ∷ []) = subst (λ l. MayStandFor true carried.exactly l) one.alone carried.same in
     let begins = same_as_cons carried.exactly one.item [] same in
     let alone : carried.exactly ≡ begins.first ∷ [] = begins.is ∙ ap (λ l. begins.first ∷ l) (same_as_none begins.others begins.same_others) in
     let b = carried.have_bytes in
     one_alone begins.first b.normal (same-mark begins.same_first ∙ one.no_mark) (subst (λ l. HaveBer (held l) b.normal) alone b.have)
 
-cut_of_one : (octets : List ℕ) (rs : List Record) (tags : Tags) → IsOneRecord tags rs → AreWellFormed (λ own. is_one_element own) rs → Carries octets rs → IsCut octets (length octets)
+cut_of_one : (octets : List ℕ) (rs : List Record) (tags : Tags) → IsOneRecord tags rs → AreWellFormed (λ own. is_one_element own) rs → AreReadAs octets rs → IsCut octets (length octets)
 cut_of_one octets rs tags one well_formed carried =
     let b = carried.have_bytes in
     record { normal = b.normal; rest = []; one = record { spells = b.spell; one = one_carried octets rs tags one carried }; long = omega arith }
 
 -- records that octets carry, in their normal form
-pub in_normal_form : (octets normal : List ℕ) (rs : List Record) (carried : Carries octets rs) → normal ≡ carried.have_bytes.normal → CarriesNormal normal rs
+pub in_normal_form : (octets normal : List ℕ) (rs : List Record) (carried : AreReadAs octets rs) → normal ≡ carried.have_bytes.normal → NormalAreReadAs normal rs
 in_normal_form octets normal rs carried same =
     record { exactly = carried.exactly; have_bytes = subst (HaveBer (held carried.exactly)) (sym same) carried.have_bytes.have; same = carried.same }
 
 -- the records of a front, in the normal form of the element
-pub front_in_normal_form : {V : Type 0} (m : Meaning V) (octets normal own rest : List ℕ) (v : V) (n : ℕ) → normal ≡ own → IsFrontOf IsCut Carries (λ own. is_one_element own) m octets v n → SpellsOne octets own rest →
-    CarriesNormal normal (own_records m v)
+pub front_in_normal_form : {V : Type 0} (m : Meaning V) (octets normal own rest : List ℕ) (v : V) (n : ℕ) → normal ≡ own → IsFrontOf IsCut AreReadAs (λ own. is_one_element own) m octets v n → SpellsOne octets own rest →
+    NormalAreReadAs normal (own_records m v)
 front_in_normal_form m octets normal own rest v n is front found =
     let can = front.is_well_tagged in
-    let b = front.carried.have_bytes in
-    let one = one_carried (take n octets) (own_records m v) _ (m.one_record v m.tag m.constraints m.name can.0 can.1) front.carried in
+    let b = front.is_read.have_bytes in
+    let one = one_carried (take n octets) (own_records m v) _ (m.one_record v m.tag m.constraints m.name can.0 can.1) front.is_read in
     let whole : SpellsOne octets b.normal (drop n octets) =
     subst (λ l. SpellsOne l b.normal (drop n octets)) (take-append-drop n octets) (one-append (take n octets) b.normal [] (drop n octets) (record { spells = b.spell; one = one })) in
-    in_normal_form (take n octets) normal (own_records m v) front.carried (is ∙ (one_normal_form octets own rest b.normal (drop n octets) found whole).0)
+    in_normal_form (take n octets) normal (own_records m v) front.is_read (is ∙ (one_normal_form octets own rest b.normal (drop n octets) found whole).0)
 
 -- the records that a decoder reads of a normal form are those that it carries
-pub is_carried : (rs : List Record) (normal : List ℕ) → CarriesUpToOrder ber_form rs normal → CarriesNormal normal rs
-is_carried rs normal c = record { exactly = c.exactly; have_bytes = c.have; same = c.same }
+pub is_read_as : (rs : List Record) (normal : List ℕ) → CarriesUpToOrder ber_form rs normal → NormalAreReadAs normal rs
+is_read_as rs normal c = record { exactly = c.exactly; have_bytes = c.have; same = c.same }
 
 -- and the octets with this normal form carry them too
-pub spelled : (octets own normal : List ℕ) (rs : List Record) → normal ≡ own → Spells octets own [] → CarriesNormal normal rs → Carries octets rs
+pub spelled : (octets own normal : List ℕ) (rs : List Record) → normal ≡ own → Spells octets own [] → NormalAreReadAs normal rs → AreReadAs octets rs
 spelled octets own normal rs same spell c = record {
   exactly = c.exactly;
   have_bytes = record { normal = normal; spell = subst (λ l. Spells octets l []) (sym same) spell; have = c.have_bytes };
@@ -134,12 +134,13 @@ front_spells octets own rest n spells is =
 
 -- so a value that was read of that was read of the front
 pub read_of_front : {V : Type 0} (m : Meaning V) (octets own rest normal : List ℕ) (n : ℕ) (w : V) → normal ≡ own → Spells octets own rest → n + length rest ≡ length octets →
-    IsReadOf (CarriesNormal normal) m w → IsReadOf (Carries (take n octets)) m w
+    IsReadOf (NormalAreReadAs normal) m w → IsReadOf (AreReadAs (take n octets)) m w
 read_of_front m octets own rest normal n w same spells is read =
-    is_read_too (CarriesNormal normal) (Carries (take n octets)) m (λ rs carried. spelled (take n octets) own normal rs same (front_spells octets own rest n spells is) carried) w read
+    is_read_too (NormalAreReadAs normal) (AreReadAs (take n octets)) m (λ rs carried. spelled (take n octets) own normal rs same (front_spells octets own rest n spells is) carried) w read
 
 pub ber_steady : {V : Type 0} (m : Meaning V) (eq : V → V → Bool) (reader : BerReader) → IsSteady (ber_fronts m eq) reader
-ber_steady m eq reader = steady IsCut Carries (λ own. is_one_element own) (λ reader. reader.depth) m eq reader cuts_elements
+ber_steady m eq reader = steady IsCut AreReadAs (λ own. is_one_element own) (λ reader. reader.depth) m eq reader cuts_elements
 
 pub ber_belongs : {V : Type 0} (m : Meaning V) (eq : V → V → Bool) (reader : BerReader) → IsWellTagged m → BelongsTo (ber_fronts m eq) reader ber_format m eq
-ber_belongs m eq reader can = belongs IsCut Carries (λ own. is_one_element own) (λ reader. reader.depth) m eq reader ber_format.rejects can cut_of_one
+ber_belongs m eq reader can = belongs IsCut AreReadAs (λ own. is_one_element own) (λ reader. reader.depth) m eq reader Carries ber_format.rejects
+    (λ octets rs carried. carried_is_read carried) can (λ octets rs tags one well_formed carried. cut_of_one octets rs tags one well_formed (carried_is_read carried))

@@ -1,3 +1,4 @@
+mod LaterVersions
 mod Written
 pub mod Cuts
 mod Contents

@@ -95,7 +95,7 @@ mutual
 
 -- the format of what is written, by what is one value of an open type
 abbrev pub der_format : Format (Vec ℕ Global)
-der_format = buffer_format der_under_ber (λ own. is_one_element own)
+der_format = buffer_format der_under_ber (λ own. is_one_element own) true
 
 -- what DER rejects is rejected
 pub rejected_too : (rs : List Record) → (buffer_writer der_under_ber).rejects rs → (buffer_writer written_ber).rejects rs

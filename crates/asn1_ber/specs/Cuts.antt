@@ -1,7 +1,7 @@
 -- Fronts of octets of BER: the element with which they begin.
 use Rattle.std.specs.Prelude.{◌≡◌, ◌≤◌, ◌+◌, ℕ, Bool, List, length}
 use Rattle.std.proofs.Common.{arith}
-use Rattle.asn1_ber.specs.Format.{Carries}
+use Rattle.asn1_ber.specs.Format.{AreReadAs}
 use Rattle.asn1_ber.specs.declared.reader.BerReader.{BerReader}
 use Rattle.asn1_ber_items.specs.Spellings.{SpellsOne}
 use Rattle.asn1_der_items.specs.Series.{is_one_element}
@@ -22,4 +22,4 @@ cut_within octets n cut = omega (arith, cut.long)
 
 -- The description of a reader, for a type of this meaning and equality.
 abbrev pub ber_fronts : {V : Type 0} → Meaning V → (V → V → Bool) → Fronts BerReader V
-ber_fronts m eq = item_fronts IsCut Carries (λ own. is_one_element own) (λ reader. reader.depth) m eq
+ber_fronts m eq = item_fronts IsCut AreReadAs (λ own. is_one_element own) (λ reader. reader.depth) m eq

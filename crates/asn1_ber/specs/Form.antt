@@ -27,6 +27,7 @@ ber_form = record {
   Has = λ r bytes. HasBer r bytes;
   Have = λ rs bytes. HaveBer (held rs) bytes;
   accepts = λ bytes. is_one_element bytes;
+  passes_over = true;
 }
 
 -- a kind of content that is a string
@@ -96,6 +97,8 @@ pub ber_is_lawful_form : IsElementForm ber_form InAnyOrder
 ber_is_lawful_form = record {
   nothing = refl;
   only_nothing = λ bytes p. p;
+  passes_over = refl;
+  chosen = λ own. tt;
   joined = λ r rs bytes p. p;
   element = element_of_its;
   content = of_tag;

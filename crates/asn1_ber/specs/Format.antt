@@ -5,12 +5,13 @@ use Rattle.std.proofs.Common.{inl, inr}
 use Rattle.asn1_ber.specs.Bytes.{AreBerOf, AreNormalInDer, HaveBer}
 use Rattle.asn1_ber.specs.declared.buffer.BerBuffer.{BerBuffer}
 use Rattle.asn1_buffers.specs.Buffers.{BufferForm}
-use Rattle.asn1_buffers.specs.Encoder.{CarriesUpToOrder, in_one_order}
+use Rattle.asn1_buffers.specs.Encoder.{CarriesUpToOrder, IsReadAs, in_one_order}
 use Rattle.asn1_buffers.specs.Format.{buffer_format, buffer_format_is_lawful}
 use Rattle.asn1_der.specs.WrittenElements.{rejects_by_parts as der_rejects_by_parts, written_der}
 use Rattle.asn1_der_items.specs.Bytes.{SomeHasNoDer}
 use Rattle.asn1_der_items.specs.Series.{is_one_element}
 use Rattle.asn1_laws.specs.WritingUpToOrder.{RejectsByParts}
+use Rattle.asn1_buffers.specs.Format.{same-stand}
 use Rattle.asn1_model.specs.Orders.{SameRecords}
 use Rattle.asn1_model.specs.Records.{Head, Record, group_absent, held, presence_marks_alone, scalar, scope, open_type, presence_mark}
 use Rattle.asn1_rules.specs.Rules.{Format, IsLawful}
@@ -79,22 +80,29 @@ rejects_by_parts = record {
   marks = λ table rs alone rejected. marks_rejected rs (presence_mark (group_absent table) ∷ []) alone (der_rejects_by_parts.marks table rs alone) rejected;
 }
 
--- The format of BER: octets carry the records whose BER they are, up to the order inside sets. Records are rejected that have no
--- DER, or none that is its own normal form, and an open type is one element.
+-- The format of BER: octets carry the records whose BER they are, up to the order inside sets, and are read without what a later
+-- version of a type adds. Records are rejected that have no DER, or none that is its own normal form, and an open type is one element.
 abbrev pub ber_format : Format (Vec ℕ Global)
-ber_format = buffer_format written_ber (λ bytes. is_one_element bytes)
+ber_format = buffer_format written_ber (λ bytes. is_one_element bytes) true
 
 -- it keeps to the law
 pub ber_is_lawful : IsLawful ber_format
-ber_is_lawful = buffer_format_is_lawful written_ber (λ bytes. is_one_element bytes) rejects_by_parts
+ber_is_lawful = buffer_format_is_lawful written_ber (λ bytes. is_one_element bytes) true rejects_by_parts
 
 -- The octets are BER of these records, up to the order inside sets.
 abbrev pub Carries : List ℕ → List Record → Type 0
 Carries octets rs = CarriesUpToOrder AreBerOf octets rs
 
--- The octets are BER of these records in normal form, up to the order inside sets.
-abbrev pub CarriesNormal : List ℕ → List Record → Type 0
-CarriesNormal normal rs = CarriesUpToOrder (λ exactly octets. HaveBer (held exactly) octets) normal rs
+-- The octets are BER of records that stand for these: a later version may have sent them (X.680, 7).
+abbrev pub AreReadAs : List ℕ → List Record → Type 0
+AreReadAs octets rs = IsReadAs true AreBerOf octets rs
+
+pub carried_is_read : {octets : List ℕ} {rs : List Record} → Carries octets rs → AreReadAs octets rs
+carried_is_read carried = record { exactly = carried.exactly; have_bytes = carried.have_bytes; same = same-stand carried.same }
+
+-- The same of octets in normal form.
+abbrev pub NormalAreReadAs : List ℕ → List Record → Type 0
+NormalAreReadAs normal rs = IsReadAs true (λ exactly octets. HaveBer (held exactly) octets) normal rs
 
 -- Records that are the same up to the order inside sets have no DER, or none that is its own normal form.
 pub record AreRejected (rs : List Record) : Type 0 where

@@ -37,6 +37,7 @@
 mod buffer;
 mod errors;
 mod form;
+pub mod later_versions;
 pub mod laws;
 mod reader;
 mod reading;

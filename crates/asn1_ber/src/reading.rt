@@ -1,5 +1,5 @@
 //! Reading a value from all of its octets.
-ghost use Rattle.asn1_ber.specs.Format.{Carries, CarriesNormal};
+ghost use Rattle.asn1_ber.specs.Format.{AreReadAs, NormalAreReadAs};
 ghost use Rattle.asn1_der_items.specs.Series.{is_one_element};
 ghost use Rattle.asn1_rules.specs.Rules.{IsReadOf, ReadsCarried, RefusesCarried, RefusesTrailingRecords};
 ghost use Rattle.std.specs.Prelude.{IfOk};
@@ -17,13 +17,13 @@ pub(crate) fn read_octets<T: Decode>(
     octets: &[u8],
     depth: usize,
 ) -> Result<T, DecodeError>
-    ensures read { ReadsCarried (λ own. is_one_element own) (Carries octets.now) T.meaning T.eq
+    ensures read { ReadsCarried (λ own. is_one_element own) (AreReadAs octets.now) T.meaning T.eq
         depth result }
-    ensures refuses { RefusesCarried (λ own. is_one_element own) (Carries octets.now) T.meaning
+    ensures refuses { RefusesCarried (λ own. is_one_element own) (AreReadAs octets.now) T.meaning
         T.refusals depth result }
-    ensures none_left { RefusesTrailingRecords (λ own. is_one_element own) (Carries octets.now)
+    ensures none_left { RefusesTrailingRecords (λ own. is_one_element own) (AreReadAs octets.now)
         T.meaning result }
-    ensures only { IfOk result (IsReadOf (Carries octets.now) T.meaning) }
+    ensures only { IfOk result (IsReadOf (AreReadAs octets.now) T.meaning) }
 {
     match normal_form(alloc, octets) {
         Ok(normal) => read_normal(alloc, normal.as_slice(), depth),
@@ -37,13 +37,13 @@ pub(crate) fn read_normal<T: Decode>(
     normal: &[u8],
     depth: usize,
 ) -> Result<T, DecodeError>
-    ensures read { ReadsCarried (λ own. is_one_element own) (CarriesNormal normal.now) T.meaning
+    ensures read { ReadsCarried (λ own. is_one_element own) (NormalAreReadAs normal.now) T.meaning
         T.eq depth result }
-    ensures refuses { RefusesCarried (λ own. is_one_element own) (CarriesNormal normal.now)
+    ensures refuses { RefusesCarried (λ own. is_one_element own) (NormalAreReadAs normal.now)
         T.meaning T.refusals depth result }
     ensures none_left { RefusesTrailingRecords (λ own. is_one_element own)
-        (CarriesNormal normal.now) T.meaning result }
-    ensures only { IfOk result (IsReadOf (CarriesNormal normal.now) T.meaning) }
+        (NormalAreReadAs normal.now) T.meaning result }
+    ensures only { IfOk result (IsReadOf (NormalAreReadAs normal.now) T.meaning) }
 {
     read_whole(BerDecoder::new(alloc, normal, depth))
 }

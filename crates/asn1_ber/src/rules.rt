@@ -66,11 +66,13 @@ impl Rules for BerRules {
     fn read_value<T: Decode>(&self, output: &Vec<u8>, depth: usize) -> Result<T, DecodeError>
         ensures read { ReadsCarried ber_format.accepts (ber_format.carries output.now)
             T.meaning T.eq depth result }
+        ensures later { ReadsCarried ber_format.accepts (ber_format.is_read_as output.now)
+            T.meaning T.eq depth result }
         ensures refuses { RefusesCarried ber_format.accepts (ber_format.carries output.now)
             T.meaning T.refusals depth result }
         ensures none_left { RefusesTrailingRecords ber_format.accepts
             (ber_format.carries output.now) T.meaning result }
-        ensures only { IfOk result (IsReadOf (ber_format.carries output.now) T.meaning) }
+        ensures only { IfOk result (IsReadOf (ber_format.is_read_as output.now) T.meaning) }
     {
         read_octets(self.alloc, output.as_slice(), depth)
     }

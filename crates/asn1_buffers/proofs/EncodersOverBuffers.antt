@@ -168,9 +168,9 @@ module _ {B : Type 0} (F : BufferForm B) where
       record { exactly = t.records; have_bytes = have t.records (subst (λ v. (in_one_order F).wrote e v) t.is w.wrote).0; same = t.same }
 
   -- why a value was not written
-  pub not_written : (accepts : List ℕ → Bool) (old new : BufferEncoder B) (rs : List Record) (depth : ℕ) (e : EncodeError) →
-      (buffer_writer F).wrote old (outermost []) → (buffer_writer F).depth_left old ≡ depth → (buffer_writer F).failed old ≡ false → Fails (buffer_writer F) old rs new e → IsNotWritten (buffer_format F accepts) rs depth e
-  not_written accepts old new rs depth e began allowed was fails = record {
+  pub not_written : (accepts : List ℕ → Bool) (passes_over : Bool) (old new : BufferEncoder B) (rs : List Record) (depth : ℕ) (e : EncodeError) →
+      (buffer_writer F).wrote old (outermost []) → (buffer_writer F).depth_left old ≡ depth → (buffer_writer F).failed old ≡ false → Fails (buffer_writer F) old rs new e → IsNotWritten (buffer_format F accepts passes_over) rs depth e
+  not_written accepts passes_over old new rs depth e began allowed was fails = record {
     too_deep = λ is. rw (← allowed) (fails.too_deep is);
     rejected = λ is. fails.rejected is (outermost []) began;
     not_failed = λ is. not_both ((buffer_writer F).failed old) was (fails.error.failed_before.0 is);

@@ -22,7 +22,8 @@ pub fn write_whole<B: RecordBuffer, T: Encode>(
     value: &T,
     depth: usize,
 ) -> Result<Vec<u8>, EncodeError>
-    ensures { (accepts : List ℕ → Bool) → WritesWhole (buffer_format B.form accepts)
+    ensures { (accepts : List ℕ → Bool) (passes_over : Bool) →
+        WritesWhole (buffer_format B.form accepts passes_over)
         (own_records T.meaning value.now) (T.meaning.IsOfType value.now) depth result }
 {
     let mut encoder = BufferEncoder::<B>::new(alloc, depth);

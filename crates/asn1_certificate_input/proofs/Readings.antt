@@ -21,7 +21,7 @@ use Rattle.asn1_x509.specs.declared.certificate.Certificate.{Certificate}
 module _ (input : Vec ℕ Global) (well : IsWellTagged certificates.meaning) where
   -- the octets were read as this certificate
   pub read_of : (w : Certificate) → ReadsCarried der_format.accepts (der_format.carries input) certificates.meaning equality.eq 64 (Ok w) →
-      rules.IsReadOf (der_format.carries input) certificates.meaning w → IsReadOf input.items w
+      rules.IsReadOf (der_format.is_read_as input) certificates.meaning w → IsReadOf input.items w
   read_of w reads only = record { of_der = λ v der. (reads v well der.of_type der.valid der.carries).0; only = only }
 
   -- they were read as none, and there was memory

@@ -1,6 +1,6 @@
 -- The certificate that octets are read as.
 use Rattle.std.specs.Prelude.{◌≡◌, ◌≢◌, ◌-◌, ◌<◌, ℕ, List, [], Some, length, true}
-use Rattle.asn1_der.specs.Format.{Carries}
+use Rattle.asn1_der.specs.Format.{AreReadAs, Carries}
 use Rattle.asn1_der_items.specs.Elements.{Element, element_at}
 use Rattle.asn1_der_items.specs.Series.{is_one_element}
 use Rattle.asn1_model.specs.Meaning.{own_records}
@@ -21,10 +21,10 @@ pub record AreDerOf (octets : List ℕ) (certificate : Certificate) : Type 0 whe
   pub valid : certificates.meaning.IsValid (λ own. is_one_element own) certificate
 
 -- The octets were read as this certificate. It is equal to the valid certificate whose DER they are, if there is one; and whatever they
--- are, they carry records in DER that are read as it.
+-- are, they are the DER of records that are read as it, behind which a later version may have added others.
 pub record IsReadOf (octets : List ℕ) (read : Certificate) : Type 0 where
   pub of_der : (certificate : Certificate) → AreDerOf octets certificate → equality.eq read certificate ≡ true
-  pub only : rules.IsReadOf (Carries octets) certificates.meaning read
+  pub only : rules.IsReadOf (AreReadAs octets) certificates.meaning read
 
 -- the octets are the DER of no valid certificate, unless of one that is nested deeper than the 64 scopes that are read
 abbrev pub AreOfNoCertificate : List ℕ → Type 0

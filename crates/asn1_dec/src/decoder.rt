@@ -4,8 +4,8 @@ ghost use Rattle.asn1_components.specs.ComponentLists.{trees_of};
 ghost use Rattle.asn1_components.specs.Components.{all_components, is_sequence, is_set, rows};
 ghost use Rattle.asn1_laws.specs.Defaults.{MayAnswer};
 ghost use Rattle.asn1_laws.specs.GivenTypes.{as_it_is, given, given_after_tag, with_constraints, with_tag};
-ghost use Rattle.asn1_laws.specs.Reading.{AfterReading, GivesDepthBack, IsLawful, KeepsDepth, NeedsDepth, OpensNothing, TakesDepth, Reader, ReadsEnd, ReadsHead, ReadsHeadOfSet, ReadsMark, ReadsValue, TellsMore, TellsNextTag, TellsPresence, records_in};
-ghost use Rattle.asn1_laws.specs.ReadingExactly.{HasClosed, HasOpenedChoice, HasOpenedNamed, HasRead, HasReadChoice, HasReadComponents, HasReadContent, HasReadDefault, HasReadGiven, HasReadGroup, HasReadList, HasReadMark, HasReadMarks, HasReadOpenType, HasReadOptional, HasReadSpelling, HasReadValue};
+ghost use Rattle.asn1_laws.specs.Reading.{AfterReading, GivesDepthBack, IsLawful, KeepsDepth, NeedsDepth, OpensNothing, TakesDepth, Reader, ReadsEnd, ReadsEndOfSequence, ReadsHead, ReadsHeadOfSequence, ReadsHeadOfSet, ReadsMark, ReadsValue, TellsMore, TellsNextTag, TellsPresence, records_in};
+ghost use Rattle.asn1_laws.specs.ReadingExactly.{HasClosed, HasClosedSequence, HasOpenedChoice, HasOpenedNamed, HasRead, HasReadChoice, HasReadComponents, HasReadContent, HasReadDefault, HasReadGiven, HasReadGroup, HasReadList, HasReadMark, HasReadMarks, HasReadOpenType, HasReadOptional, HasReadSpelling, HasReadValue};
 ghost use Rattle.asn1_laws.specs.ReadingTypes.{Reads, ReadsChoice, ReadsComponents, ReadsContent, ReadsDefault, ReadsElements, ReadsGroup, ReadsHeadOfChoice, ReadsOpenType, ReadsOptional};
 ghost use Rattle.asn1_laws.specs.SetParts.{CanBeInSet};
 ghost use Rattle.asn1_components.specs.Enumerations.{number_of};
@@ -104,6 +104,18 @@ pub trait Decoder: Sized {
             (discriminant E.labels w)) }
         ensures opens_nothing { OpensNothing reader self.old self.new result };
 
+    /// The number of a value of an ENUMERATED type to which a later version may have added items (X.680, 20 and 7): whatever it is,
+    /// also where no item of the table of `E` has it.
+    fn decode_any_enumerated_number<E: EnumeratedTable>(
+        &mut self,
+        tag: Tag,
+    ) -> Result<isize, DecodeError>
+        ensures read { ReadsContent reader tag unconstrained (discriminant E.labels) (λ _. ⊤)
+            (λ w z. w ≡ z) self.old self.new result }
+        ensures only { IfOk result (λ w. HasReadContent reader self.old self.new tag unconstrained
+            (discriminant E.labels w)) }
+        ensures opens_nothing { OpensNothing reader self.old self.new result };
+
     /// An OBJECT IDENTIFIER.
     fn decode_object_identifier(&mut self, tag: Tag) -> Result<ObjectIdentifier, DecodeError>
         ensures read { ReadsContent reader tag unconstrained arcs (All (λ arc. arc < 2 ^ 32))
@@ -177,10 +189,11 @@ pub trait Decoder: Sized {
             (presence_mark group_end ∷ [])) }
         ensures opens_nothing { OpensNothing reader self.old self.new result };
 
-    /// Opens a SEQUENCE, whose components are those of the table of `C`.
+    /// Opens a SEQUENCE, whose components are those of the table of `C`. Behind them may be what a later version adds, if the
+    /// codec passes that over.
     fn open_sequence<C: FieldTable>(&mut self, tag: Tag) -> Result<(), DecodeError>
-        ensures read { ReadsHead reader self.old self.new (sequence tag (rows C.components))
-            (λ _ _. ⊤) result }
+        ensures read { ReadsHeadOfSequence reader self.old self.new
+            (sequence tag (rows C.components)) result }
         ensures only { OnOk result (HasOpenedNamed reader self.old self.new
             (sequence tag (rows C.components))) }
         ensures takes_depth { TakesDepth reader self.old self.new result };
@@ -250,6 +263,16 @@ pub trait Decoder: Sized {
     fn close(&mut self) -> Result<(), DecodeError>
         ensures read { ReadsEnd reader self.old self.new result }
         ensures only { OnOk result (HasClosed reader self.old self.new) }
+        ensures gives_depth_back { GivesDepthBack reader self.old self.new result };
+
+    /// Closes a SEQUENCE that was opened by the table of `C`, and of which all components were read. What a later version adds
+    /// behind them (X.680, 7) is passed over, if the codec does so: records that none of the components can begin with, where the
+    /// table has an extension marker. They are checked no further than to know where they end, and open no scope.
+    fn close_sequence<C: FieldTable>(&mut self) -> Result<(), DecodeError>
+        ensures read { (tag : Tag) → ReadsEndOfSequence reader self.old self.new
+            (sequence tag (rows C.components)) result }
+        ensures only { OnOk result ((tag : Tag) → HasClosedSequence reader self.old self.new
+            (sequence tag (rows C.components))) }
         ensures gives_depth_back { GivesDepthBack reader self.old self.new result };
 
     // The law of a codec.

@@ -35,7 +35,7 @@ pub(crate) fn read_sequence<C: DecodeFields, D: Decoder>(
 /// or answers their error.
 ///
 /// # Errors
-/// The error of the components, and those of [`Decoder::close`].
+/// The error of the components, and those of [`Decoder::close_sequence`].
 #[inline(always)]
 pub fn finish_sequence<C: FieldTable + Eq + Drop, D: Decoder>(
     decoder: &mut D,
@@ -58,6 +58,6 @@ pub fn finish_sequence<C: FieldTable + Eq + Drop, D: Decoder>(
         Ok(value) => value,
         Err(error) => return Err(decoder.refuse(error)),
     };
-    decoder.close()?;
+    decoder.close_sequence::<C>()?;
     Ok(value)
 }

@@ -5,13 +5,14 @@ use Rattle.std.proofs.lemmas.List.{take-append-drop}
 use Rattle.std.specs.Prelude.{◌↔◌, IsTrue}
 use Rattle.asn1_der_items.proofs.RecordElements.{record_element}
 use Rattle.asn1_der_items.specs.Bytes.{HaveDer}
-use Rattle.asn1_der.specs.Format.{Carries, der_format}
+use Rattle.asn1_der.specs.Format.{AreReadAs, Carries, der_format}
 use Rattle.asn1_der_items.proofs.TrailingBytes.{cut_off, element_at-append, element_before}
 use Rattle.asn1_der_items.proofs.OneElement.{one, some_bytes}
 use Rattle.asn1_der_items.specs.Elements.{Element, element_at}
 use Rattle.asn1_der_items.specs.Series.{is_one_element, is_whole}
 use Rattle.asn1_der.specs.Cuts.{IsCut, cut_within, der_fronts}
 use Rattle.asn1_der.specs.declared.reader.DerReader.{DerReader}
+use Rattle.asn1_buffers.specs.Format.{same-stand}
 use Rattle.asn1_model.proofs.SameRecords.{same-mark}
 use Rattle.asn1_model.proofs.SameUpToOrder.{same_as_cons, same_as_none}
 use Rattle.asn1_model.specs.Meaning.{Meaning, IsWellTagged}
@@ -86,7 +87,8 @@ cut_of_one bytes rs tags one well_formed carried =
     cut_alone begins.first bytes (same-mark begins.same_first ∙ one.no_mark) (subst (λ l. HaveDer (held l) bytes) alone carried.have_bytes)
 
 pub der_steady : {V : Type 0} (m : Meaning V) (eq : V → V → Bool) (reader : DerReader) → IsSteady (der_fronts m eq) reader
-der_steady m eq reader = steady IsCut Carries (λ own. is_one_element own) (λ reader. reader.depth) m eq reader cuts_elements
+der_steady m eq reader = steady IsCut AreReadAs (λ own. is_one_element own) (λ reader. reader.depth) m eq reader cuts_elements
 
 pub der_belongs : {V : Type 0} (m : Meaning V) (eq : V → V → Bool) (reader : DerReader) → IsWellTagged m → BelongsTo (der_fronts m eq) reader der_format m eq
-der_belongs m eq reader can = belongs IsCut Carries (λ own. is_one_element own) (λ reader. reader.depth) m eq reader der_format.rejects can cut_of_one
+der_belongs m eq reader can = belongs IsCut AreReadAs (λ own. is_one_element own) (λ reader. reader.depth) m eq reader Carries der_format.rejects
+    (λ bytes rs carried. record { exactly = carried.exactly; have_bytes = carried.have_bytes; same = same-stand carried.same }) can cut_of_one

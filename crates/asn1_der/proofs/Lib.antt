@@ -1,3 +1,4 @@
+mod LaterVersions
 mod Cuts
 pub mod OneOutput
 mod Arranging

@@ -1,7 +1,7 @@
 -- Fronts of bytes of DER: the element with which they begin.
 use Rattle.std.specs.Prelude.{◌≡◌, ◌≤◌, ◌+◌, ℕ, Bool, List, Some, length}
 use Rattle.std.proofs.Common.{arith}
-use Rattle.asn1_der.specs.Format.{Carries}
+use Rattle.asn1_der.specs.Format.{AreReadAs}
 use Rattle.asn1_der_items.specs.Elements.{Element, element_at}
 use Rattle.asn1_der_items.specs.Series.{is_one_element}
 use Rattle.asn1_der.specs.declared.reader.DerReader.{DerReader}
@@ -21,4 +21,4 @@ cut_within bytes n cut = omega (arith, cut.long)
 
 -- The description of a reader, for a type of this meaning and equality.
 abbrev pub der_fronts : {V : Type 0} → Meaning V → (V → V → Bool) → Fronts DerReader V
-der_fronts m eq = item_fronts IsCut Carries (λ own. is_one_element own) (λ reader. reader.depth) m eq
+der_fronts m eq = item_fronts IsCut AreReadAs (λ own. is_one_element own) (λ reader. reader.depth) m eq

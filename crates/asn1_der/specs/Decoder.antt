@@ -1,5 +1,5 @@
 -- The form in which a decoder reads DER, and its law.
-use Rattle.std.specs.Prelude.{ℕ, ⊤, false, List, refl}
+use Rattle.std.specs.Prelude.{ℕ, ⊤, false, List, refl, true}
 use Rattle.std.proofs.Common.{subst, sym}
 use Rattle.asn1_laws.specs.Reading.{Remaining}
 use Rattle.asn1_der_items.proofs.OneElement.{element_of_tag, one_of}
@@ -22,6 +22,7 @@ der_form = record {
   Has = λ r bytes. HasDer r bytes;
   Have = λ rs bytes. HaveDer (held rs) bytes;
   accepts = λ bytes. is_one_element bytes;
+  passes_over = true;
 }
 
 -- The bytes have the order: elements ascend by their tags in a SET (10.3), and by their encodings in a SET OF (11.6).
@@ -62,6 +63,8 @@ pub der_is_lawful_form : IsElementForm der_form AreInOrder
 der_is_lawful_form = record {
   nothing = refl;
   only_nothing = λ bytes p. p;
+  passes_over = refl;
+  chosen = λ own. tt;
   joined = λ r rs bytes p. p;
   element = λ r own no_mark p. is_element_of_record r own no_mark p;
   content = λ t c n x own p. element_of_tag t false p.contents own p.element;

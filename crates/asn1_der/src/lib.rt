@@ -41,6 +41,7 @@ mod elements;
 pub mod encoder_laws;
 mod form;
 mod frame;
+pub mod later_versions;
 pub mod laws;
 mod reader;
 mod rules;

@@ -23,7 +23,7 @@ pub struct DerReader {
 }
 
 impl DerReader {
-    ghost use Rattle.asn1_der.specs.Format.{Carries};
+    ghost use Rattle.asn1_der.specs.Format.{AreReadAs};
     ghost use Rattle.asn1_der_items.specs.Series.{is_one_element};
     ghost use Rattle.asn1_rules.specs.Rules.{IsReadOf, ReadsCarried};
     ghost use Rattle.std.specs.Prelude.{◌≡◌, IfOk};
@@ -49,9 +49,9 @@ impl DerReader {
 
     /// Reads the value whose bytes these are.
     fn read<D: Decode>(&self, bytes: &[u8]) -> Result<D, DecodeError>
-        ensures read { ReadsCarried (λ own. is_one_element own) (Carries bytes.now) D.meaning D.eq
+        ensures read { ReadsCarried (λ own. is_one_element own) (AreReadAs bytes.now) D.meaning D.eq
             self.now.depth result }
-        ensures only { IfOk result (IsReadOf (Carries bytes.now) D.meaning) }
+        ensures only { IfOk result (IsReadOf (AreReadAs bytes.now) D.meaning) }
     {
         let decoder = DerDecoder::new(self.alloc, bytes, self.depth);
         read_whole(decoder)

@@ -48,11 +48,13 @@ impl Rules for DerRules {
     fn read_value<T: Decode>(&self, output: &Vec<u8>, depth: usize) -> Result<T, DecodeError>
         ensures read { ReadsCarried der_format.accepts (der_format.carries output.now)
             T.meaning T.eq depth result }
+        ensures later { ReadsCarried der_format.accepts (der_format.is_read_as output.now)
+            T.meaning T.eq depth result }
         ensures refuses { RefusesCarried der_format.accepts (der_format.carries output.now)
             T.meaning T.refusals depth result }
         ensures none_left { RefusesTrailingRecords der_format.accepts
             (der_format.carries output.now) T.meaning result }
-        ensures only { IfOk result (IsReadOf (der_format.carries output.now) T.meaning) }
+        ensures only { IfOk result (IsReadOf (der_format.is_read_as output.now) T.meaning) }
     {
         let decoder = DerDecoder::new(self.alloc, output.as_slice(), depth);
         read_whole(decoder)

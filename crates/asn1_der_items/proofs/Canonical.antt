@@ -1,4 +1,5 @@
 -- Records that are the same up to the order inside sets have one DER.
+use Rattle.std.proofs.lemmas.Bool.{false≢true}
 use Rattle.std.proofs.Common.{◌≡◌, ℕ, ◌+◌, ◌<◌, Bool, true, false, List, [], ◌∷◌, ◌++◌, refl, sym, ap, subst, ◌∙◌, arith, inl, inr}
 use Rattle.std.proofs.lemmas.List.Elements.{All-head, All-tail}
 use Rattle.std.proofs.lemmas.List.Sums.{sum_by-cons}
@@ -11,7 +12,7 @@ use Rattle.std.specs.Ordering.{is_lt, nat_cmp}
 use Rattle.std.specs.Prelude.{⊤, ◌⊎◌, All, IsPermutation, IsSortedBy, IsTrue, map, nat_eq}
 use Rattle.asn1_laws.proofs.Rearrangements.{made_of}
 use Rattle.asn1_model.proofs.RecordLists.{held-listed}
-use Rattle.asn1_model.specs.Orders.{SameRecord, SameAll, at_end, equal, in_any_order, one_by_one, is_unordered, next}
+use Rattle.asn1_model.specs.Orders.{SameRecord, SameAll, at_end, equal, in_any_order, one_by_one, is_unordered, next, with_more}
 use Rattle.asn1_model.specs.Records.{Head, Record, Records, none, more, scope, held, listed, listed-held, is_presence_mark, sequence, set, sequence_of, set_of, explicit_tag, alternative}
 use Rattle.asn1_model.specs.Tags.{Has, head_tag, record_tags}
 use Rattle.asn1_tags.specs.Tags.{tag_cmp}
@@ -227,6 +228,7 @@ mutual
   same_der r s (equal _) distinct = one_der r
   same_der r s (one_by_one h {rs = rs} {ss = ss} all) distinct = alike_scopes (λ own other. own ≡ other) same_contents (content_order_of h) (head_tag h) (HaveDer rs) (HaveDer ss) (same_ders rs ss all distinct.1)
   same_der r s (in_any_order h {rs = rs} {qs = qs} {ss = ss} unordered all moved) distinct = in_any_order_one h rs qs ss unordered moved distinct.0 (same_ders rs qs all distinct.1)
+  same_der r s (with_more behind passing added all) distinct = absurd (false≢true passing)
 
   pub same_ders : (rs ss : Records) → SameAll rs ss → HaveDistinctSets rs → AreOne (HaveDer rs) (HaveDer ss)
   same_ders rs ss at_end distinct = λ own other below above a b. a ∙ sym b

@@ -7,7 +7,7 @@ use Rattle.std.proofs.lemmas.Map.Keys.{IsDistinct-IsPermutation, IsDistinct-cons
 use Rattle.std.specs.List.{AllByRecursion, IsDistinct}
 use Rattle.std.specs.Prelude.{All, IsPermutation}
 use Rattle.asn1_model.proofs.SameRecords.{same-tags}
-use Rattle.asn1_model.specs.Orders.{SameRecord, SameAll, at_end, equal, in_any_order, one_by_one, next}
+use Rattle.asn1_model.specs.Orders.{SameRecord, SameAll, at_end, equal, in_any_order, one_by_one, next, with_more}
 use Rattle.asn1_model.specs.Records.{Head, Record, Records, none, more, listed, sequence, set, sequence_of, set_of, explicit_tag, alternative}
 use Rattle.asn1_model.specs.Tags.{CHOICE, ShareNone, Tags, among, every, record_tags}
 use Rattle.asn1_tags.proofs.TagListTests.{HaveCommonTag-from_test, have_common_tag-from_HaveCommonTag}
@@ -117,6 +117,7 @@ mutual
     in_head h rs ss (λ tags. moved_tags qs ss moved (same_distinct_tags all tags)) distinct.0,
     all_have ss (All-permutation HasDistinctSets (listed qs) (listed ss) moved (each_has qs (all_distinct all distinct.1))),
   )
+  same_distinct (with_more behind passing added all) distinct = absurd (false≢true passing)
 
   pub all_distinct : {rs ss : Records} → SameAll rs ss → HaveDistinctSets rs → HaveDistinctSets ss
   all_distinct at_end distinct = tt

@@ -1,6 +1,6 @@
 -- Of records that are the same up to the order inside sets none has DER where another has none.
 use Rattle.std.proofs.Common.{◌≡◌, ℕ, ◌+◌, ◌<◌, ◌^◌, Bool, true, false, List, [], ◌∷◌, ◌++◌, append-nil, length, length-append, refl, sym, ap, subst, ◌∙◌, arith, inl, inr}
-use Rattle.std.proofs.lemmas.Bool.{true≢false}
+use Rattle.std.proofs.lemmas.Bool.{true≢false, false≢true}
 use Rattle.std.proofs.lemmas.List.Elements.{All-cons, All-head, All-nil, All-tail}
 use Rattle.std.proofs.lemmas.List.Sorted.{All-permutation, sum_by-IsPermutation}
 use Rattle.std.proofs.lemmas.List.Sums.{sum_by-cons}
@@ -11,7 +11,7 @@ use Rattle.asn1_laws.proofs.Rearrangements.{made_of}
 use Rattle.asn1_model.proofs.RecordLists.{held-listed}
 use Rattle.asn1_model.proofs.SameRecords.{same-mark}
 use Rattle.asn1_model.proofs.SameUpToOrder.{SameAll-refl}
-use Rattle.asn1_model.specs.Orders.{SameRecord, SameAll, at_end, equal, in_any_order, one_by_one, is_unordered, next}
+use Rattle.asn1_model.specs.Orders.{SameRecord, SameAll, at_end, equal, in_any_order, one_by_one, is_unordered, next, with_more}
 use Rattle.asn1_model.specs.Records.{Head, Record, Records, scalar, scope, open_type, presence_mark, none, more, held, listed, listed-held, is_presence_mark, sequence, set, sequence_of, set_of, explicit_tag, alternative}
 use Rattle.asn1_model.specs.Tags.{head_tag}
 use Rattle.asn1_tags.specs.declared.tags.Tag.{Tag}
@@ -74,6 +74,7 @@ mutual
   long_der r s (one_by_one h {rs = rs} {ss = ss} all) = alike_scopes AsLong long_element (content_order_of h) (head_tag h) (HaveDer rs) (HaveDer ss) (long_ders rs ss all)
   long_der r s (in_any_order h {rs = rs} {qs = qs} {ss = ss} unordered all moved) =
       alike_scopes AsLong long_element (content_order_of h) (head_tag h) (HaveDer rs) (HaveDer ss) (long_moved rs qs ss moved (long_ders rs qs all))
+  long_der r s (with_more behind passing added all) = absurd (false≢true passing)
 
   long_ders : (rs ss : Records) → SameAll rs ss → AreAlike AsLong (HaveDer rs) (HaveDer ss)
   long_ders rs ss at_end = λ own other below above a b. ap length (a ∙ sym b)
@@ -104,6 +105,7 @@ same_tag : {r s : Record} → SameRecord r s → (own other : List ℕ) → HasD
 same_tag (equal r) = one_tag r
 same_tag (one_by_one h {rs = rs} {ss = ss} all) = scopes_tag h rs ss
 same_tag (in_any_order h {rs = rs} {ss = ss} unordered all moved) = scopes_tag h rs ss
+same_tag (with_more behind passing added all) = absurd (false≢true passing)
 
 nothing_left : {rs ss : Records} → SameAll rs ss → (own other : List ℕ) → HaveDer rs own → own ≡ [] → HaveDer ss other → other ≡ []
 nothing_left at_end own other a none_left b = b
@@ -193,6 +195,7 @@ mutual
   has_some (scope h rs) s (in_any_order _ {qs = qs} {ss = ss} unordered all moved) bytes below d lack =
       in_scope h rs ss (long_moved rs qs ss moved (long_ders rs qs all)) (λ chosen. absurd (ordered_if_chosen h unordered chosen))
       (λ inside low have. All-permutation (λ q. HasNoDer q → ⊥) (listed qs) (listed ss) moved (have_some rs qs all inside low have)) bytes below d lack
+  has_some (scope h rs) s (with_more behind passing added all) bytes below d lack = absurd (false≢true passing)
   has_some (open_type n own) s (equal _) bytes below d not_one = true≢false (sym d.1 ∙ not_one)
   has_some (presence_mark m) s (equal _) bytes below d impossible = impossible
 

@@ -4,3 +4,5 @@ mod PresenceByTag
 pub mod RemainingElements
 mod ReadExactly
 mod StringsRead
+pub mod LaterRecords
+mod LaterVersions

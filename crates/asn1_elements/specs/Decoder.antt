@@ -18,7 +18,7 @@ use Rattle.asn1_items.specs.declared.decode_state.DecodeState.{DecodeState}
 use Rattle.asn1_items.specs.declared.decode_state.Opened.{Opened}
 use Rattle.asn1_items.specs.declared.slices.Slices.{Slices}
 use Rattle.asn1_model.specs.ConstraintSets.{ConstraintSet}
-use Rattle.asn1_model.specs.Orders.{SameRecords}
+use Rattle.asn1_model.specs.Orders.{MayStandBehind, MayStandFor}
 use Rattle.asn1_model.specs.Records.{Content, Head, Name, Record, scalar}
 use Rattle.asn1_model.specs.Tags.{head_tag}
 use Rattle.asn1_tags.specs.declared.tags.Tag.{Tag}
@@ -36,15 +36,21 @@ module _ {C : Type 0} (F : ReadForm) where
   abbrev pub Remains : ElementDecoder C → Remaining → Type 0
   Remains d remaining = element_reader.remains d remaining
 
--- The bytes are those of these records, up to the order inside sets.
+-- The bytes are those of records that stand for these: up to the order inside sets, and what a later version adds.
 pub record CarriesUpToOrder (F : ReadForm) (rs : List Record) (bytes : List ℕ) : Type 0 where
   pub exactly : List Record
   pub have : F.Have exactly bytes
-  pub same : SameRecords exactly rs
+  pub same : MayStandFor F.passes_over exactly rs
 
 -- the records are left of the innermost list
 abbrev pub AreLeft : ReadForm → List Record → Slices → Type 0
 AreLeft F rs s = F.Have rs (left_inside s)
+
+-- What is left of the innermost list are the bytes of records that may be behind what a record of this head holds.
+pub record IsLeftBehind (F : ReadForm) (h : Head) (s : Slices) : Type 0 where
+  pub behind : List Record
+  pub may : MayStandBehind F.passes_over h behind
+  pub have : F.Have behind (left_inside s)
 
 -- The parsed element is the one with which these bytes begin.
 pub record IsFirstOf (parsed : ParsedElement) (bytes : List ℕ) : Type 0 where

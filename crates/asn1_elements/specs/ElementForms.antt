@@ -76,7 +76,10 @@ module _ (F : ReadForm) (AreInOrder : ContentOrder → List ℕ → Type 0) wher
   -- content has its own, and what holds others that of its head. An open type is its own bytes, and a presence mark has none.
   -- The other way round, bytes after bytes are those of both records; and octets of an element are those of each record of the head's
   -- tag that can be inside, or of an open type that is this element.
+  -- What a later version adds is passed over, and the order inside the alternative of a CHOICE is free.
   pub record IsElementForm : Type 0 where
+    pub passes_over : F.passes_over ≡ true
+    pub chosen : (own : List ℕ) → AreInOrder Chosen own
     pub nothing : F.Have [] []
     pub only_nothing : (bytes : List ℕ) → F.Have [] bytes → bytes ≡ []
     pub joined : (r : Record) (rs : List Record) (bytes : List ℕ) → F.Have (r ∷ rs) bytes → IsJoined (F.Has r) (F.Have rs) bytes

@@ -12,6 +12,7 @@ ghost use Rattle.std.specs.Prelude.{◌≡◌, Decides, IfOk, IfSome, List, Matc
 
 use crate::element_form::ElementForm;
 use crate::from_contents::FromContents;
+use crate::later_versions::are_unknown;
 use crate::parsed_element::ParsedElement;
 use crate::unread_bytes::bytes_left;
 use asn1_bounds::{Codec, Constraints};
@@ -50,13 +51,14 @@ impl<'a, F: ElementForm> ElementDecoder<'a, F> {
     ghost use Rattle.asn1_laws.specs.ReadingTypes.{ReadsContent};
     ghost use Rattle.asn1_laws.specs.declared.decode_error.DecodeError.TheVariants.{Failed};
     ghost use Rattle.asn1_der_items.specs.declared.content_order.ContentOrder.TheVariants.{AsDefined};
-    ghost use Rattle.asn1_elements.specs.Decoder.{AreLeft, BeginWithContent, BeginWithScope, CarriesUpToOrder, HasOpenedExpected, IsElementOpened, IsElementTaken, IsExpected, IsFirstOf, IsReadOfElement, IsTaken, Remains, element_reader, in_one_order};
+    ghost use Rattle.asn1_elements.specs.Decoder.{AreLeft, BeginWithContent, BeginWithScope, CarriesUpToOrder, HasOpenedExpected, IsElementOpened, IsElementTaken, IsExpected, IsFirstOf, IsLeftBehind, IsReadOfElement, IsTaken, Remains, element_reader, in_one_order};
     ghost use Rattle.asn1_elements.specs.UnreadBytes.{unread};
-    ghost use Rattle.asn1_items.specs.DecodeStates.{IsWithinBound, OpensExpected, ReadsExpectedHead, ReadsExpectedSet};
+    ghost use Rattle.asn1_items.specs.DecodeStates.{IsWithinBound, OpensExpected, ReadsExpectedHead, ReadsExpectedSequence, ReadsExpectedSet};
     ghost use Rattle.asn1_items.specs.NextTags.{IsNext};
     ghost use Rattle.asn1_items.specs.Slices.{left_inside, left_outside};
-    ghost use Rattle.asn1_model.specs.Orders.{SameRecords};
-    ghost use Rattle.asn1_model.specs.Records.{PresenceMark};
+    ghost use Rattle.asn1_components.specs.Components.{rows};
+    ghost use Rattle.asn1_model.specs.Orders.{MayStandBehind, MayStandFor};
+    ghost use Rattle.asn1_model.specs.Records.{PresenceMark, sequence};
     ghost use Rattle.asn1_model.specs.Tags.{tree_tags};
     ghost use Rattle.asn1_tags.specs.Trees.{shape};
     ghost use Rattle.std.specs.Prelude.{◌≡◌, ◌≢◌, ◌↔◌, ◌++◌, ◌<◌, ◌^◌, [], ⊤, Err, IfErr, IfOk, IsOk, List, MatchResult, OnOk, Some, codes, false, ℕ, true};
@@ -64,7 +66,7 @@ impl<'a, F: ElementForm> ElementDecoder<'a, F> {
     /// A decoder that is before these bytes, and may open this many nested scopes.
     pub fn new(alloc: Global, bytes: &'a [u8], depth: usize) -> ElementDecoder<'a, F>
         ensures before { (exactly rs : List model.Record) → F.form.Have exactly bytes.now →
-            SameRecords exactly rs → Remains F.form result (rs, []) }
+            MayStandFor F.form.passes_over exactly rs → Remains F.form result (rs, []) }
         ensures only { (rs : List model.Record) → Remains F.form result (rs, []) →
             CarriesUpToOrder F.form rs bytes.now }
         ensures depth_left { (element_reader F.form).depth_left result ≡ depth }
@@ -221,12 +223,36 @@ impl<'a, F: ElementForm> ElementDecoder<'a, F> {
     fn open_in_order(&mut self, tag: Tag) -> Result<(), DecodeError>
         ensures read { ReadsExpectedHead (element_reader F.form) (IsExpected AsDefined (Some tag))
             (λ _ _. ⊤) self.old self.new result }
+        ensures read_sequence { ReadsExpectedSequence (element_reader F.form)
+            (IsExpected AsDefined (Some tag)) self.old self.new result }
         ensures only { OnOk result (HasOpenedExpected (element_reader F.form)
             (IsExpected AsDefined (Some tag)) self.old self.new) }
         ensures takes_depth { TakesDepth (element_reader F.form) self.old self.new result }
     {
         self.open(ContentOrder::AsDefined, Some(tag))?;
         Ok(())
+    }
+
+    /// Passes over what is left of the innermost scope, if a later version of the SEQUENCE of `C` may have added it.
+    fn pass_over<C: FieldTable>(&mut self)
+        ensures passed { (tag : Under) (n : Name) (behind : List model.Record) →
+            MayStandBehind F.form.passes_over (sequence tag (rows C.components) n) behind →
+            AreLeft F.form behind self.old.state.slices → left_inside self.new.state.slices ≡ [] }
+        ensures only { (tag : Under) (n : Name) → left_inside self.new.state.slices ≡ [] →
+            IsLeftBehind F.form (sequence tag (rows C.components) n) self.old.state.slices }
+        ensures outside { left_outside self.new.state.slices ≡
+            left_outside self.old.state.slices }
+        ensures same_failure { self.new.state.failed ≡ self.old.state.failed }
+        ensures same_depth { self.new.state.depth_left ≡ self.old.state.depth_left }
+    {
+        let state = &mut self.state;
+        let left = state.slices.left();
+        if left.is_empty() {
+            return;
+        }
+        if C::extension_index().is_some() && are_unknown::<C>(left) {
+            state.slices.advance_to(&[]);
+        }
     }
 
     /// Opens a list of elements or the components of a set, and answers how many bytes are in it.
@@ -326,6 +352,13 @@ impl<'a, F: ElementForm> Decoder for ElementDecoder<'a, F> {
             Some(_) => Ok(number),
             None => Err(self.state.fail(BAD_ITEM)),
         }
+    }
+
+    fn decode_any_enumerated_number<E: EnumeratedTable>(
+        &mut self,
+        tag: Tag,
+    ) -> Result<isize, DecodeError> {
+        self.scalar(tag)
     }
 
     fn decode_object_identifier(&mut self, tag: Tag) -> Result<ObjectIdentifier, DecodeError> {
@@ -459,6 +492,11 @@ impl<'a, F: ElementForm> Decoder for ElementDecoder<'a, F> {
     }
 
     fn close(&mut self) -> Result<(), DecodeError> {
+        self.state.close()
+    }
+
+    fn close_sequence<C: FieldTable>(&mut self) -> Result<(), DecodeError> {
+        self.pass_over::<C>();
         self.state.close()
     }
 

@@ -24,6 +24,7 @@ mod contents;
 mod decoder;
 mod element_form;
 mod from_contents;
+mod later_versions;
 pub mod laws;
 mod parsed_element;
 mod unread_bytes;

@@ -1,8 +1,8 @@
 -- The exact bytes left of the open scopes, from call to call.
 use Rattle.std.proofs.Common.{◌≡◌, ℕ, ◌+◌, ◌≤◌, Bool, true, false, List, [], ◌∷◌, ◌++◌, refl, sym, ap, subst, arith, length, length-append, ◌∙◌, inl}
 use Rattle.std.specs.Prelude.{⊤, ◌&&◌, ◌≢◌, ◌↔◌, Decides, Result, Ok, Err, IfErr, IfOk, OnErr, OnOk, MatchResult, not}
-use Rattle.asn1_laws.proofs.ReadingUpToOrder.{at_the_end, reads_end, remains_exactly, tells_more}
-use Rattle.asn1_laws.specs.Reading.{HasAdvanced, MayFail, Outside, ReadsEnd, ReadsHead, Reader, TellsMore, nothing, records_in}
+use Rattle.asn1_laws.proofs.ReadingUpToOrder.{at_the_end, reads_end, reads_end_of_sequence, remains_exactly, tells_more}
+use Rattle.asn1_laws.specs.Reading.{HasAdvanced, MayFail, Outside, ReadsEnd, ReadsEndOfSequence, ReadsHead, Reader, TellsMore, nothing, records_in}
 use Rattle.asn1_laws.specs.ReadingUpToOrder.{up_to_order}
 use Rattle.asn1_laws.specs.declared.decode_error.DecodeError.{DecodeError}
 use Rattle.asn1_laws.specs.declared.decode_error.DecodeError.TheVariants.{Depth, Failed, Memory}
@@ -11,7 +11,7 @@ use Rattle.asn1_items.specs.Slices.{left_inside, left_of, left_outside, open_lis
 use Rattle.asn1_items.specs.declared.slices.Rest.{Rest}
 use Rattle.asn1_items.specs.declared.slices.Slices.{Slices}
 use Rattle.asn1_model.proofs.SameUpToOrder.{same-marks_alone}
-use Rattle.asn1_model.specs.Orders.{SameRecords}
+use Rattle.asn1_model.specs.Orders.{MayStandBehind, MayStandFor}
 use Rattle.asn1_model.specs.Records.{Head, Name, Record, is_presence_mark, presence_marks_alone, scalar, scope, open_type, presence_mark}
 use Rattle.asn1_model.specs.Tags.{head_tag}
 use Rattle.asn1_items.specs.DecodeStates.{AllHave, IsAtEnd, IsClosed, IsOpen, IsOpened, IsReadForm, NoneToClose, OpensExpected, ReadForm, RemainsExactly, exact_reader, lists_outside}
@@ -108,7 +108,7 @@ module _ {F : ReadForm} (form : IsReadForm F) where
   module _ {D : Type 0} (state : D → DecodeState) where
     -- where a reading begins
     pub begins : (d : D) (bytes : List ℕ) (exactly rs : List Record) → (state d).failed ≡ false → left_inside (state d).slices ≡ bytes → left_outside (state d).slices ≡ [] →
-        F.Have exactly bytes → SameRecords exactly rs → (up_to_order (exact_reader F state)).remains d (rs, [])
+        F.Have exactly bytes → MayStandFor F.passes_over exactly rs → (up_to_order (exact_reader F state)).remains d (rs, [])
     begins d bytes exactly rs no_failure is closed have same = record {
       exactly = (exactly, []);
       remains = record {
@@ -167,18 +167,34 @@ module _ {F : ReadForm} (form : IsReadForm F) where
         TellsMore (up_to_order (exact_reader F state)) d d result
     more_is_decided d result decided has_failed = tells_more (exact_reader F state) d d result (more_decided d result decided has_failed)
 
-    -- a scope was closed, or none is to be closed
-    closes : (d e : D) (result : Result ⊤ DecodeError) → OnOk result (IsClosed (state d) (state e)) → OnOk result ((state e).failed ≡ false) → OnErr result (NoneToClose (state d)) →
-        ReadsEnd (exact_reader F state) d e result
-    closes d e (Ok w) closed no_failure refused h rest outer at =
+    -- the innermost scope, of which nothing is left, was closed, or none is to be closed
+    closes : (d m e : D) (h : Head) (rest : List Record) (outer : Outside) (result : Result ⊤ DecodeError) → RemainsExactly F (state m) ([], (h, rest) ∷ outer) →
+        OnOk result (IsClosed (state m) (state e)) → OnOk result ((state e).failed ≡ false) → OnErr result (NoneToClose (state m)) →
+        MatchResult result (λ _. HasAdvanced (exact_reader F state) d e 0 (rest, outer) ⊤) (MayFail ((state d).depth_left) 0)
+    closes d m e h rest outer (Ok w) at closed no_failure refused =
         let p = subst (AllHave F (rest ∷ lists_outside outer)) closed.outside at.outside in
         record { answer = tt; at = record { no_failure = no_failure; inside = p.0; outside = p.1 }; within_depth_left = omega arith }
-    closes d e (Err error) closed no_failure refused h rest outer at =
-        absurd (subst (AllHave F (rest ∷ lists_outside outer)) (refused at.no_failure (form.only_nothing (left_inside (state d).slices) at.inside)) at.outside)
+    closes d m e h rest outer (Err error) at closed no_failure refused =
+        absurd (subst (AllHave F (rest ∷ lists_outside outer)) (refused at.no_failure (form.only_nothing (left_inside (state m).slices) at.inside)) at.outside)
 
     pub scope_closed : (d e : D) (result : Result ⊤ DecodeError) → OnOk result (IsClosed (state d) (state e)) → OnOk result ((state e).failed ≡ false) → OnErr result (NoneToClose (state d)) →
         ReadsEnd (up_to_order (exact_reader F state)) d e result
-    scope_closed d e result closed no_failure refused = reads_end (exact_reader F state) d e result (closes d e result closed no_failure refused)
+    scope_closed d e result closed no_failure refused =
+        reads_end (exact_reader F state) d e result (λ h rest outer at. closes d d e h rest outer result at closed no_failure refused)
+
+    -- what may be behind was passed over, and a SEQUENCE was closed, or none is to be closed
+    pub sequence_closed : (d m e : D) (head : Name → Head) (result : Result ⊤ DecodeError) → (state m).failed ≡ (state d).failed →
+        left_outside (state m).slices ≡ left_outside (state d).slices →
+        ((n : Name) (behind : List Record) → MayStandBehind F.passes_over (head n) behind → F.Have behind (left_inside (state d).slices) → left_inside (state m).slices ≡ []) →
+        OnOk result (IsClosed (state m) (state e)) → OnOk result ((state e).failed ≡ false) → OnErr result (NoneToClose (state m)) →
+        ReadsEndOfSequence (up_to_order (exact_reader F state)) d e head result
+    sequence_closed d m e head result same_failure same_outside passed closed no_failure refused =
+        reads_end_of_sequence (exact_reader F state) d e head result (λ n behind rest outer may at.
+        closes d m e (head n) rest outer result (record {
+          no_failure = same_failure ∙ at.no_failure;
+          inside = subst (λ l. F.Have [] l) (sym (passed n behind may at.inside)) form.nothing;
+          outside = subst (AllHave F (rest ∷ lists_outside outer)) (sym same_outside) at.outside;
+        }) closed no_failure refused)
 
     -- the end
     pub all_is_read : (d : D) → IsAtEnd (state d) → (up_to_order (exact_reader F state)).remains d ([], [])

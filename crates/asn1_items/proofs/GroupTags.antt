@@ -63,6 +63,12 @@ is_zero : (n : ℕ) → (¬ (n ≡ 0) → ⊥) → eqb n 0 ≡ true
 is_zero zero f = refl
 is_zero (suc n) f = absurd (f (λ e. absurd (omega (arith, e))))
 
+-- the index of a row lies in the table
+pub row_within : (es : List FieldView) (index : ℕ) (e : FieldView) → slice_get es index ≡ Some e → index < length es
+row_within [] index e at = cc
+row_within (x ∷ es) zero e at = omega arith
+row_within (x ∷ es) (suc index) e at = let later = row_within es index e at in omega (arith, later)
+
 module _ {V : Type 0} (components : Components V) (t : Tag) where
   abbrev group_tags : Tags
   group_tags = tree_tags (choice (trees_of (all_components components)))

@@ -1,10 +1,10 @@
 -- The records left in the open scopes, and the effect of each call on them.
 use Rattle.std.specs.Prelude.{◌≡◌, ℕ, ◌≤◌, ⊤, Bool, false, List, [], ◌∷◌, length, map, Result}
-use Rattle.asn1_laws.specs.Reading.{Advances, Outside, Reader, ReadsHead, ReadsHeadOfSet, Remaining, records_in}
+use Rattle.asn1_laws.specs.Reading.{Advances, Outside, Reader, ReadsHead, ReadsHeadOfSequence, ReadsHeadOfSet, Remaining, records_in}
 use Rattle.asn1_laws.specs.declared.decode_error.DecodeError.{DecodeError}
 use Rattle.asn1_items.specs.Items.{IsJoined}
 use Rattle.asn1_items.specs.Slices.{left_inside, left_outside}
-use Rattle.asn1_model.specs.Orders.{is_unordered}
+use Rattle.asn1_model.specs.Orders.{is_unordered, may_have_more}
 use Rattle.asn1_model.specs.Records.{Head, Name, Record, holding, is_presence_mark}
 use Rattle.asn1_model.specs.Tags.{head_tag}
 use Rattle.asn1_items.specs.declared.decode_state.Opened.{Opened}
@@ -33,12 +33,13 @@ pub record IsClosed (old new : DecodeState) : Type 0 where
 abbrev pub NoneToClose : DecodeState → Type 0
 NoneToClose s = s.failed ≡ false → left_inside s.slices ≡ [] → left_outside s.slices ≡ []
 
--- The form in which a decoder reads records: the bytes of one, the bytes of several, and the byte strings that are one value of
--- an open type.
+-- The form in which a decoder reads records: the bytes of one, the bytes of several, the byte strings that are one value of an open
+-- type, and whether what a later version of a type adds is passed over.
 pub record ReadForm : Type 1 where
   pub Has : Record → List ℕ → Type 0
   pub Have : List Record → List ℕ → Type 0
   pub accepts : List ℕ → Bool
+  pub passes_over : Bool
 
 -- A lawful form: the bytes of several records are those of each in turn, and each takes a byte, presence marks apart.
 pub record IsReadForm (F : ReadForm) : Type 0 where
@@ -71,6 +72,7 @@ module _ (F : ReadForm) where
     failed = λ d. (state d).failed;
     depth_left = λ d. (state d).depth_left;
     accepts = λ bytes. F.accepts bytes;
+    passes_over = F.passes_over;
   }
 
 -- The opened scope is a record of this head, which holds these.
@@ -88,13 +90,21 @@ OpensExpected R IsExpected old new result =
 abbrev pub IsWithinBound : List Record → ℕ → Type 0
 IsWithinBound items bound = records_in items ≤ bound
 
--- a call that opens each record whose head is what is wanted, if the order of what it holds means something
+-- a call that opens each record whose head is what is wanted, if the order of what it holds means something, and nothing may be
+-- behind
 abbrev pub ReadsExpectedHead : {D V : Type 0} → Reader D → (Head → Type 0) → (List Record → V → Type 0) → D → D → Result V DecodeError → Type 0
 ReadsExpectedHead R IsExpected Is old new result =
     (head : Name → Head) → ((n : Name) → IsExpected (head n)) → ((n : Name) → is_unordered (head n) ≡ false) →
-    ReadsHead R old new head Is result
+    ((n : Name) → may_have_more (head n) ≡ false) → ReadsHead R old new head Is result
+
+-- the same where something may be behind
+abbrev pub ReadsExpectedSequence : {D V : Type 0} → Reader D → (Head → Type 0) → D → D → Result V DecodeError → Type 0
+ReadsExpectedSequence R IsExpected old new result =
+    (head : Name → Head) → ((n : Name) → IsExpected (head n)) → ((n : Name) → is_unordered (head n) ≡ false) →
+    ReadsHeadOfSequence R old new head result
 
 -- the same whether it means something or not: what it holds remains in some order
 abbrev pub ReadsExpectedSet : {D V : Type 0} → Reader D → (Head → Type 0) → (List Record → V → Type 0) → D → D → Result V DecodeError → Type 0
 ReadsExpectedSet R IsExpected Is old new result =
-    (head : Name → Head) → ((n : Name) → IsExpected (head n)) → ReadsHeadOfSet R old new head Is result
+    (head : Name → Head) → ((n : Name) → IsExpected (head n)) → ((n : Name) → may_have_more (head n) ≡ false) →
+    ReadsHeadOfSet R old new head Is result

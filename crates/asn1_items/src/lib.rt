@@ -11,7 +11,7 @@
 //! | [`ItemKind`], [`ScopeKind`], [`ContentKind`], [`MarkKind`] | kinds, each with its byte | `Kinds` |
 //! | [`Buffer`] | the bytes that are written, with the open scopes and groups | `Items`, `Buffers` |
 //! | [`Slices`], [`Item`] | the bytes that are read, list by list | `Slices` |
-//! | [`group_can_begin_with`] | whether a group is there, by the next tag | `NextTags` |
+//! | [`component_can_begin_with`], [`group_can_begin_with`] | whether a component or a group is there, by the next tag | `NextTags` |
 //! | [`DecodeState`], [`Opened`], [`BAD_ITEM`] | the state of every decoder over bytes | `DecodeStates` |
 //! | [`ItemError`], [`BufferError`] | why an item was not read, or not written | |
 //! | [`laws`] | what the derives give | |
@@ -64,4 +64,4 @@ pub use header::{ExpectedHeader, Header, find_header};
 pub use kinds::{ContentKind, ItemKind, MarkKind, ScopeKind};
 pub use numbers::{read_twos, significant};
 pub use slices::{Item, Slices};
-pub use tags::group_can_begin_with;
+pub use tags::{component_can_begin_with, group_can_begin_with};

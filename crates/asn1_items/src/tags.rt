@@ -1,6 +1,7 @@
-//! Whether a group can begin with a tag.
+//! Whether a component or a group can begin with a tag.
 ghost use Rattle.asn1_components.specs.ComponentLists.{trees_of};
-ghost use Rattle.asn1_components.specs.Components.{all_components};
+ghost use Rattle.asn1_components.specs.Components.{all_components, table};
+ghost use Rattle.asn1_items.specs.NextTags.{OneCanBegin};
 ghost use Rattle.asn1_model.specs.Tags.{Has, tree_tags};
 ghost use Rattle.asn1_tags.specs.Trees.{choice};
 ghost use Rattle.std.specs.Prelude.{◌↔◌, IsTrue};
@@ -9,10 +10,9 @@ use asn1_components::FieldTable;
 use asn1_model::can_begin_with;
 use asn1_tags::Tag;
 
-/// Whether a group with the components of this table can begin with the tag: one of them can, or there are none.
-pub fn group_can_begin_with<C: FieldTable>(tag: Tag) -> bool
-    ensures { IsTrue result ↔
-        Has (tree_tags (choice (trees_of (all_components C.components)))) tag }
+/// Whether a component of this table can begin with the tag.
+pub fn component_can_begin_with<C: FieldTable>(tag: Tag) -> bool
+    ensures { IsTrue result ↔ OneCanBegin (table C.components) tag }
 {
     let count = C::field_count();
     for index in 0..count {
@@ -22,5 +22,13 @@ pub fn group_can_begin_with<C: FieldTable>(tag: Tag) -> bool
             }
         }
     }
-    count == 0
+    false
+}
+
+/// Whether a group with the components of this table can begin with the tag: one of them can, or there are none.
+pub fn group_can_begin_with<C: FieldTable>(tag: Tag) -> bool
+    ensures { IsTrue result ↔
+        Has (tree_tags (choice (trees_of (all_components C.components)))) tag }
+{
+    component_can_begin_with::<C>(tag) || C::field_count() == 0
 }

@@ -1,5 +1,6 @@
 pub mod ComponentTags
 pub mod Heights
+pub mod LaterVersions
 pub mod MarksPassed
 pub mod OneRecordEach
 pub mod ReadingAlternatives

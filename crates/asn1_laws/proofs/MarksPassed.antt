@@ -4,7 +4,7 @@ use Rattle.std.proofs.Common.{ap, sym, subst, ◌∙◌}
 use Rattle.asn1_components.specs.ComponentTypes.{ComponentType}
 use Rattle.asn1_laws.specs.Reading.{IsNextTag, TellsComponent, marks_passed}
 use Rattle.asn1_laws.proofs.TellingTags.{selects_itself}
-use Rattle.asn1_model.specs.Orders.{SameRecords}
+use Rattle.asn1_model.specs.Orders.{MayStandFor}
 use Rattle.asn1_model.specs.Records.{Record, scalar, scope, open_type, presence_mark, is_presence_mark, presence_marks_alone}
 use Rattle.asn1_model.specs.Tags.{Has, first_tags, record_tags}
 use Rattle.asn1_model.proofs.SameRecords.{same-mark}
@@ -12,16 +12,16 @@ use Rattle.asn1_model.proofs.SameUpToOrder.{SameAll-cons, same-first_tags, same-
 use Rattle.asn1_tags.specs.declared.tags.Tag.{Tag}
 
 -- the same is left where the records are the same
-pub same-marks_passed : (rs ss : List Record) → SameRecords rs ss → SameRecords (marks_passed rs) (marks_passed ss)
+pub same-marks_passed : {passes : Bool} (rs ss : List Record) → MayStandFor passes rs ss → MayStandFor passes (marks_passed rs) (marks_passed ss)
 same-marks_passed [] [] all = all
 same-marks_passed [] (s ∷ ss) all = elim all [ ]
 same-marks_passed (r ∷ rs) [] all = elim all [ ]
-same-marks_passed (r ∷ rs) (s ∷ ss) all =
+same-marks_passed {passes = passes} (r ∷ rs) (s ∷ ss) all =
     let both = SameAll-cons all in
     by_marks (is_presence_mark r) (is_presence_mark s) (same-mark both.0) (same-marks_passed rs ss both.1)
   where
-    by_marks : (b c : Bool) → b ≡ c → SameRecords (marks_passed rs) (marks_passed ss) →
-        SameRecords (if b then marks_passed rs else r ∷ rs) (if c then marks_passed ss else s ∷ ss)
+    by_marks : (b c : Bool) → b ≡ c → MayStandFor passes (marks_passed rs) (marks_passed ss) →
+        MayStandFor passes (if b then marks_passed rs else r ∷ rs) (if c then marks_passed ss else s ∷ ss)
     by_marks true true e passed = passed
     by_marks true false e passed = cc
     by_marks false true e passed = cc
@@ -68,7 +68,7 @@ next_tag cs items first others t is has = record {
 }
 
 -- and what is next is so where the records are the same
-pub same-next_tag : {V : Type 0} (cs : List (ComponentType V)) (rs ss : List Record) (next : Option Tag) → SameRecords rs ss → IsNextTag cs rs next → IsNextTag cs ss next
+pub same-next_tag : {passes : Bool} {V : Type 0} (cs : List (ComponentType V)) (rs ss : List Record) (next : Option Tag) → MayStandFor passes rs ss → IsNextTag cs rs next → IsNextTag cs ss next
 same-next_tag cs rs ss next same h = record {
   none = λ e. sym (same-marks_alone rs ss same) ∙ h.none e;
   some = λ t e. subst (λ ts. (u : Tag) × (Has ts u × TellsComponent cs ts t)) (same-first_tags rs ss same) (h.some t e);

@@ -1,19 +1,19 @@
 -- How what was read adds up, and what a decoder has read up to order.
 use Rattle.std.proofs.Common.{◌≡◌, ℕ, Bool, true, false, List, [], ◌∷◌, ◌++◌, None, append_assoc, append-nil, refl, sym, subst}
 use Rattle.asn1_laws.proofs.RemainingRecords.{same_as_scope}
-use Rattle.asn1_laws.specs.Reading.{Outside, Reader, SameRemaining, scope_and}
-use Rattle.asn1_laws.specs.ReadingExactly.{HasClosed, HasOpened, HasOpenedChoice, HasOpenedNamed, HasOpenedUnder, HasRead, HasReadContent, HasReadMark, HasReadMarks, HasReadOpenType, WasRead}
+use Rattle.asn1_laws.specs.Reading.{Outside, Reader, scope_and}
+use Rattle.asn1_laws.specs.ReadingExactly.{HasClosed, HasClosedSequence, HasOpened, HasOpenedChoice, HasOpenedNamed, HasOpenedUnder, HasRead, HasReadContent, HasReadMark, HasReadMarks, HasReadOpenType, WasRead}
 use Rattle.asn1_laws.specs.ReadingUpToOrder.{up_to_order}
-use Rattle.asn1_model.proofs.SameUpToOrder.{same-first_tags}
+use Rattle.asn1_model.proofs.SameUpToOrder.{SameRecords-refl, same-first_tags}
 use Rattle.asn1_model.specs.ConstraintSets.{ConstraintSet}
-use Rattle.asn1_model.specs.Orders.{SameRecords, at_end, equal, next, one_by_one}
+use Rattle.asn1_model.specs.Orders.{MayStandFor, at_end, equal, next, no_more, one_by_one}
 use Rattle.asn1_model.specs.Records.{Content, Head, Name, PresenceMark, Record, alternative, holding, open_type, presence_mark, scalar}
 use Rattle.asn1_model.specs.RecordTables.{Row, Table}
 use Rattle.asn1_model.specs.Tags.{Has}
 use Rattle.asn1_tags.specs.declared.tags.Tag.{Tag}
 
 -- the same records in front of those that are the same
-same_behind : (rs ss ts : List Record) → SameRecords ss ts → SameRecords (rs ++ ss) (rs ++ ts)
+same_behind : {passes : Bool} (rs ss ts : List Record) → MayStandFor passes ss ts → MayStandFor passes (rs ++ ss) (rs ++ ts)
 same_behind [] ss ts same = same
 same_behind (r ∷ rs) ss ts same = next (equal r) (same_behind rs ss ts same)
 
@@ -32,6 +32,10 @@ module _ {D : Type 0} (R : Reader D) where
       HasRead R old new (holding h items ∷ [])
   read_scope old opened mid new h items opens reads closes rest outer at =
       opens items rest outer (subst (λ l. R.remains opened (l, (h, rest) ∷ outer)) (append-nil items) (reads [] ((h, rest) ∷ outer) (closes h rest outer at)))
+
+  -- a SEQUENCE was closed, with nothing behind
+  pub closes_with_nothing_behind : (old new : D) (head : Name → Head) → HasClosed R old new → HasClosedSequence R old new head
+  closes_with_nothing_behind old new head closes n rest outer at = record { behind = []; may = no_more; at = closes (head n) rest outer at }
 
   -- the same of a decoder up to order
   module _ (old new : D) where
@@ -97,3 +101,15 @@ module _ {D : Type 0} (R : Reader D) where
       remains = closes h at.exactly.0 at.exactly.1 at.remains;
       same = record { here = at_end; outside = scope_and h at.same.here at.same.outside };
     }
+
+    pub closes_sequence_exactly : (head : Name → Head) → HasClosedSequence R old new head → HasClosedSequence (up_to_order R) old new head
+    closes_sequence_exactly head closes n rest outer at =
+        let exact = closes n at.exactly.0 at.exactly.1 at.remains in record {
+          behind = exact.behind;
+          may = exact.may;
+          at = record {
+            exactly = (exact.behind, (head n, at.exactly.0) ∷ at.exactly.1);
+            remains = exact.at;
+            same = record { here = SameRecords-refl exact.behind; outside = scope_and (head n) at.same.here at.same.outside };
+          };
+        }

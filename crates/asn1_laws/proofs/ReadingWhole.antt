@@ -7,14 +7,17 @@ use Rattle.asn1_components.specs.ComponentLists.{AreReadInAnyOrder, AreReadInTur
 use Rattle.asn1_components.specs.ComponentTypes.{ComponentType}
 use Rattle.asn1_components.specs.Components.{AgreesWithComponents, AreReadInKind, Components, Kind, all_components, head_of_kind, rows}
 use Rattle.asn1_laws.proofs.ReadingExactly.{read_both, read_scope}
+use Rattle.asn1_laws.proofs.RemainingRecords.{StandOutside-refl}
 use Rattle.asn1_laws.proofs.UnmarkedRecords.{unmarked-append, unmarked-marks}
-use Rattle.asn1_laws.specs.Reading.{Outside, Reader}
-use Rattle.asn1_laws.specs.ReadingExactly.{HasClosed, HasOpenedChoice, HasOpenedNamed, HasRead, HasReadChoice, HasReadChoiceAfterTag, HasReadComponents, HasReadContent, HasReadMark, HasReadMarks, HasReadParts, HasReadValue, WasRead}
+use Rattle.asn1_laws.specs.Reading.{IsLawful, Outside, Reader}
+use Rattle.asn1_laws.specs.ReadingExactly.{HasClosed, HasClosedSequence, HasOpenedChoice, HasOpenedNamed, HasRead, HasReadChoice, HasReadChoiceAfterTag, HasReadComponents, HasReadContent, HasReadMark, HasReadMarks, HasReadParts, HasReadValue, WasRead}
 use Rattle.asn1_laws.specs.declared.decode_error.DecodeError.{DecodeError}
+use Rattle.asn1_model.proofs.SameUpToOrder.{SameRecords-refl, stands_with_behind}
 use Rattle.asn1_model.specs.ConstraintSets.{ConstraintSet}
 use Rattle.asn1_model.specs.Meaning.{Meaning}
+use Rattle.asn1_model.specs.Orders.{next}
 use Rattle.asn1_model.specs.Readings.{AreElementsRead, IsReadAfterTag, IsReadAsAlternative, IsReadAsOption, IsReadIfUntagged, IsReadInside, Reading}
-use Rattle.asn1_model.specs.Records.{Content, Head, Name, PresenceMark, Record, Side, absent, alternative, explicit_tag, group_end, group_start, holding, presence_mark, present, scalar, unmarked}
+use Rattle.asn1_model.specs.Records.{Content, Head, Name, PresenceMark, Record, Side, absent, alternative, explicit_tag, group_end, group_start, holding, presence_mark, present, scalar, sequence, unmarked}
 use Rattle.asn1_model.specs.RecordTables.{Row, Table}
 use Rattle.asn1_model.specs.Tags.{CHOICE}
 use Rattle.asn1_tags.specs.Tags.{tag_eq}
@@ -84,6 +87,25 @@ module _ {D : Type 0} (R : Reader D) where
               );
           read = read_scope R old opened mid new h inside.records (opens.opened None) inside.read closes;
         }
+
+  -- the same of a SEQUENCE, whose end passes over what may be behind its components
+  pub sequence_was_read : {V : Type 0} (IsReadAs : Reading V) (v : V) (old opened mid new : D) → WasRead R opened mid (IsReadAs v) → IsLawful R → (t : Tag) (table : Table Row) → HasOpenedNamed R old opened (sequence t table) → HasClosedSequence R mid new (sequence t table) →
+      WasRead R old new (IsReadInside IsReadAs (sequence t table) v)
+  sequence_was_read IsReadAs v old opened mid new inside lawful t table opens ends =
+      let h = sequence t table None in record {
+        records = holding h inside.records ∷ [];
+        are = λ rest outer at.
+            let end = ends None rest outer at in
+            (None, inside.records, inside.are end.behind ((h, rest) ∷ outer) end.at, refl);
+        read = λ rest outer at.
+            let end = ends None rest outer at in
+            lawful.stands_for old (holding h (inside.records ++ end.behind) ∷ rest, outer) (holding h inside.records ∷ rest, outer)
+            (record {
+              here = next (stands_with_behind t table None inside.records end.behind end.may) (SameRecords-refl rest);
+              outside = StandOutside-refl outer;
+            })
+            (opens None (inside.records ++ end.behind) rest outer (inside.read end.behind ((h, rest) ∷ outer) end.at));
+      }
 
   -- a component that may be absent, and its presence mark
   module _ {V : Type 0} (IsReadAs : Reading V) (side : Side) (t : Tag) where

@@ -1,11 +1,11 @@
 -- How many records there are in a list, presence marks apart.
-use Rattle.std.proofs.Common.{◌≡◌, suc, ◌≤◌, cond, List, [], ◌∷◌, length, refl, ap, sym, ◌∙◌, arith}
+use Rattle.std.proofs.Common.{◌≡◌, Bool, suc, ◌≤◌, cond, List, [], ◌∷◌, length, refl, ap, sym, ◌∙◌, arith}
 use Rattle.std.specs.Prelude.{IsPermutation, if◌then◌else◌}
 use Rattle.std.specs.List.{sum_by}
 use Rattle.std.proofs.lemmas.List.Sorted.{sum_by-IsPermutation}
 use Rattle.std.proofs.lemmas.List.Sums.{sum_by-cons}
 use Rattle.asn1_laws.specs.Reading.{records_in}
-use Rattle.asn1_model.specs.Orders.{SameRecords}
+use Rattle.asn1_model.specs.Orders.{MayStandFor}
 use Rattle.asn1_model.specs.Records.{Record, scalar, scope, open_type, presence_mark, is_presence_mark}
 use Rattle.asn1_model.proofs.SameRecords.{same-mark}
 use Rattle.asn1_model.proofs.SameUpToOrder.{SameAll-cons}
@@ -31,7 +31,7 @@ records_in-permutation rs ss moved =
     records_in-sum rs ∙ sym (sum_by-IsPermutation (λ r. cond (is_presence_mark r) 0 1) rs ss moved) ∙ sym (records_in-sum ss)
 
 -- and as many where the records are the same
-pub same-records_in : (rs ss : List Record) → SameRecords rs ss → records_in rs ≡ records_in ss
+pub same-records_in : {passes : Bool} (rs ss : List Record) → MayStandFor passes rs ss → records_in rs ≡ records_in ss
 same-records_in [] [] all = refl
 same-records_in [] (s ∷ ss) all = elim all [ ]
 same-records_in (r ∷ rs) [] all = elim all [ ]

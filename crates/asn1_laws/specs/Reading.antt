@@ -5,7 +5,7 @@ use Rattle.asn1_tags.specs.declared.tags.Tag.{Tag}
 use Rattle.asn1_components.specs.ComponentTypes.{ComponentType}
 use Rattle.asn1_model.specs.ConstraintSets.{ConstraintSet}
 use Rattle.asn1_model.specs.Meaning.{Meaning, tags}
-use Rattle.asn1_model.specs.Orders.{SameRecords}
+use Rattle.asn1_model.specs.Orders.{MayStandBehind, MayStandFor}
 use Rattle.asn1_model.specs.Records.{Name, Record, Head, PresenceMark, presence_mark, holding, highest, is_presence_mark, presence_marks_alone}
 use Rattle.asn1_model.specs.Tags.{Tags, BeginsWithin, Has, LiesIn, ShareNone, first_tags, tree_tags}
 use Rattle.asn1_laws.specs.Refusals.{Refusals}
@@ -21,16 +21,17 @@ Outside = List (Head × List Record)
 abbrev pub Remaining : Type 0
 Remaining = List Record × Outside
 
--- The same scopes are open, and what is left after each is the same up to the order inside sets.
-pub data SameOutside : Outside → Outside → Type 0 where
-  nothing : SameOutside [] []
-  scope_and : (h : Head) {rs ss : List Record} {outer others : Outside} → SameRecords rs ss →
-      SameOutside outer others → SameOutside ((h, rs) ∷ outer) ((h, ss) ∷ others)
+-- The same scopes are open, and what is left after each stands for what is left after the other.
+pub data StandOutside (passes : Bool) : Outside → Outside → Type 0 where
+  nothing : StandOutside passes [] []
+  scope_and : (h : Head) {rs ss : List Record} {outer others : Outside} → MayStandFor passes rs ss →
+      StandOutside passes outer others → StandOutside passes ((h, rs) ∷ outer) ((h, ss) ∷ others)
 
--- The same records are left, list by list, up to the order inside sets.
-pub record SameRemaining (one other : Remaining) : Type 0 where
-  pub here : SameRecords one.0 other.0
-  pub outside : SameOutside one.1 other.1
+-- What is left stands for what is left in the other, list by list: up to the order inside sets, and what a later version adds, if
+-- that is passed over.
+pub record RemainingStandsFor (passes : Bool) (one other : Remaining) : Type 0 where
+  pub here : MayStandFor passes one.0 other.0
+  pub outside : StandOutside passes one.1 other.1
 
 -- how many records there are, presence marks apart
 abbrev pub records_in : List Record → ℕ
@@ -54,13 +55,14 @@ abbrev pub MayFollow : {V : Type 0} → Meaning V → Tag → List Record → Li
 MayFollow m t rs rest = m.IsSingleRecord ⊎ (presence_marks_alone rs ≡ true → ShareNone (tags m t) (first_tags rest))
 
 -- The relations that a decoder defines: the records that remain to be read, whether it has failed,
--- how many nested scopes may still be opened (the depth left), and which byte strings it accepts as
--- one value of an open type.
+-- how many nested scopes may still be opened (the depth left), which byte strings it accepts as one
+-- value of an open type, and whether it passes over what a later version of a type adds.
 pub record Reader (D : Type 0) : Type 1 where
   pub remains : D → Remaining → Type 0
   pub failed : D → Bool
   pub depth_left : D → ℕ
   pub accepts : List ℕ → Bool
+  pub passes_over : Bool
 
 -- Each of these trees in which the tags lie has the tag.
 abbrev pub TellsTree : Trees → Tags → Tag → Type 0
@@ -83,9 +85,11 @@ pub record IsNextTag {V : Type 0} (cs : List (ComponentType V)) (items : List Re
       (u : Tag) × (Has (first_tags items) u × TellsComponent cs (first_tags items) t)
 
 module _ {D : Type 0} (R : Reader D) where
-  -- The law of these relations: the order inside sets means nothing.
+  -- The law of these relations: the order inside sets means nothing, and what a later version adds
+  -- does not, if it is passed over.
   pub record IsLawful : Type 0 where
-    pub in_any_order : (d : D) (before other : Remaining) → SameRemaining before other → R.remains d before → R.remains d other
+    pub stands_for : (d : D) (before other : Remaining) → RemainingStandsFor R.passes_over before other →
+        R.remains d before → R.remains d other
 
   -- The call has succeeded: this holds of its answer, these lists remain to be read, and the depth
   -- left was enough.
@@ -229,6 +233,25 @@ module _ {D : Type 0} (R : Reader D) where
       R.remains old (holding (head n) items ∷ rest, outer) →
       MatchResult result (λ w. SetIsOpen old new items ((head n, rest) ∷ outer) (Is items w))
       (MayFail (R.depth_left old) 1)
+
+  -- A SEQUENCE has been opened: what is inside remains to be read, and then what may be behind.
+  pub record SequenceIsOpen (old new : D) (h : Head) (items rest : List Record) (outer : Outside) : Type 0 where
+    pub behind : List Record
+    pub may : MayStandBehind R.passes_over h behind
+    pub moved : HasAdvanced old new 1 (items ++ behind, (h, rest) ∷ outer) ⊤
+
+  -- the same of a call that opens one
+  abbrev pub ReadsHeadOfSequence : {V : Type 0} → D → D → (Name → Head) → Result V DecodeError → Type 0
+  ReadsHeadOfSequence old new head result =
+      (n : Name) (items rest : List Record) (outer : Outside) →
+      R.remains old (holding (head n) items ∷ rest, outer) →
+      MatchResult result (λ _. SequenceIsOpen old new (head n) items rest outer) (MayFail (R.depth_left old) 1)
+
+  -- a call that closes the innermost scope, of which all was read but what may be behind
+  abbrev pub ReadsEndOfSequence : {V : Type 0} → D → D → (Name → Head) → Result V DecodeError → Type 0
+  ReadsEndOfSequence old new head result =
+      (n : Name) (behind rest : List Record) (outer : Outside) → MayStandBehind R.passes_over (head n) behind →
+      Advances old new 0 (behind, (head n, rest) ∷ outer) (rest, outer) (λ _. ⊤) result
 
   -- a call that closes the innermost scope, of which all was read
   abbrev pub ReadsEnd : {V : Type 0} → D → D → Result V DecodeError → Type 0

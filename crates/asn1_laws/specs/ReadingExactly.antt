@@ -8,6 +8,7 @@ use Rattle.asn1_laws.specs.Reading.{Outside, Reader}
 use Rattle.asn1_model.specs.ConstraintSets.{ConstraintSet}
 use Rattle.asn1_model.specs.Meaning.{IsReadAsOwn, Meaning}
 use Rattle.asn1_model.specs.Readings.{AreElementsRead, IsOpenType, IsReadAfterTag, IsReadAsAlternative, IsReadAsOption, IsReadInside, IsScalar, Reading}
+use Rattle.asn1_model.specs.Orders.{MayStandBehind}
 use Rattle.asn1_model.specs.Records.{Content, Head, Name, PresenceMark, Record, Side, absent, alternative, holding, presence_mark, presence_marks_alone, unmarked}
 use Rattle.asn1_model.specs.RecordTables.{Row, Table}
 use Rattle.asn1_model.specs.Tags.{Has, first_tags}
@@ -29,6 +30,15 @@ module _ {D : Type 0} (R : Reader D) (old new : D) where
   HasClosed =
       (h : Head) (rest : List Record) (outer : Outside) → R.remains new (rest, outer) →
       R.remains old ([], (h, rest) ∷ outer)
+
+  -- The innermost scope, of this head, was closed: of it was left what may be behind.
+  pub record WasBehind (h : Head) (rest : List Record) (outer : Outside) : Type 0 where
+    pub behind : List Record
+    pub may : MayStandBehind R.passes_over h behind
+    pub at : R.remains old (behind, (h, rest) ∷ outer)
+
+  abbrev pub HasClosedSequence : (Name → Head) → Type 0
+  HasClosedSequence head = (n : Name) (rest : List Record) (outer : Outside) → R.remains new (rest, outer) → WasBehind (head n) rest outer
 
   -- Records were read of which this holds, wherever any remain now.
   pub record WasRead (Are : List Record → Type 0) : Type 0 where

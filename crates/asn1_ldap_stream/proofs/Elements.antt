@@ -12,6 +12,6 @@ memory_runs_out rules depth octets = record {
   not_read = record {
     input = octets;
     are = refl;
-    may = record { read = λ v tagged of_type valid carried. inl refl; refuses = λ rs e refused formed carried. inl (inl refl); only = tt };
+    may = record { read = λ v tagged of_type valid carried. inl refl; later = λ v tagged of_type valid read. inl refl; refuses = λ rs e refused formed carried. inl (inl refl); only = tt };
   };
 }

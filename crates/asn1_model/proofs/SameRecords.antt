@@ -1,24 +1,27 @@
--- Facts that records have in common if they are the same up to order.
-use Rattle.std.specs.Prelude.{◌≡◌, ◌≤◌, ℕ, suc, max, List, [], ◌∷◌, All, IsPermutation, refl}
+-- Facts that records have in common if one stands for the other, or if they are the same up to order.
+use Rattle.std.specs.Prelude.{◌≡◌, ◌≤◌, ℕ, suc, max, Bool, List, [], ◌∷◌, All, IsPermutation, refl}
 use Rattle.std.proofs.Common.{ap, sym, zero-le, ◌∙◌}
+use Rattle.std.proofs.lemmas.Bool.{false≢true}
 use Rattle.std.proofs.Math.Nat.{le_antisymm, le_refl, le_trans, le-max_left, le-max_right, max-le}
 use Rattle.std.proofs.lemmas.List.Elements.{All-nil, All-cons, All-head, All-tail}
 use Rattle.std.proofs.lemmas.List.Sorted.{All-permutation, IsPermutation-sym}
 use Rattle.asn1_model.specs.Records.{Record, Records, none, more, listed, height, inner_height, highest, is_presence_mark}
-use Rattle.asn1_model.specs.Orders.{SameRecord, SameAll, equal, one_by_one, in_any_order, at_end, next}
+use Rattle.asn1_model.specs.Orders.{SameRecord, SameAll, StandsFor, equal, one_by_one, in_any_order, with_more, at_end, next}
 use Rattle.asn1_model.specs.Tags.{record_tags}
 
 -- they begin with the same tags
-pub same-tags : {r s : Record} → SameRecord r s → record_tags r ≡ record_tags s
+pub same-tags : {passes : Bool} {r s : Record} → StandsFor passes r s → record_tags r ≡ record_tags s
 same-tags (equal r) = refl
 same-tags (one_by_one h all) = refl
 same-tags (in_any_order h unordered all moved) = refl
+same-tags (with_more behind passing added all) = refl
 
 -- one is a mark where the other is
-pub same-mark : {r s : Record} → SameRecord r s → is_presence_mark r ≡ is_presence_mark s
+pub same-mark : {passes : Bool} {r s : Record} → StandsFor passes r s → is_presence_mark r ≡ is_presence_mark s
 same-mark (equal r) = refl
 same-mark (one_by_one h all) = refl
 same-mark (in_any_order h unordered all moved) = refl
+same-mark (with_more behind passing added all) = refl
 
 inner_height-listed : (rs : Records) → inner_height rs ≡ highest (listed rs)
 inner_height-listed none = refl
@@ -53,6 +56,7 @@ mutual
   same-height (one_by_one h all) = ap suc (same-inner_height all)
   same-height (in_any_order h {qs = qs} {ss = ss} unordered all moved) =
       ap suc (same-inner_height all ∙ (inner_height-listed qs ∙ (highest-permutation (listed qs) (listed ss) moved ∙ sym (inner_height-listed ss))))
+  same-height (with_more behind passing added all) = absurd (false≢true passing)
 
   pub same-inner_height : {rs ss : Records} → SameAll rs ss → inner_height rs ≡ inner_height ss
   same-inner_height at_end = refl

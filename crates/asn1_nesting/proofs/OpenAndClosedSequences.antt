@@ -7,7 +7,7 @@ use Rattle.asn1_laws.proofs.ReadingConstructed.{as_constructed}
 use Rattle.asn1_laws.proofs.ReadingElements.{as_many}
 use Rattle.asn1_laws.proofs.ReadingSteps.{fails_inside, flat_failure, not_opened, within_scope}
 use Rattle.asn1_laws.specs.OpenSequences.{IsOpenSequenceOf}
-use Rattle.asn1_laws.specs.Reading.{Reader, ReadsEnd, ReadsHead, ReadsValue, TakesDepth, records_in}
+use Rattle.asn1_laws.specs.Reading.{Reader, ReadsEnd, ReadsHead, ReadsHeadOfSequence, ReadsValue, TakesDepth, records_in}
 use Rattle.asn1_laws.specs.ReadingTypes.{ReadsElements, ReadsElementsLeft}
 use Rattle.asn1_laws.specs.declared.decode_error.DecodeError.{DecodeError}
 use Rattle.asn1_model.specs.ConstraintSets.{ConstraintSet}
@@ -23,7 +23,7 @@ less_depth R old new (Err e) less = tt
 
 -- a SEQUENCE was not opened
 pub sequence_not_opened : {D V : Type 0} (R : Reader D) {m : Meaning V} {components : Components V} (eq : V → V → Bool) → AgreesWithComponents components m →
-    components.kind ≡ is_sequence → (t : Tag) (c : ConstraintSet) (old new : D) (r : Result ⊤ DecodeError) → ReadsHead R old new (sequence t (rows components)) (λ _ _. ⊤) r →
+    components.kind ≡ is_sequence → (t : Tag) (c : ConstraintSet) (old new : D) (r : Result ⊤ DecodeError) → ReadsHeadOfSequence R old new (sequence t (rows components)) r →
     IfErr r (λ e. ReadsValue R m eq t c old new (Err e))
 sequence_not_opened R eq law kind t c old new (Ok tt) head = tt
 sequence_not_opened R {m} {components} eq law kind t c old new (Err e) head =

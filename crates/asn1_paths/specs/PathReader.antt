@@ -9,8 +9,9 @@ path_reader R = record {
   failed = λ d. R.failed d.inner;
   depth_left = λ d. R.depth_left d.inner;
   accepts = R.accepts;
+  passes_over = R.passes_over;
 }
 
 -- the law
 pub path_reader_is_lawful : {D : Type 0} (R : Reader D) → IsLawful (path_reader R)
-path_reader_is_lawful R = record { in_any_order = λ d before other same at. at }
+path_reader_is_lawful R = record { stands_for = λ d before other same at. at }

@@ -96,6 +96,15 @@ impl<D: Decoder> Decoder for PathDecoder<D> {
         self.inner.decode_enumerated_number::<E>(tag)
     }
 
+    fn decode_any_enumerated_number<E: EnumeratedTable>(
+        &mut self,
+        tag: Tag,
+    ) -> Result<isize, DecodeError> {
+        self.path
+            .begin_element(ElementTags::new(tag, Tag::ENUMERATED), Limits::NONE);
+        self.inner.decode_any_enumerated_number::<E>(tag)
+    }
+
     fn decode_object_identifier(&mut self, tag: Tag) -> Result<ObjectIdentifier, DecodeError> {
         self.path.begin_element(ElementTags::new(tag, Tag::OBJECT_IDENTIFIER), Limits::NONE);
         self.inner.decode_object_identifier(tag)
@@ -250,6 +259,15 @@ impl<D: Decoder> Decoder for PathDecoder<D> {
     fn close(&mut self) -> Result<(), DecodeError> {
         self.path.reach_end();
         let closed = self.inner.close();
+        if closed.is_ok() {
+            self.path.close_scope();
+        }
+        closed
+    }
+
+    fn close_sequence<C: FieldTable>(&mut self) -> Result<(), DecodeError> {
+        self.path.reach_end();
+        let closed = self.inner.close_sequence::<C>();
         if closed.is_ok() {
             self.path.close_scope();
         }

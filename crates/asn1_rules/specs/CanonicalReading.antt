@@ -40,13 +40,14 @@ module _ {V : Type 0} (F : Format (Vec ℕ Global)) (m : Meaning V) where
   HaveOneSpelling v w = (own other : List ℕ) → AreOctets own → AreOctets other → IsSpelled v own → IsSpelled w other → own ≡ other
 
   module _ (eq : V → V → Bool) (refusals : Refusals) (depth : ℕ) (input : Vec ℕ Global) where
-    -- An answer that reading this input may give. Of an input that carries the own records of a valid value it is an equal value,
-    -- and of one that carries records which the type refuses it is the error of the type, unless memory runs out or the depth is
-    -- too small. Of any other input it may be any error. Whatever the input is, a value is one that was read of it.
+    -- An answer that reading this input may give. Of an input that carries the own records of a valid value, or is read as these, it is an
+    -- equal value, and of one that carries records which the type refuses it is the error of the type, unless memory runs out or the
+    -- depth is too small. Of any other input it may be any error. Whatever the input is, a value is one that was read of it.
     pub record MayAnswer (answer : Result V DecodeError) : Type 0 where
       pub read : ReadsCarried F.accepts (F.carries input) m eq depth answer
+      pub later : ReadsCarried F.accepts (F.is_read_as input) m eq depth answer
       pub refuses : RefusesCarried F.accepts (F.carries input) m refusals depth answer
-      pub only : IfOk answer (IsReadOf (F.carries input) m)
+      pub only : IfOk answer (IsReadOf (F.is_read_as input) m)
 
     -- A value that was read of the input is not written, as it may.
     pub record ReadIsNotWritten (e : EncodeError) : Type 0 where

@@ -49,11 +49,11 @@ module _ {R V : Type 0} (F : Fronts R V) where
 
   -- The reader belongs to the rules of this format, for a type of this meaning and equality: an
   -- output that carries the own records of a valid value is a front of that value, whole; an output
-  -- whose bytes are read as a value carries records that are read as it; what is the same is equal;
-  -- and a value is nested no deeper than its records.
+  -- whose bytes are read as a value is read as records that are read as it; what is the same is
+  -- equal; and a value is nested no deeper than its records.
   pub record BelongsTo (reader : R) (format : Format (Vec ℕ Global)) (m : Meaning V) (eq : V → V → Bool) : Type 0 where
     pub whole : (output : Vec ℕ Global) (v : V) → m.IsOfType v → m.IsValid format.accepts v →
         format.carries output (own_records m v) → F.front reader output.items v (length output.items)
-    pub only : (output : Vec ℕ Global) (w : V) → F.read_as reader output.items w → IsReadOf (format.carries output) m w
+    pub only : (output : Vec ℕ Global) (w : V) → F.read_as reader output.items w → IsReadOf (format.is_read_as output) m w
     pub equal : (w v : V) → F.same w v ≡ true → eq w v ≡ true
     pub as_deep : (v : V) → F.height v ≤ highest (own_records m v)

@@ -32,13 +32,13 @@ module _ {O V : Type 0} (F : Format O) (m : Meaning V) where
     -- The output carries the own records of a value that was read of the input.
     pub record IsRecodedFrom (output : O) : Type 0 where
       pub value : V
-      pub is_read : IsReadOf (from.carries input) m value
+      pub is_read : IsReadOf (from.is_read_as input) m value
       pub written : IsWritten F (own_records m value) (m.IsOfType value) depth output
 
     -- A value that was read of the input is not written, as it may.
     pub record ReadIsNotRecoded (e : EncodeError) : Type 0 where
       pub value : V
-      pub is_read : IsReadOf (from.carries input) m value
+      pub is_read : IsReadOf (from.is_read_as input) m value
       pub not_written : IsNotWritten F (own_records m value) depth e
 
     -- Where writing failed, it was as it may for a value that was read.

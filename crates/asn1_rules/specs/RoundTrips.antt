@@ -23,4 +23,4 @@ WritesFirst F rs write_depth (Err (Reading e)) = highest rs ≤ write_depth
 pub record IsReadBack {O V : Type 0} (F : Format O) (m : Meaning V) (v : V) (write_depth : ℕ) (w : V) : Type 0 where
   pub output : O
   pub written : IsWritten F (own_records m v) (m.IsOfType v) write_depth output
-  pub is_read : IsReadOf (F.carries output) m w
+  pub is_read : IsReadOf (F.is_read_as output) m w

@@ -11,17 +11,20 @@ use Rattle.asn1_model.specs.Orders.{SameRecords}
 use Rattle.asn1_model.specs.Records.{Record, Head, highest, holding, presence_marks_alone}
 use Rattle.asn1_model.specs.WellFormed.{AreWellFormed}
 
--- The outputs of a codec: the records that an output carries, the records that may be refused, and the byte strings that are one
--- value of an open type. One output may carry many lists of records.
+-- The outputs of a codec: the records that an output carries, those that it is read as, the records that may be refused, and the byte
+-- strings that are one value of an open type. One output may carry many lists of records. It is read as those that it carries and, by a
+-- codec that passes over what a later version of a type adds, as the records without that.
 pub record Format (O : Type 0) : Type 1 where
   pub carries : O → List Record → Type 0
+  pub is_read_as : O → List Record → Type 0
   pub rejects : List Record → Type 0
   pub accepts : List ℕ → Bool
 
 module _ {O : Type 0} (F : Format O) where
-  -- The laws of these: the order inside sets means nothing, and records are rejected where a part of them is, or the contents of
-  -- one of them.
+  -- The laws of these: an output is read as what it carries, the order inside sets means nothing, and records are rejected where a part
+  -- of them is, or the contents of one of them.
   pub record IsLawful : Type 0 where
+    pub carried_is_read : (output : O) (rs : List Record) → F.carries output rs → F.is_read_as output rs
     pub carries_in_any_order : (output : O) (rs ss : List Record) → SameRecords rs ss → F.carries output rs → F.carries output ss
     pub rejects_in_any_order : (rs ss : List Record) → SameRecords rs ss → F.rejects rs → F.rejects ss
     pub part : (before rs after : List Record) → F.rejects rs → F.rejects (before ++ (rs ++ after))
@@ -54,7 +57,7 @@ ReadsWhole height depth Is result =
 abbrev pub RefusesWhole : {V : Type 0} → ℕ → ℕ → DecodeError → Result V DecodeError → Type 0
 RefusesWhole height depth own result = MatchResult result (λ _. ⊥) (λ e. MayFail depth height e ⊎ (e ≡ own))
 
--- A value was read of an input, and of all of it: the input carries records that are read as this value, under the type's own tag and
+-- A value was read of an input, and of all of it: the input is read as records that are read as this value, under the type's own tag and
 -- constraints. They are the value's own records, or others that say the same to a reader.
 pub record IsReadOf {V : Type 0} (Carried : List Record → Type 0) (m : Meaning V) (w : V) : Type 0 where
   pub records : List Record

@@ -31,11 +31,11 @@ answered P (Err e) (Ok x) post same is = absurd same
 answered P (Err e) (Err d) post same is = tt
 
 module _ {V : Type 0} (F : Format (Vec ℕ Global)) (tells : BytesTellAll F) (m : Meaning V) (v : V) (write_depth : ℕ) (written : Vec ℕ Global) (is_written : IsWritten F (own_records m v) (m.IsOfType v) write_depth written) where
-  of_output : (output : Vec ℕ Global) → output.items ≡ written.items → (answer : Result V DecodeError) → IfOk answer (IsReadOf (F.carries output) m) → IfOk answer (IsReadBack F m v write_depth)
+  of_output : (output : Vec ℕ Global) → output.items ≡ written.items → (answer : Result V DecodeError) → IfOk answer (IsReadOf (F.is_read_as output) m) → IfOk answer (IsReadBack F m v write_depth)
   of_output output same (Ok w) is = record {
     output = written;
     written = is_written;
-    is_read = is_read_too (F.carries output) (F.carries written) m (λ rs carried. tells output written rs same carried) w is;
+    is_read = is_read_too (F.is_read_as output) (F.is_read_as written) m (λ rs read. tells.read output written rs same read) w is;
   }
   of_output output same (Err e) is = tt
 

@@ -20,9 +20,10 @@ abbrev pub WritesKept : List ℕ → Result (Vec ℕ Global) EncodeError → Typ
 WritesKept kept result = MatchResult result (λ octets. octets.items ≡ kept) (λ error. error ≡ writing.Memory)
 
 module _ (F : Format (Vec ℕ Global)) where
-  -- The bytes of an output tell what it carries.
-  abbrev pub BytesTellAll : Type 0
-  BytesTellAll = (output other : Vec ℕ Global) (rs : List Record) → output.items ≡ other.items → F.carries output rs → F.carries other rs
+  -- The bytes of an output tell what it carries, and what it is read as.
+  pub record BytesTellAll : Type 0 where
+    pub carried : (output other : Vec ℕ Global) (rs : List Record) → output.items ≡ other.items → F.carries output rs → F.carries other rs
+    pub read : (output other : Vec ℕ Global) (rs : List Record) → output.items ≡ other.items → F.is_read_as output rs → F.is_read_as other rs
 
   module _ {V : Type 0} (m : Meaning V) (eq : V → V → Bool) (refusals : Refusals) (depth : ℕ) (octets : List ℕ) (answer : Result V DecodeError) where
     -- An answer that reading an output of these octets may give.

@@ -49,11 +49,13 @@ impl Rules for TagRules {
     fn read_value<T: Decode>(&self, output: &Vec<u8>, depth: usize) -> Result<T, DecodeError>
         ensures read { ReadsCarried tag_format.accepts (tag_format.carries output.now)
             T.meaning T.eq depth result }
+        ensures later { ReadsCarried tag_format.accepts (tag_format.is_read_as output.now)
+            T.meaning T.eq depth result }
         ensures refuses { RefusesCarried tag_format.accepts (tag_format.carries output.now)
             T.meaning T.refusals depth result }
         ensures none_left { RefusesTrailingRecords tag_format.accepts
             (tag_format.carries output.now) T.meaning result }
-        ensures only { IfOk result (IsReadOf (tag_format.carries output.now) T.meaning) }
+        ensures only { IfOk result (IsReadOf (tag_format.is_read_as output.now) T.meaning) }
     {
         let decoder = ItemDecoder::<NextItem>::new(self.alloc, output.as_slice(), depth);
         read_whole(decoder)

@@ -1,7 +1,7 @@
 use Rattle.std.proofs.Common.{◌++◌}
-use Rattle.asn1_ber.proofs.Cuts.{is_carried}
+use Rattle.asn1_ber.proofs.Cuts.{is_read_as}
 use Rattle.asn1_ber.specs.Form.{ber_is_lawful_form}
-use Rattle.asn1_ber.specs.Format.{CarriesNormal}
+use Rattle.asn1_ber.specs.Format.{NormalAreReadAs}
 use Rattle.asn1_elements.proofs.RemainingElements.{is_form}
 use Rattle.asn1_items.proofs.DecodeStates.{records_are_not_the_end}
 use Rattle.asn1_model.specs.Meaning.{own_records}
@@ -23,4 +23,4 @@ returns-clause-none_left g c = λ v rest can of_type valid well some carried.
 
 pub returns-clause-only : goal.returns-clause-only
 returns-clause-only g c =
-    answer_is_read_too _ (CarriesNormal c.args.normal.now) g.T.AsnType.meaning (λ rs at. is_carried rs c.args.normal.now (c.new.ensures.only rs at)) c.read_whole.result c.read_whole.ensures.only
+    answer_is_read_too _ (NormalAreReadAs c.args.normal.now) g.T.AsnType.meaning (λ rs at. is_read_as rs c.args.normal.now (c.new.ensures.only rs at)) c.read_whole.result c.read_whole.ensures.only

@@ -1,6 +1,6 @@
 use Rattle.std.proofs.Common.{◌++◌, inl, ◌∙◌}
 use Rattle.asn1_ber.proofs.Cuts.{in_normal_form, spelled}
-use Rattle.asn1_ber.specs.Format.{Carries}
+use Rattle.asn1_ber.specs.Format.{AreReadAs}
 use Rattle.asn1_model.specs.Meaning.{own_records}
 use Rattle.asn1_rules.proofs.Readings.{answer_is_read_too}
 use Rattle.asn1_ber.proofs.reading.read_octets.Goals as goal
@@ -35,5 +35,5 @@ returns-in-Err-clause-refuses g c = λ rs error refused well_formed carried.
 
 pub returns-in-Ok-clause-only : goal.returns-in-Ok-clause-only
 returns-in-Ok-clause-only g c =
-    answer_is_read_too _ (Carries c.args.octets.now) g.T.AsnType.meaning (λ rs carried. spelled c.args.octets.now c.in-Ok.normal.items c.as_slice.result.now rs c.as_slice.ensures.value c.in-Ok.ensures.only carried)
+    answer_is_read_too _ (AreReadAs c.args.octets.now) g.T.AsnType.meaning (λ rs carried. spelled c.args.octets.now c.in-Ok.normal.items c.as_slice.result.now rs c.as_slice.ensures.value c.in-Ok.ensures.only carried)
     c.read_normal.result c.read_normal.ensures.only

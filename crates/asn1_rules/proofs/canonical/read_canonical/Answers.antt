@@ -25,7 +25,7 @@ pub returns-in-Some-clause-departs : goal.returns-in-Some-clause-departs
 returns-in-Some-clause-departs g c = record {
   value = c.in-Ok.value;
   bytes = c.deref-2.result.now;
-  may_be_read = record { read = c.in-Ok.ensures.read; refuses = c.in-Ok.ensures.refuses; only = c.in-Ok.ensures.only };
+  may_be_read = record { read = c.in-Ok.ensures.read; later = c.in-Ok.ensures.later; refuses = c.in-Ok.ensures.refuses; only = c.in-Ok.ensures.only };
   written = record {
     output = c.in-Ok-write_value.output;
     has_bytes = sym c.deref-2.ensures.value;

@@ -7,6 +7,6 @@ returns-in-Ok g c = record {
   answered = unfold MayAnswerOf in inl (record {
     output = c.in-Ok.kept;
     has_octets = c.in-Ok.ensures.items;
-    may_answer = record { read = c.read_value.ensures.read; refuses = c.read_value.ensures.refuses; only = c.read_value.ensures.only };
+    may_answer = record { read = c.read_value.ensures.read; later = c.read_value.ensures.later; refuses = c.read_value.ensures.refuses; only = c.read_value.ensures.only };
   });
 }

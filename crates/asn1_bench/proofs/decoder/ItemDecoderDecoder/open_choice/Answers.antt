@@ -21,7 +21,7 @@ returns-in_err-opened-clause-read g c = λ chosen distinct can.
     let order = in_one_order g.P.Presence.mark_bytes in
     let head = alternative chosen (constraint_set c.args._constraints.now) (table_of alts) in
     let p = err_from_is_err_and c.from_residual.result c.from_residual.ensures.1 in
-    opens_over order c.args.self.now c.open.new.self head (IsOneRecord (only chosen)) (λ _ tag. SelectsSameAlternative chosen tag (all_of alts)) c.from_residual.result (λ n. refl) (one_the_same (only chosen)) (answer_in_any_order (λ tag. SelectsSameAlternative chosen tag (all_of alts)))
+    opens_over order c.args.self.now c.open.new.self head (IsOneRecord (only chosen)) (λ _ tag. SelectsSameAlternative chosen tag (all_of alts)) c.from_residual.result (λ n. refl) (λ n. refl) (λ passes rs ss same one. one_the_same (only chosen) rs ss same one) (answer_in_any_order (λ tag. SelectsSameAlternative chosen tag (all_of alts)))
     (λ n items rest outer one. not_opened order c.args.self.now c.open.new.self (IsExpected Alternative) head (λ _ tag. SelectsSameAlternative chosen tag (all_of alts)) _ c.from_residual.result (p.1 ∙ ap Err p.2) (λ n. refl) c.in_err-opened.ensures.read n items rest outer)
 
 pub returns-then-not-goes_on_under-clause-read : goal.returns-then-not-goes_on_under-clause-read
@@ -29,7 +29,7 @@ returns-then-not-goes_on_under-clause-read g c = λ chosen distinct can.
     let alts = g.T.Choice.alternatives in
     let order = in_one_order g.P.Presence.mark_bytes in
     let head = alternative chosen (constraint_set c.args._constraints.now) (table_of alts) in
-    opens_over order c.args.self.now (record c.open.new.self { state = c.fail.new.self }) head (IsOneRecord (only chosen)) (λ _ tag. SelectsSameAlternative chosen tag (all_of alts)) (Err c.fail.result) (λ n. refl) (one_the_same (only chosen)) (answer_in_any_order (λ tag. SelectsSameAlternative chosen tag (all_of alts)))
+    opens_over order c.args.self.now (record c.open.new.self { state = c.fail.new.self }) head (IsOneRecord (only chosen)) (λ _ tag. SelectsSameAlternative chosen tag (all_of alts)) (Err c.fail.result) (λ n. refl) (λ n. refl) (λ passes rs ss same one. one_the_same (only chosen) rs ss same one) (answer_in_any_order (λ tag. SelectsSameAlternative chosen tag (all_of alts)))
     (λ n items rest outer one at.
     let m = c.in_ok-opened.ensures.read (head n) items rest outer refl at in
     let begins = begins_under g.P.Presence.mark_bytes chosen items (left_inside c.open.new.self.state.slices) one m.at.inside in
@@ -41,7 +41,7 @@ returns-clause-read g c = λ chosen distinct can.
     let alts = g.T.Choice.alternatives in
     let order = in_one_order g.P.Presence.mark_bytes in
     let head = alternative chosen (constraint_set c.args._constraints.now) (table_of alts) in
-    opens_over order c.args.self.now c.open.new.self head (IsOneRecord (only chosen)) (λ _ tag. SelectsSameAlternative chosen tag (all_of alts)) (Ok c.in_ok-opened.opened.tag) (λ n. refl) (one_the_same (only chosen)) (answer_in_any_order (λ tag. SelectsSameAlternative chosen tag (all_of alts)))
+    opens_over order c.args.self.now c.open.new.self head (IsOneRecord (only chosen)) (λ _ tag. SelectsSameAlternative chosen tag (all_of alts)) (Ok c.in_ok-opened.opened.tag) (λ n. refl) (λ n. refl) (λ passes rs ss same one. one_the_same (only chosen) rs ss same one) (answer_in_any_order (λ tag. SelectsSameAlternative chosen tag (all_of alts)))
     (λ n items rest outer one. was_opened order c.args.self.now c.open.new.self (IsExpected Alternative) head (λ _ tag. SelectsSameAlternative chosen tag (all_of alts)) c.in_ok-opened.opened c.in_ok-opened.opened.tag
     (λ n items o. subst (λ tag. SelectsSameAlternative chosen tag (all_of alts)) (sym o.has_tag) (selects_itself (all_of alts) chosen)) (λ n. refl) c.in_ok-opened.ensures.read n items rest outer)
 

@@ -8,25 +8,25 @@ use Rattle.asn1_items.proofs.DecodeStates.{not_opened, was_opened}
 use Rattle.asn1_elements.proofs.decoder.ElementDecoder.open_list.Goals as goal
 
 pub returns-in_err-opened-clause-read : goal.returns-in_err-opened-clause-read
-returns-in_err-opened-clause-read g c = λ head meets ordered.
+returns-in_err-opened-clause-read g c = λ head meets ordered ends.
     let p = err_from_is_err_and c.from_residual.result c.from_residual.ensures.1 in
-    opens (in_one_order g.F.ElementForm.form) c.args.self.now c.open.new.self head (λ items bound. records_in items ≤ bound) c.from_residual.result ordered bound_in_any_order
+    opens (in_one_order g.F.ElementForm.form) c.args.self.now c.open.new.self head (λ items bound. records_in items ≤ bound) c.from_residual.result ordered ends bound_in_any_order
     (not_opened (in_one_order g.F.ElementForm.form) c.args.self.now c.open.new.self (IsExpected c.args.order (Some c.args.tag)) head (λ items bound. records_in items ≤ bound) _ c.from_residual.result (p.1 ∙ ap Err p.2) meets c.in_err-opened.ensures.read)
 
 pub returns-in_err-opened-clause-read_set : goal.returns-in_err-opened-clause-read_set
-returns-in_err-opened-clause-read_set g c = λ head meets.
+returns-in_err-opened-clause-read_set g c = λ head meets ends.
     let p = err_from_is_err_and c.from_residual.result c.from_residual.ensures.1 in
-    opens_set (in_one_order g.F.ElementForm.form) c.args.self.now c.open.new.self head (λ items bound. records_in items ≤ bound) c.from_residual.result bound_in_any_order
+    opens_set (in_one_order g.F.ElementForm.form) c.args.self.now c.open.new.self head (λ items bound. records_in items ≤ bound) c.from_residual.result ends bound_in_any_order
     (not_opened (in_one_order g.F.ElementForm.form) c.args.self.now c.open.new.self (IsExpected c.args.order (Some c.args.tag)) head (λ items bound. records_in items ≤ bound) _ c.from_residual.result (p.1 ∙ ap Err p.2) meets c.in_err-opened.ensures.read)
 
 pub returns-clause-read : goal.returns-clause-read
-returns-clause-read g c = λ head meets ordered.
-    opens (in_one_order g.F.ElementForm.form) c.args.self.now c.open.new.self head (λ items bound. records_in items ≤ bound) (Ok c.in_ok-opened.opened.bound) ordered bound_in_any_order
+returns-clause-read g c = λ head meets ordered ends.
+    opens (in_one_order g.F.ElementForm.form) c.args.self.now c.open.new.self head (λ items bound. records_in items ≤ bound) (Ok c.in_ok-opened.opened.bound) ordered ends bound_in_any_order
     (was_opened (in_one_order g.F.ElementForm.form) c.args.self.now c.open.new.self (IsExpected c.args.order (Some c.args.tag)) head (λ items bound. records_in items ≤ bound) c.in_ok-opened.opened c.in_ok-opened.opened.bound (λ n items o. o.is_bound) meets c.in_ok-opened.ensures.read)
 
 pub returns-clause-read_set : goal.returns-clause-read_set
-returns-clause-read_set g c = λ head meets.
-    opens_set (in_one_order g.F.ElementForm.form) c.args.self.now c.open.new.self head (λ items bound. records_in items ≤ bound) (Ok c.in_ok-opened.opened.bound) bound_in_any_order
+returns-clause-read_set g c = λ head meets ends.
+    opens_set (in_one_order g.F.ElementForm.form) c.args.self.now c.open.new.self head (λ items bound. records_in items ≤ bound) (Ok c.in_ok-opened.opened.bound) ends bound_in_any_order
     (was_opened (in_one_order g.F.ElementForm.form) c.args.self.now c.open.new.self (IsExpected c.args.order (Some c.args.tag)) head (λ items bound. records_in items ≤ bound) c.in_ok-opened.opened c.in_ok-opened.opened.bound (λ n items o. o.is_bound) meets c.in_ok-opened.ensures.read)
 
 pub returns-clause-only : goal.returns-clause-only

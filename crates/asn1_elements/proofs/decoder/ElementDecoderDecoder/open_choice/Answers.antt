@@ -16,14 +16,14 @@ returns-in_err-opened-clause-read g c = λ chosen distinct can n items rest oute
     let alts = g.T.Choice.alternatives in
     let head = alternative chosen (constraint_set c.args._constraints.now) (table_of alts) in
     let p = err_from_is_err_and c.from_residual.result c.from_residual.ensures.1 in
-    opens (in_one_order g.F.ElementForm.form) c.args.self.now c.open.new.self head (λ _ tag. SelectsSameAlternative chosen tag (all_of alts)) c.from_residual.result (λ n. refl) (answer_in_any_order (λ tag. SelectsSameAlternative chosen tag (all_of alts)))
+    opens (in_one_order g.F.ElementForm.form) c.args.self.now c.open.new.self head (λ _ tag. SelectsSameAlternative chosen tag (all_of alts)) c.from_residual.result (λ n. refl) (λ n. refl) (answer_in_any_order (λ tag. SelectsSameAlternative chosen tag (all_of alts)))
     (not_opened (in_one_order g.F.ElementForm.form) c.args.self.now c.open.new.self (IsExpected Chosen None) head (λ _ tag. SelectsSameAlternative chosen tag (all_of alts)) _ c.from_residual.result (p.1 ∙ ap Err p.2) (λ n. record { has_order = refl; has_tag = tt }) c.in_err-opened.ensures.read) n items rest outer
 
 pub returns-clause-read : goal.returns-clause-read
 returns-clause-read g c = λ chosen distinct can n items rest outer one.
     let alts = g.T.Choice.alternatives in
     let head = alternative chosen (constraint_set c.args._constraints.now) (table_of alts) in
-    opens (in_one_order g.F.ElementForm.form) c.args.self.now c.open.new.self head (λ _ tag. SelectsSameAlternative chosen tag (all_of alts)) (Ok c.in_ok-opened.opened.tag) (λ n. refl) (answer_in_any_order (λ tag. SelectsSameAlternative chosen tag (all_of alts)))
+    opens (in_one_order g.F.ElementForm.form) c.args.self.now c.open.new.self head (λ _ tag. SelectsSameAlternative chosen tag (all_of alts)) (Ok c.in_ok-opened.opened.tag) (λ n. refl) (λ n. refl) (answer_in_any_order (λ tag. SelectsSameAlternative chosen tag (all_of alts)))
     (was_opened (in_one_order g.F.ElementForm.form) c.args.self.now c.open.new.self (IsExpected Chosen None) head (λ _ tag. SelectsSameAlternative chosen tag (all_of alts)) c.in_ok-opened.opened c.in_ok-opened.opened.tag
     (λ n items o. subst (λ tag. SelectsSameAlternative chosen tag (all_of alts)) (sym o.has_tag) (selects_itself (all_of alts) chosen)) (λ n. record { has_order = refl; has_tag = tt }) c.in_ok-opened.ensures.read) n items rest outer
 

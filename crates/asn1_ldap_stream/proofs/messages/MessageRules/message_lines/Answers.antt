@@ -11,7 +11,7 @@ returns-in_err-message-clause-not_read g c =
       not_read = record {
         input = c.args.octets.now;
         are = refl;
-        may = record { read = c.in_err-message.ensures.read; refuses = c.in_err-message.ensures.refuses; only = tt };
+        may = record { read = c.in_err-message.ensures.read; later = c.in_err-message.ensures.later; refuses = c.in_err-message.ensures.refuses; only = tt };
       };
     })
 
@@ -26,7 +26,7 @@ returns-clause-lines g c = record {
   read = record {
     input = c.args.octets.now;
     are = refl;
-    may = record { read = c.in_ok-message.ensures.read; refuses = c.in_ok-message.ensures.refuses; only = c.in_ok-message.ensures.only };
+    may = record { read = c.in_ok-message.ensures.read; later = c.in_ok-message.ensures.later; refuses = c.in_ok-message.ensures.refuses; only = c.in_ok-message.ensures.only };
   };
   message_id = c.in-Some._beginning.message_id.now;
   operation = c.in-Some._beginning.operation.now;

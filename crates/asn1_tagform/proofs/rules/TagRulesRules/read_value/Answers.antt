@@ -16,6 +16,9 @@ returns-clause-read g c = λ v can of_type valid carries.
     let well = m.well_formed (λ own. is_one_item own) v m.tag m.constraints m.name valid in
     rw (← c.new-decoder.ensures.depth_left) (c.read_whole.ensures.read v can of_type valid (c.new-decoder.ensures.before (own_records m v) carried well))
 
+pub returns-clause-later : goal.returns-clause-later
+returns-clause-later g c = returns-clause-read g c
+
 pub returns-clause-refuses : goal.returns-clause-refuses
 returns-clause-refuses g c = λ rs error refused well carries.
     let carried : CarriesWith no_marks c.as_slice.result.now rs = rw c.as_slice.ensures.value carries in
